@@ -1,0 +1,90 @@
+-- The main call, whole: its five numbers, and what the output and the work memory hold afterwards, refused calls too.
+-- Assumes nothing.
+use Prim.Native.Nat.{ℕ}
+use mathlib.Core.Bool.{Bool, true, false, _||_}
+use mathlib.Core.Option.{Option}
+use mathlib.Core.List.{List, [], _∷_, _++_}
+use lib.Dec.{ltb}
+use lib.ListN.{length, drop, replicate}
+use Rattle.model.specs.Lists.{last}
+use Rattle.model.specs.Answer.{Answer, refused, good, _>>=_, unless, checked, at0}
+use Rattle.model.specs.Tree.{Tree, Trees, nil, cons, size, depth, serialise}
+use Rattle.model.specs.Accept.{accept}
+use Rattle.model.specs.Intern.{State, Out, Outs, internForest}
+use Rattle.model.specs.Materialize.{materialize}
+
+-- 1: under 16,384 work words
+unfoldable pub check1 : ℕ → Option ℕ
+check1 words = at0 (ltb words 16384)
+
+-- the root's symbol, and the state that interning leaves
+unfoldable pub rootOf : Outs → Out
+rootOf m = do
+  os ← m
+  good (last (os .0), os .2)
+
+unfoldable pub interned : List ℕ → Out
+interned bs = do
+  ts ← accept bs
+  rootOf (internForest ts)
+
+-- "the tree document 01 defines", and its bytes: a forest of one tree
+unfoldable pub treeOf : ℕ × State → Tree
+treeOf o = materialize (o .1 .syms) (o .1 .scopes) (o .0)
+
+unfoldable pub bytesOf : ℕ × State → List ℕ
+bytesOf o = serialise (cons (treeOf o) nil)
+
+-- 13: over 256 records, over 65,535 bytes or longer than the output. 14: deeper than 64
+unfoldable pub check13 : ℕ → ℕ × State → Option ℕ
+check13 room o = at0 (ltb 256 (size (treeOf o)) || ltb 65535 (length (bytesOf o)) || ltb room (length (bytesOf o)))
+
+unfoldable pub check14 : ℕ × State → Option ℕ
+check14 o = at0 (ltb 64 (depth (treeOf o)))
+
+-- a success: the written tree, its bytes, symbols and readings
+pub record Written : Type 0 where
+  pub tree : Tree
+  pub bytes : List ℕ
+  pub symbols : ℕ
+  pub readings : ℕ
+
+unfoldable pub writtenOf : ℕ × State → Written
+writtenOf o = record { tree = treeOf o; bytes = bytesOf o; symbols = length (o .1 .syms); readings = o .1 .readings }
+
+-- the call on a forest, with so many output bytes, once the work words suffice
+unfoldable pub written : List ℕ → ℕ → Answer Written
+written bs room = do
+  o ← interned bs
+  checked ((13, check13 room o) ∷ (14, check14 o) ∷ []) (writtenOf o)
+
+-- the call with so many work words
+unfoldable pub run : List ℕ → ℕ → ℕ → Answer Written
+run bs room words = unless 1 (check1 words) (written bs room)
+
+-- number, place, written length, symbols, readings. "A refusal gives zero for the last three"
+pub record Numbers : Type 0 where
+  pub number : ℕ
+  pub place : ℕ
+  pub len : ℕ
+  pub symbols : ℕ
+  pub readings : ℕ
+
+unfoldable pub numbersOf : Answer Written → Numbers
+numbersOf (refused n p) = record { number = n; place = p; len = 0; symbols = 0; readings = 0 }
+numbersOf (good w) = record { number = 0; place = 0; len = length (w .bytes); symbols = w .symbols; readings = w .readings }
+
+unfoldable pub numbers : List ℕ → ℕ → ℕ → Numbers
+numbers bs room words = numbersOf (run bs room words)
+
+-- "changes no output byte"; "output bytes past the written length keep their values"
+unfoldable pub outWith : Answer Written → List ℕ → List ℕ
+outWith (refused n p) out = out
+outWith (good w) out = w .bytes ++ drop (length (w .bytes)) out
+
+unfoldable pub outAfter : List ℕ → List ℕ → ℕ → List ℕ
+outAfter bs out words = outWith (run bs (length out) words) out
+
+-- "After 1 the work memory is unchanged; after all else its first 16,384 words are 0 and later words unchanged"
+unfoldable pub workAfter : List ℕ → List ℕ
+workAfter work = elim (ltb (length work) 16384) [ true ↦ work | false ↦ replicate 16384 0 ++ drop 16384 work ]

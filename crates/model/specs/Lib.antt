@@ -1,0 +1,20 @@
+-- The definitions of document 01, a chapter a file, in reading order. Assumes nothing.
+pub mod Lists
+pub mod Bytes
+pub mod Answer
+pub mod Down
+pub mod Tree
+pub mod Shape
+pub mod Forest
+pub mod Binding
+pub mod Accept
+pub mod Unfold
+pub mod Intern
+pub mod Gate
+pub mod Schedule
+pub mod Materialize
+pub mod Call
+pub mod Text
+pub mod Lister
+pub mod Computing
+pub mod Examples

@@ -1,0 +1,83 @@
+-- The lister's lines ("Trees to compare", at its end), as bytes; each line ends with a newline.
+-- Assumes nothing.
+use Prim.Native.Nat.{ℕ, zero, suc, _+_, _/_, _%_}
+use Prim.Native.String.{String}
+use mathlib.Core.Bool.{Bool, true, false}
+use mathlib.Core.List.{List, [], _∷_, _++_}
+use lib.Dec.{eqb, ltb}
+use lib.ListN.{length}
+use Rattle.model.specs.Lists.{count}
+use Rattle.model.specs.Answer.{Answer, refused, good}
+use Rattle.model.specs.Intern.{Node, constant, unparsed, argument, func, operation, Sym, State, Out}
+use Rattle.model.specs.Gate.{shouldHoist}
+use Rattle.model.specs.Call.{Written, run, interned}
+use Rattle.model.specs.Text.{text}
+
+-- ---- numbers
+
+-- a number in decimal, of at most `fuel` digits, before `rest`
+unfoldable pub digits : ℕ → ℕ → List ℕ → List ℕ
+digits zero n rest = rest
+digits (suc fuel) n rest = elim (ltb n 10) [ true ↦ (48 + n) ∷ rest | false ↦ digits fuel (n / 10) ((48 + n % 10) ∷ rest) ]
+
+-- every number of a line is below 10^9
+unfoldable pub decimal : ℕ → List ℕ
+decimal n = digits 9 n []
+
+unfoldable pub hexDigit : ℕ → ℕ
+hexDigit n = elim (ltb n 10) [ true ↦ 48 + n | false ↦ 55 + n ]
+
+unfoldable pub hexByte : ℕ → List ℕ
+hexByte n = hexDigit (n / 16) ∷ hexDigit (n % 16) ∷ []
+
+-- ---- a symbol's line: symbol, tag, opcode, scope, usage, gate
+
+-- "C constant, U unparsed, A argument, O other"
+unfoldable pub tagOf : Node → List ℕ
+tagOf constant = text "C"
+tagOf unparsed = text "U"
+tagOf argument = text "A"
+tagOf (func xs sc) = text "O"
+tagOf (operation brs) = text "O"
+
+-- "00 unless O"
+unfoldable pub opcodeShown : Node → ℕ → ℕ
+opcodeShown constant op = 0
+opcodeShown unparsed op = 0
+opcodeShown argument op = 0
+opcodeShown (func xs sc) op = op
+opcodeShown (operation brs) op = op
+
+unfoldable pub yesNo : Bool → List ℕ
+yesNo true = text "y"
+yesNo false = text "n"
+
+unfoldable pub line : ℕ → ℕ → Sym → List ℕ
+line i uses s =
+    decimal i ++ text " " ++ tagOf (s .node) ++ text " " ++ hexByte (opcodeShown (s .node) (s .rec .opcode)) ++ text " " ++
+    decimal (s .scope) ++ text " " ++ decimal uses ++ text " " ++ yesNo (shouldHoist s uses) ++ text "\n"
+
+unfoldable pub linesFrom : ℕ → List ℕ → List Sym → List ℕ
+linesFrom i slots [] = []
+linesFrom i slots (s ∷ ss) = line i (count i slots) s ++ linesFrom (suc i) slots ss
+
+-- "child slots in all symbols"
+unfoldable pub allSlots : List Sym → List ℕ
+allSlots [] = []
+allSlots (s ∷ ss) = s .kids ++ allSlots ss
+
+unfoldable pub symbolLines : List Sym → List ℕ
+symbolLines ss = text "symbols " ++ decimal (length ss) ++ text "\n" ++ linesFrom 0 (allSlots ss) ss
+
+unfoldable pub refusalLine : ℕ → ℕ → List ℕ
+refusalLine n p = text "refused " ++ decimal n ++ text " at " ++ decimal p ++ text "\n"
+
+-- ---- what is printed for a forest, the main call being lent 65,535 output bytes
+
+unfoldable pub linesOf : Answer Written → Out → List ℕ
+linesOf (refused n p) o = refusalLine n p
+linesOf (good w) (refused n p) = []
+linesOf (good w) (good o) = symbolLines (o .1 .syms)
+
+unfoldable pub lister : List ℕ → List ℕ
+lister bs = linesOf (run bs 65535 16384) (interned bs)
