@@ -1,0 +1,102 @@
+//! Seeded forests that are accepted: none of refusals 2 to 10 of document 01 applies to them, by
+//! the way they are made. Refusals 11 to 14 may.
+
+mod builder;
+mod counted;
+mod limits;
+mod literals;
+mod plants;
+mod profile;
+pub mod records;
+mod rng;
+
+pub use rng::Rng;
+
+use crate::forest::Forest;
+
+/// What a generated forest is rich in.
+#[derive(Clone, Copy, PartialEq, Eq, Debug)]
+pub enum Kind {
+    /// Up to 12 records.
+    Small,
+    /// Up to 60 records.
+    Medium,
+    /// Up to 256 records, often exactly 256.
+    Large,
+    /// Up to 64 deep, often exactly 64.
+    Deep,
+    /// Many children, many trees.
+    Wide,
+    /// IF, ED and EC inside one another, with equal parts in sibling thunks.
+    Thunks,
+    /// Lambdas with 0 to 15 arguments, inside and beside one another.
+    Lambdas,
+    /// Fields of tuples and others, met again in sibling thunks.
+    Projections,
+    /// Blocks, definitions and uses.
+    Blocks,
+    /// A forest of up to 65,535 bytes, or a written tree that is near 256 records, near 65,535 bytes
+    /// or near 64 deep, on either side.
+    NearLimit,
+    /// Near 2,048 readings, on either side.
+    Readings,
+    /// Near 512 symbols, on either side.
+    Symbols,
+    /// Up to 63 scopes inside one another: out of the original's reach, whose time doubles with
+    /// each. All other kinds stay at 12.
+    Scopes,
+}
+
+impl Kind {
+    pub const ALL: [Kind; 13] = [
+        Kind::Small,
+        Kind::Medium,
+        Kind::Large,
+        Kind::Deep,
+        Kind::Wide,
+        Kind::Thunks,
+        Kind::Lambdas,
+        Kind::Projections,
+        Kind::Blocks,
+        Kind::NearLimit,
+        Kind::Readings,
+        Kind::Symbols,
+        Kind::Scopes,
+    ];
+
+    pub fn name(self) -> &'static str {
+        match self {
+            Kind::Small => "small",
+            Kind::Medium => "medium",
+            Kind::Large => "large",
+            Kind::Deep => "deep",
+            Kind::Wide => "wide",
+            Kind::Thunks => "thunks",
+            Kind::Lambdas => "lambdas",
+            Kind::Projections => "projections",
+            Kind::Blocks => "blocks",
+            Kind::NearLimit => "near-limit",
+            Kind::Readings => "readings",
+            Kind::Symbols => "symbols",
+            Kind::Scopes => "scopes",
+        }
+    }
+
+    /// The kind of that name.
+    pub fn parse(name: &str) -> Option<Kind> {
+        Kind::ALL.into_iter().find(|kind| kind.name() == name)
+    }
+}
+
+/// The accepted forest of that seed and kind.
+pub fn accepted(seed: u64, kind: Kind) -> Forest {
+    // Kinds with the same seed draw from different streams.
+    let mut rng = Rng::new(seed ^ ((kind as u64 + 1) << 56));
+    match kind {
+        Kind::NearLimit => limits::near_limit(&mut rng),
+        Kind::Readings => counted::near_readings(&mut rng),
+        Kind::Symbols => counted::near_symbols(&mut rng),
+        Kind::Scopes if rng.chance(40) => limits::nested(&mut rng),
+        _ => builder::forest(rng, kind),
+    }
+}

@@ -1,0 +1,230 @@
+//! The main call and the lister of document 01, with the original deciding the tree.
+
+use std::fmt;
+use std::fmt::Write;
+use std::thread;
+
+use crate::check::{accept, Refusal};
+use crate::convert::{to_expr, to_tree};
+use crate::cost::{expansion, nesting, MAX_EXPANSION, MAX_NESTING};
+use crate::cse::{cse, Interner, KeyTag, SymId};
+use crate::forest::{Forest, Tree};
+use crate::limits::{count, Counts};
+
+pub const MIN_WORK_WORDS: usize = 16_384;
+pub const MAX_OUTPUT: usize = 65_535;
+const MAX_RECORDS: usize = 256;
+const MAX_DEPTH: usize = 64;
+
+/// Far more than a forest of 256 records needs; a test thread may have little.
+const STACK: usize = 64 << 20;
+
+/// What the main call gives, and the tree it writes. A refusal has zeros and no tree.
+#[derive(Clone, PartialEq, Eq, Debug)]
+pub struct Answer {
+    pub number: u32,
+    pub place: u32,
+    pub written_length: u32,
+    pub symbols: u32,
+    pub readings: u32,
+    pub tree: Vec<u8>,
+}
+
+/// Why there is no answer to compare with.
+#[derive(Clone, PartialEq, Eq, Debug)]
+pub enum NoAnswer {
+    Skipped(Skipped),
+    /// The original made another number of symbols than document 01 says: one of them was misread.
+    SymbolCount {
+        paper: u32,
+        original: u32,
+    },
+}
+
+/// Why a forest is not sent through the original.
+#[derive(Clone, PartialEq, Eq, Debug)]
+pub enum Skipped {
+    /// So many nested scopes, over [`MAX_NESTING`].
+    Nesting(usize),
+    /// So many records in the written tree, or a little fewer, over [`MAX_EXPANSION`].
+    Expansion(u64),
+    /// The original's keys leave out the shape, so document 01 keeps such forests from it.
+    TwoShapes { opcode: u8 },
+}
+
+impl fmt::Display for NoAnswer {
+    fn fmt(&self, f: &mut fmt::Formatter<'_>) -> fmt::Result {
+        match self {
+            NoAnswer::Skipped(Skipped::Nesting(depth)) => {
+                write!(f, "{depth} nested scopes, over {MAX_NESTING}")
+            }
+            NoAnswer::Skipped(Skipped::Expansion(size)) => {
+                write!(f, "up to {size} written records, over {MAX_EXPANSION}")
+            }
+            NoAnswer::Skipped(Skipped::TwoShapes { opcode }) => {
+                write!(f, "opcode {opcode:02X} has two shapes")
+            }
+            NoAnswer::SymbolCount { paper, original } => {
+                write!(
+                    f,
+                    "{paper} symbols by document 01, {original} by the original"
+                )
+            }
+        }
+    }
+}
+
+impl std::error::Error for NoAnswer {}
+
+/// The main call on a forest, lent so many output bytes and work words.
+pub fn answer(forest: &[u8], out_len: usize, work_words: usize) -> Result<Answer, NoAnswer> {
+    if work_words < MIN_WORK_WORDS {
+        return Ok(refused(Refusal {
+            number: 1,
+            place: 0,
+        }));
+    }
+    let counted = accept(forest).and_then(|forest| Ok((count(&forest)?, forest)));
+    let (counts, forest) = match counted {
+        Ok(counted) => counted,
+        Err(refusal) => return Ok(refused(refusal)),
+    };
+    let tree = written_tree(&forest, counts)?;
+    let (records, depth) = (tree.size(), tree.depth());
+    let bytes = Forest { trees: vec![tree] }.to_bytes();
+    let number = if records > MAX_RECORDS || bytes.len() > MAX_OUTPUT.min(out_len) {
+        13
+    } else if depth > MAX_DEPTH {
+        14
+    } else {
+        return Ok(Answer {
+            number: 0,
+            place: 0,
+            written_length: bytes.len() as u32,
+            symbols: counts.symbols,
+            readings: counts.readings,
+            tree: bytes,
+        });
+    };
+    Ok(refused(Refusal { number, place: 0 }))
+}
+
+fn refused(refusal: Refusal) -> Answer {
+    Answer {
+        number: refusal.number,
+        place: refusal.place,
+        written_length: 0,
+        symbols: 0,
+        readings: 0,
+        tree: Vec::new(),
+    }
+}
+
+/// What the original makes of an accepted forest within the limits.
+fn written_tree(forest: &Forest, counts: Counts) -> Result<Tree, NoAnswer> {
+    can_be_run(forest).map_err(NoAnswer::Skipped)?;
+    on_large_stack(|| {
+        let (interner, root) = interned(forest);
+        let original = interner.syms.len() as u32;
+        if original != counts.symbols {
+            return Err(NoAnswer::SymbolCount {
+                paper: counts.symbols,
+                original,
+            });
+        }
+        let size = expansion(&interner, root);
+        if size > MAX_EXPANSION {
+            return Err(NoAnswer::Skipped(Skipped::Expansion(size)));
+        }
+        let mut exprs: Vec<_> = forest.trees.iter().map(to_expr).collect();
+        let root = exprs.pop().expect("a forest has a root");
+        let tree = to_tree(&cse(root, &exprs));
+        debug_assert!(tree.size() as u64 <= size, "the cap must hold beforehand");
+        Ok(tree)
+    })
+}
+
+/// The part of the caps that the trees alone decide.
+fn can_be_run(forest: &Forest) -> Result<(), Skipped> {
+    let mut shapes = [None; 256];
+    for tree in &forest.trees {
+        if let Some(opcode) = second_shape(tree, &mut shapes) {
+            return Err(Skipped::TwoShapes { opcode });
+        }
+    }
+    let depth = forest.trees.iter().map(nesting).max().unwrap_or(0);
+    if depth > MAX_NESTING {
+        return Err(Skipped::Nesting(depth));
+    }
+    Ok(())
+}
+
+/// The first opcode that had another shape before. Constants and unparsed trees share 00, which
+/// is no opcode.
+fn second_shape(tree: &Tree, shapes: &mut [Option<u8>; 256]) -> Option<u8> {
+    let (opcode, shape) = (tree.record.opcode, tree.record.shape);
+    if opcode != 0 && *shapes[usize::from(opcode)].get_or_insert(shape) != shape {
+        return Some(opcode);
+    }
+    tree.children
+        .iter()
+        .find_map(|child| second_shape(child, shapes))
+}
+
+/// The first half of `cse`: the environment trees, then the root.
+fn interned(forest: &Forest) -> (Interner, SymId) {
+    let mut interner = Interner::new();
+    let symbols: Vec<SymId> = forest
+        .trees
+        .iter()
+        .map(|tree| interner.intern(&to_expr(tree)))
+        .collect();
+    let root = *symbols.last().expect("a forest has a root");
+    (interner, root)
+}
+
+fn on_large_stack<T: Send>(work: impl FnOnce() -> T + Send) -> T {
+    thread::scope(|scope| {
+        thread::Builder::new()
+            .stack_size(STACK)
+            .spawn_scoped(scope, work)
+            .expect("a thread can be started")
+            .join()
+            .unwrap_or_else(|panic| std::panic::resume_unwind(panic))
+    })
+}
+
+/// The lister's text: a line a symbol, or what the main call refuses with.
+pub fn lister(forest: &[u8]) -> Result<Vec<u8>, NoAnswer> {
+    let answer = answer(forest, MAX_OUTPUT, MIN_WORK_WORDS)?;
+    if answer.number != 0 {
+        let line = format!("refused {} at {}\n", answer.number, answer.place);
+        return Ok(line.into_bytes());
+    }
+    let forest = accept(forest).expect("a forest with an answer is accepted");
+    Ok(on_large_stack(|| symbol_lines(&interned(&forest).0)).into_bytes())
+}
+
+fn symbol_lines(interner: &Interner) -> String {
+    let usage = interner.flat_usage();
+    let mut text = format!("symbols {}\n", interner.syms.len());
+    for (index, info) in interner.syms.iter().enumerate() {
+        let symbol = SymId(index as u32);
+        let (tag, opcode) = match info.key.tag {
+            KeyTag::Const => ('C', 0),
+            KeyTag::Unparsed => ('U', 0),
+            KeyTag::Arg => ('A', 0),
+            KeyTag::Op(opcode) => ('O', opcode),
+        };
+        let uses = usage.get(&symbol).copied().unwrap_or(0);
+        let hoist = if interner.should_hoist(symbol, &usage) {
+            'y'
+        } else {
+            'n'
+        };
+        let scope = info.scope;
+        writeln!(text, "{index} {tag} {opcode:02X} {scope} {uses} {hoist}")
+            .expect("a string takes all text");
+    }
+    text
+}

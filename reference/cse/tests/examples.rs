@@ -1,0 +1,207 @@
+//! Every line of document 01, "Trees to compare".
+
+use cse_reference::forest::{Forest, Tree};
+use cse_reference::oracle::{answer, lister, Answer};
+use cse_reference::trees::*;
+use cse_reference::unfold::keeps_meaning;
+
+fn call(forest: &Forest) -> Answer {
+    answer(&forest.to_bytes(), 65_535, 16_384).unwrap()
+}
+
+/// The forest's answer must be this tree; gives the answer for its counts.
+fn gives(forest: &Forest, tree: Tree) -> Answer {
+    let given = call(forest);
+    let expected = alone(tree).to_bytes();
+    assert_eq!((given.number, given.place), (0, 0));
+    assert_eq!(given.tree, expected);
+    assert_eq!(given.written_length as usize, expected.len());
+    assert_eq!(keeps_meaning(&forest.to_bytes(), &expected), Some(true));
+    given
+}
+
+fn refuses(forest: &Forest, number: u32, place: u32) {
+    let expected = Answer {
+        number,
+        place,
+        written_length: 0,
+        symbols: 0,
+        readings: 0,
+        tree: vec![],
+    };
+    assert_eq!(call(forest), expected);
+}
+
+#[test]
+fn height_has_the_same_bytes_both_ways() {
+    let bytes = [
+        0x01, 0x00, 0x01, 0x00, 0x08, 0x00, 0x05, 0x00, 0x02, 0xA3, 0x00, 0x00, 0x00,
+    ];
+    assert_eq!(alone(h()).to_bytes(), bytes);
+    let given = answer(&bytes, 65_535, 16_384).unwrap();
+    assert_eq!(given.tree, bytes);
+    assert_eq!((given.symbols, given.readings), (1, 1));
+}
+
+#[test]
+fn context_properties_and_scalar_constants_stay() {
+    gives(&alone(h()), h());
+    gives(&alone(p(h(), h())), p(h(), h()));
+    gives(&alone(p(k(), k())), p(k(), k()));
+}
+
+#[test]
+fn what_is_used_twice_is_defined_once() {
+    let shared = |value| block(vec![(1, value)], p(val_use(1), val_use(1)));
+    gives(&alone(p(z(), z())), shared(z()));
+    gives(&alone(p(x(), x())), shared(x()));
+    gives(&alone(p(n(z()), n(z()))), shared(n(z())));
+}
+
+#[test]
+fn branches_share_only_what_was_built_before_them() {
+    let branches = if_(z(), n(z()), n(z()));
+    gives(
+        &alone(branches.clone()),
+        block(
+            vec![(1, z())],
+            if_(val_use(1), n(val_use(1)), n(val_use(1))),
+        ),
+    );
+    let after_environment = Forest {
+        trees: vec![n(z()), branches],
+    };
+    gives(
+        &after_environment,
+        block(
+            vec![(1, z()), (2, n(val_use(1)))],
+            if_(val_use(1), val_use(2), val_use(2)),
+        ),
+    );
+}
+
+#[test]
+fn a_projection_is_remembered_across_branches() {
+    gives(
+        &alone(if_(z(), s1(z()), s1(z()))),
+        block(
+            vec![(1, z())],
+            if_(
+                val_use(1),
+                block(vec![(2, s1(val_use(1)))], val_use(2)),
+                s1(val_use(1)),
+            ),
+        ),
+    );
+}
+
+#[test]
+fn a_lambda_keeps_what_depends_on_its_argument() {
+    gives(
+        &alone(lambda(&[7], p(n(val_use(7)), n(val_use(7))))),
+        lambda(
+            &[1],
+            block(vec![(3, n(val_use(1)))], p(val_use(3), val_use(3))),
+        ),
+    );
+    gives(
+        &alone(lambda(&[7], p(n(z()), n(z())))),
+        block(vec![(1, n(z()))], lambda(&[2], p(val_use(1), val_use(1)))),
+    );
+}
+
+#[test]
+fn the_input_of_a_field_of_a_tuple_is_read_twice() {
+    let given = gives(
+        &alone(s1(tuple(vec![z(), z()]))),
+        block(vec![(1, z())], s1(tuple(vec![val_use(1), val_use(1)]))),
+    );
+    assert_eq!((given.symbols, given.readings), (3, 7));
+}
+
+#[test]
+fn refusals() {
+    assert_eq!(answer(&[], 65_535, 16_384).unwrap().number, 2);
+    refuses(&alone(val_use(3)), 10, 0);
+    refuses(&alone(lambda(&[1], lambda(&[1], val_use(1)))), 9, 1);
+}
+
+/// `n` so many times around `z`.
+fn chain(operations: usize) -> Tree {
+    (0..operations).fold(z(), |tree, _| n(tree))
+}
+
+#[test]
+fn depth_64_passes_and_65_does_not() {
+    gives(&alone(chain(63)), chain(63));
+    refuses(&alone(chain(64)), 7, 64);
+}
+
+#[test]
+fn an_output_must_be_long_enough() {
+    let forest = alone(p(z(), z())).to_bytes();
+    let length = answer(&forest, 65_535, 16_384).unwrap().tree.len();
+    assert_eq!(answer(&forest, length, 16_384).unwrap().number, 0);
+    assert_eq!(answer(&forest, length - 1, 16_384).unwrap().number, 13);
+    assert_eq!(answer(&forest, 0, 16_384).unwrap().number, 13);
+}
+
+#[test]
+fn work_words_must_be_enough() {
+    let forest = alone(h()).to_bytes();
+    assert_eq!(answer(&forest, 65_535, 16_383).unwrap().number, 1);
+    assert_eq!(answer(&[], 0, 0).unwrap().number, 1);
+    assert_eq!(answer(&forest, 65_535, 16_385).unwrap().number, 0);
+}
+
+fn lists(forest: &Forest, text: &str) {
+    let given = lister(&forest.to_bytes()).unwrap();
+    assert_eq!(String::from_utf8(given).unwrap(), text);
+}
+
+#[test]
+fn the_lister() {
+    lists(
+        &alone(p(z(), z())),
+        "symbols 2\n0 O FE 0 2 y\n1 O 9A 0 0 n\n",
+    );
+    lists(&alone(val_use(3)), "refused 10 at 0\n");
+}
+
+#[test]
+fn the_lister_knows_every_tag_and_counts_all_symbols() {
+    let unparsed = node(1, 0x00, 0, &[9], vec![]);
+    let body = p(p(k(), unparsed), p(val_use(7), val_use(7)));
+    lists(
+        &alone(lambda(&[7], body)),
+        "symbols 7\n0 A 00 0 2 y\n1 C 00 0 1 n\n2 U 00 0 1 n\n3 O 9A 0 1 n\n4 O 9A 1 1 n\n5 O 9A 1 1 n\n6 O D9 0 0 n\n",
+    );
+    // The second projection is in no written tree, and still a use of `z`.
+    lists(
+        &alone(s1(z())),
+        "symbols 3\n0 O FE 0 2 y\n1 O 8C 0 0 n\n2 O 8C 0 0 n\n",
+    );
+}
+
+#[test]
+fn the_lister_counts_the_scopes_of_a_second_reading() {
+    // Scopes 1 and 2 open in the first reading, 3 and 4 in the second.
+    let branches = if_(h(), n(z()), n(z()));
+    lists(
+        &alone(s1(tuple(vec![branches]))),
+        "symbols 14\n0 O A3 0 2 n\n1 O FE 1 1 n\n2 O F0 1 1 n\n3 O FE 2 1 n\n4 O F0 2 1 n\n\
+         5 O 95 0 1 n\n6 O 86 0 0 n\n7 O FE 3 1 n\n8 O F0 3 1 n\n9 O FE 4 1 n\n10 O F0 4 1 n\n\
+         11 O 95 0 1 n\n12 O 86 0 1 n\n13 O 8C 0 0 n\n",
+    );
+}
+
+#[test]
+fn the_lister_is_lent_65_535_bytes() {
+    // The constant is written twice: 30,000 bytes come in and 60,000 go out.
+    let large = |length| {
+        let constant = node(0, 0x00, 3, &vec![1; length], vec![]);
+        alone(block(vec![(1, constant)], p(val_use(1), val_use(1))))
+    };
+    lists(&large(30_000), "symbols 2\n0 C 00 0 2 n\n1 O 9A 0 0 n\n");
+    lists(&large(33_000), "refused 13 at 0\n");
+}

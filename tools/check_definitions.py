@@ -1,0 +1,154 @@
+#!/usr/bin/env python3
+"""Runs the definitions of crate model on forests whose answers come from the Rust side, by computation in the checker.
+
+Usage: check_definitions.py ROWS.tsv [--jobs N] [--batch N]
+
+A row is tab separated: forest, output length, work words, number, place, written length, symbols, readings, tree; or, for the
+lister, forest and text. Byte strings are in hex, '-' for none. `cse-reference rows` and `cse-reference list-rows` write such rows.
+
+Each row becomes one declaration, proved by `refl`, in a module beside a copy of the definitions. A row that the checker refuses is
+printed with its line number; a row over the checker's step limit says nothing either way and is named and counted apart.
+Exit status: 0 if no row was refused, 1 if one was, 2 for bad input or if the checker itself failed."""
+import argparse
+import os
+import re
+import shutil
+import subprocess
+import sys
+import tempfile
+from concurrent.futures import ThreadPoolExecutor
+
+TOP = os.path.dirname(os.path.dirname(os.path.abspath(__file__)))
+MODEL = os.path.join(TOP, "crates", "model")
+SPECS = "Rattle.model.specs"
+
+HEAD = f"""-- Rows from outside.
+use Prim.Native.Nat.{{ℕ, zero, suc, _/_, _%_}}
+use mathlib.Core.Path.{{_≡_, refl}}
+use mathlib.Core.Bool.{{Bool, true, false, _&&_}}
+use mathlib.Core.List.{{List, [], _∷_}}
+use lib.Dec.{{eqb}}
+use {SPECS}.Lists.{{same}}
+use {SPECS}.Answer.{{Answer, refused, good}}
+use {SPECS}.Call.{{Written, Numbers, run, numbersOf}}
+use {SPECS}.Lister.{{lister}}
+use {SPECS}.Computing.{{computing}}
+
+-- so many bytes of a number, the lowest first
+bytes : ℕ → ℕ → List ℕ
+bytes zero n = []
+bytes (suc k) n = n % 256 ∷ bytes k (n / 256)
+
+written : Answer Written → List ℕ
+written (refused n p) = []
+written (good w) = w .bytes
+
+gives : Answer Written → Numbers → List ℕ → Bool
+unfolding same numbersOf
+gives a w tree =
+    let n = numbersOf a in
+    eqb (n .number) (w .number) && eqb (n .place) (w .place) && eqb (n .len) (w .len) && eqb (n .symbols) (w .symbols) &&
+    eqb (n .readings) (w .readings) && same (written a) tree
+"""
+CALL = """
+r{i} : gives (run {forest} {room} {words}) (record {{ number = {number}; place = {place}; len = {len}; symbols = {symbols};
+    readings = {readings} }}) {tree} ≡ true
+unfolding gives written bytes computing
+r{i} = refl
+"""
+LIST = """
+r{i} : same (lister {forest}) {lines} ≡ true
+unfolding bytes computing
+r{i} = refl
+"""
+
+
+def bad(line, why):
+    sys.exit(f"check_definitions: line {line}: {why}") if line else sys.exit(f"check_definitions: {why}")
+
+
+def numeral(text, line):
+    if text == "-":
+        return "(bytes 0 0)"
+    try:
+        data = bytes.fromhex(text)
+    except ValueError:
+        bad(line, "odd or wrong hex")
+    return f"(bytes {len(data)} 0x{data[::-1].hex()})" if data else bad(line, "empty hex; write '-'")
+
+
+def declaration(i, line, fields):
+    if len(fields) == 2:
+        return LIST.format(i=i, forest=numeral(fields[0], line), lines=numeral(fields[1], line))
+    if len(fields) != 9:
+        bad(line, f"{len(fields)} fields, not 9 or 2")
+    names = ("room", "words", "number", "place", "len", "symbols", "readings")
+    for name, value in zip(names, fields[1:8]):
+        if not re.fullmatch(r"[0-9]+", value):
+            bad(line, f"{name} is no number")
+    return CALL.format(i=i, forest=numeral(fields[0], line), tree=numeral(fields[8], line), **dict(zip(names, fields[1:8])))
+
+
+def judge(batch):
+    """The rows (line, fields) that the checker refused, and those over its step limit."""
+    with tempfile.TemporaryDirectory() as room:
+        copy = os.path.join(room, "model")
+        shutil.copytree(MODEL, copy)
+        text, starts = HEAD, []
+        for i, (line, fields) in enumerate(batch):
+            starts.append((text.count("\n") + 2, line))
+            text += declaration(i, line, fields)
+        with open(os.path.join(copy, "specs", "Rows.antt"), "w") as f:
+            f.write(text)
+        with open(os.path.join(copy, "specs", "Lib.antt"), "a") as f:
+            f.write("pub mod Rows\n")
+        run = subprocess.run(["rt", "check", copy], capture_output=True, text=True, env=dict(os.environ, RT_CUT="0"))
+    said = run.stdout + run.stderr
+    refused, limit = [], []
+    for at, message in re.findall(r"Rows\.antt:(\d+):\d+: error: (.*)", said):
+        line = [row for start, row in starts if start <= int(at)]
+        if not line:
+            return None, said
+        (limit if "step limit" in message else refused).append(line[-1])
+    if (run.returncode == 0) != (not refused and not limit):
+        return None, said
+    return sorted(set(refused)), sorted(set(limit))
+
+
+def main():
+    parser = argparse.ArgumentParser(description=__doc__.split("\n")[0])
+    parser.add_argument("rows")
+    parser.add_argument("--jobs", type=int, default=2)
+    parser.add_argument("--batch", type=int, default=60)
+    options = parser.parse_args()
+    if options.jobs < 1 or options.batch < 1:
+        bad(None, "--jobs and --batch take a number from 1 on")
+    try:
+        with open(options.rows) as f:
+            rows = [(n, text.rstrip("\n").split("\t")) for n, text in enumerate(f, 1) if text.strip()]
+    except OSError as e:
+        bad(None, str(e))
+    if not rows:
+        bad(None, "no rows")
+    for line, fields in rows:
+        declaration(0, line, fields)
+    batches = [rows[i : i + options.batch] for i in range(0, len(rows), options.batch)]
+    refused, limit = [], []
+    with ThreadPoolExecutor(options.jobs) as pool:
+        for first, second in pool.map(judge, batches):
+            if first is None:
+                print(second[-4000:], file=sys.stderr)
+                bad(None, "the checker failed")
+            refused += first
+            limit += second
+    for line in refused:
+        print(f"line {line}: the definitions give another answer")
+    for line in limit:
+        print(f"line {line}: over the checker's step limit, not judged")
+    agreed = len(rows) - len(refused) - len(limit)
+    print(f"{len(rows)} rows: {agreed} agree, {len(refused)} differ, {len(limit)} over the step limit")
+    return 1 if refused else 0
+
+
+if __name__ == "__main__":
+    sys.exit(main())
