@@ -1,4 +1,5 @@
--- Answers: a refusal, with the number and the place that document 01 gives it, or a value; and how answers follow one another.
+-- Answers: a refusal, with the number and the place that document 01 gives it, or a value; and how answers follow one
+-- another.
 -- Assumes nothing.
 use Prim.Native.Nat.{ℕ}
 use mathlib.Core.Bool.{Bool, true, false}

@@ -65,7 +65,8 @@ argIds r = map (λ a. a .0) (argsOf (r .aux) (r .lit))
 
 -- the ids that a record binds in its children: "an argument [is in force] in its lambda's body"
 unfoldable pub inside : Rec → List ℕ
-inside r = elim (kind (r .shape)) [ valUse ↦ [] | valDef ↦ [] | block ↦ [] | lambda ↦ argIds r | field ↦ [] | other ↦ [] ]
+inside r =
+    elim (kind (r .shape)) [ valUse ↦ [] | valDef ↦ [] | block ↦ [] | lambda ↦ argIds r | field ↦ [] | other ↦ [] ]
 
 -- the ids that a tree binds in its later siblings: "A definition is in force after its own value, to its block's end"
 unfoldable pub after : Tree → List ℕ

@@ -72,7 +72,8 @@ pub record Numbers : Type 0 where
 
 unfoldable pub numbersOf : Answer Written → Numbers
 numbersOf (refused n p) = record { number = n; place = p; len = 0; symbols = 0; readings = 0 }
-numbersOf (good w) = record { number = 0; place = 0; len = length (w .bytes); symbols = w .symbols; readings = w .readings }
+numbersOf (good w) =
+    record { number = 0; place = 0; len = length (w .bytes); symbols = w .symbols; readings = w .readings }
 
 unfoldable pub numbers : List ℕ → ℕ → ℕ → Numbers
 numbers bs room words = numbersOf (run bs room words)

@@ -1,5 +1,5 @@
--- Recursion on a number, down to any lower number: the value at n is a step from the values below n. Symbols depend on lower
--- symbols only, so free lists, schedules and building are such recursions.
+-- Recursion on a number, down to any lower number: the value at n is a step from the values below n. Symbols depend
+-- on lower symbols only, so free lists, schedules and building are such recursions.
 -- Assumes nothing.
 use Prim.Native.Nat.{ℕ, zero, suc}
 use mathlib.Core.Bool.{Bool, true, false}

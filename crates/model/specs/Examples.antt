@@ -1,4 +1,5 @@
--- "Trees to compare": those marked M, in one table with one proposition about it; h as bytes, both ways; the lister's lines of p(z,z).
+-- "Trees to compare": those marked M, in one table with one proposition about it; h as bytes, both ways; the lister's
+-- lines of p(z,z).
 -- Assumes nothing.
 use Prim.Native.Nat.{ℕ}
 use mathlib.Core.Path.{_≡_, refl}

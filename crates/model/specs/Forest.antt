@@ -63,17 +63,21 @@ abbrev isEmpty : Pairs → Bool
 isEmpty [] = true
 isEmpty (p ∷ ps) = false
 
--- a pair offends that does not start at `from`, where the one before ends, is shorter than 5, or is last and does not end
--- at the forest's end
+-- a pair offends that does not start at `from`, where the one before ends, is shorter than 5, or is last and does not
+-- end at the forest's end
 unfoldable pub badPairs : ℕ → ℕ → Pairs → List Bool
 badPairs total from [] = []
 badPairs total from (p ∷ ps) =
-    (not (eqb (p .0) from) || ltb (p .1) 5 || (isEmpty ps && not (eqb (p .0 + p .1) total))) ∷ badPairs total (p .0 + p .1) ps
+    (not (eqb (p .0) from) || ltb (p .1) 5 || (isEmpty ps && not (eqb (p .0 + p .1) total))) ∷
+    badPairs total (p .0 + p .1) ps
 
 -- place 0 where the directory itself does not fit
 unfoldable pub check3 : List ℕ → Option ℕ
 check3 bs =
-    elim (ltb (length bs) (bodyStart bs)) [ true ↦ some 0 | false ↦ first (badPairs (length bs) (bodyStart bs) (pairsOf bs)) ]
+    elim (ltb (length bs) (bodyStart bs)) [
+      | true ↦ some 0
+      | false ↦ first (badPairs (length bs) (bodyStart bs) (pairsOf bs))
+    ]
 
 -- ---- 4: a record against its shape. 5: opcode against shape
 

@@ -1,4 +1,5 @@
--- Usage and the gate (gate.rs): what is reached from the root, how often a symbol is used, and whether it may be hoisted.
+-- Usage and the gate (gate.rs): what is reached from the root, how often a symbol is used, and whether it may be
+-- hoisted.
 -- Assumes nothing.
 use Prim.Native.Nat.{ℕ, zero, suc}
 use mathlib.Core.Bool.{Bool, true, false, not, _&&_}
@@ -21,7 +22,8 @@ symOf g s = symAt (g .syms) s
 -- what is in `seen`, and what is reached from the symbols below n that are in it; a child is lower than its parent
 unfoldable pub reach : List Sym → ℕ → List ℕ → List ℕ
 reach ss zero seen = seen
-reach ss (suc n) seen = elim (isIn n seen) [ true ↦ reach ss n (union seen (symAt ss n .kids)) | false ↦ reach ss n seen ]
+reach ss (suc n) seen =
+    elim (isIn n seen) [ true ↦ reach ss n (union seen (symAt ss n .kids)) | false ↦ reach ss n seen ]
 
 -- the child slots of some symbols
 unfoldable pub slotsOf : List Sym → List ℕ → List ℕ

@@ -1,5 +1,6 @@
 -- "From forest to symbols" (key.rs, interner.rs, intern.rs), with refusals 11 and 12.
--- In order: symbols, scopes and the state; keys; placement; new symbols; bindings; scopes and thunks; projections; records.
+-- In order: symbols, scopes and the state; keys; placement; new symbols; bindings; scopes and thunks; projections;
+-- records.
 -- Assumes nothing.
 use Prim.Native.Nat.{ℕ, suc, _+_}
 use mathlib.Core.Bool.{Bool, true, false, _&&_, _||_}
@@ -14,14 +15,15 @@ use Rattle.model.specs.Binding.{Kind, kind, valUse, valDef, block, lambd
 
 -- ---- symbols, scopes and the state
 
--- what a symbol is rebuilt from. A lambda keeps its arguments' symbols and opts, and its body's scope; an operation the scopes
--- of its thunks, in order
+-- what a symbol is rebuilt from. A lambda keeps its arguments' symbols and opts, and its body's scope; an operation
+-- the scopes of its thunks, in order
 pub data Node : Type 0 where
   constant unparsed argument : Node
   func : List (ℕ × List ℕ) → ℕ → Node
   operation : List ℕ → Node
 
--- a symbol: its record and its children's symbols, which are its key; the argument symbols that it depends on; its scope; its node
+-- a symbol: its record and its children's symbols, which are its key; the argument symbols that it depends on; its
+-- scope; its node
 pub record Sym : Type 0 where
   pub rec : Rec
   pub kids : List ℕ
@@ -29,7 +31,8 @@ pub record Sym : Type 0 where
   pub scope : ℕ
   pub node : Node
 
--- a scope: the scopes around it, the nearest first, and a lambda's argument symbols (none for a thunk or the outermost scope)
+-- a scope: the scopes around it, the nearest first, and a lambda's argument symbols (none for a thunk or the
+-- outermost scope)
 pub record Scope : Type 0 where
   pub around : List ℕ
   pub args : Option (List ℕ)
@@ -179,7 +182,13 @@ dropFirst [] = []
 dropFirst (t ∷ ts) = ts
 
 abbrev pub closeThunk : State → State
-closeThunk st = record { syms = st .syms; tables = dropFirst (st .tables); scopes = st .scopes; memo = st .memo; readings = st .readings }
+closeThunk st = record {
+  syms = st .syms;
+  tables = dropFirst (st .tables);
+  scopes = st .scopes;
+  memo = st .memo;
+  readings = st .readings;
+}
 
 -- "Operands 1 and 2 of IF and operand 1 of ED, EC (from 0) open a thunk"
 unfoldable pub thunked : ℕ → ℕ → Bool
@@ -196,7 +205,9 @@ abbrev pub branch : Bool → ℕ → List ℕ → List ℕ
 branch true sc brs = sc ∷ brs
 branch false sc brs = brs
 
--- ---- projections: "Field 1 or 2 of a symbol that is no Tuple makes or finds both projections, remembered across thunks"
+-- ---- projections
+
+-- "Field 1 or 2 of a symbol that is no Tuple makes or finds both projections, remembered across thunks"
 
 unfoldable pub recall : List (ℕ × ℕ × ℕ) → ℕ → Option (ℕ × ℕ)
 recall [] p = none
@@ -222,7 +233,8 @@ newProjections at cur r i p st = do
 
 -- field i of symbol p
 unfoldable pub pairProjection : ℕ → ℕ → Rec → ℕ → ℕ → State → Out
-pairProjection at cur r i p st = elim (recall (st .memo) p) [ some ab ↦ good (pick i ab, st) | none ↦ newProjections at cur r i p st ]
+pairProjection at cur r i p st =
+    elim (recall (st .memo) p) [ some ab ↦ good (pick i ab, st) | none ↦ newProjections at cur r i p st ]
 
 -- ---- records. `kids` reads the record's children, in a scope with ids bound
 
@@ -236,7 +248,11 @@ internLast m = do
   good (last (os .0), os .2)
 
 unfoldable pub nodeOf : Rec → List ℕ → Node
-nodeOf r brs = elim (eqb (r .shape) 0) [ true ↦ constant | false ↦ elim (eqb (r .shape) 1) [ true ↦ unparsed | false ↦ operation brs ] ]
+nodeOf r brs =
+    elim (eqb (r .shape) 0) [
+      | true ↦ constant
+      | false ↦ elim (eqb (r .shape) 1) [ true ↦ unparsed | false ↦ operation brs ]
+    ]
 
 -- the key of the record and its children's symbols
 unfoldable pub internGeneral : ℕ → ℕ → Rec → Outs → Out
@@ -276,10 +292,17 @@ internKind field at cur r env kids st = do
 internKind other at cur r env kids st = internGeneral at cur r (kids cur env st)
 
 abbrev pub read : State → State
-read st = record { syms = st .syms; tables = st .tables; scopes = st .scopes; memo = st .memo; readings = suc (st .readings) }
+read st = record {
+  syms = st .syms;
+  tables = st .tables;
+  scopes = st .scopes;
+  memo = st .memo;
+  readings = suc (st .readings);
+}
 
 unfoldable mutual
-  -- a tree whose root is record `at`, in scope `cur`. "Every record read is one reading, also when read twice". 11: over 2,048 readings
+  -- a tree whose root is record `at`, in scope `cur`. "Every record read is one reading, also when read twice".
+  -- 11: over 2,048 readings
   pub intern : Tree → ℕ → ℕ → Env → State → Out
   intern (node r ts) at cur env st =
       let kids : Kids = λ c e s. internAll ts (r .opcode) 0 (suc at) c e s in

@@ -18,7 +18,8 @@ use Rattle.model.specs.Text.{text}
 -- a number in decimal, of at most `fuel` digits, before `rest`
 unfoldable pub digits : ℕ → ℕ → List ℕ → List ℕ
 digits zero n rest = rest
-digits (suc fuel) n rest = elim (ltb n 10) [ true ↦ (48 + n) ∷ rest | false ↦ digits fuel (n / 10) ((48 + n % 10) ∷ rest) ]
+digits (suc fuel) n rest =
+    elim (ltb n 10) [ true ↦ (48 + n) ∷ rest | false ↦ digits fuel (n / 10) ((48 + n % 10) ∷ rest) ]
 
 -- every number of a line is below 10^9
 unfoldable pub decimal : ℕ → List ℕ
@@ -54,8 +55,9 @@ yesNo false = text "n"
 
 unfoldable pub line : ℕ → ℕ → Sym → List ℕ
 line i uses s =
-    decimal i ++ text " " ++ tagOf (s .node) ++ text " " ++ hexByte (opcodeShown (s .node) (s .rec .opcode)) ++ text " " ++
-    decimal (s .scope) ++ text " " ++ decimal uses ++ text " " ++ yesNo (shouldHoist s uses) ++ text "\n"
+    decimal i ++ text " " ++ tagOf (s .node) ++ text " " ++
+    hexByte (opcodeShown (s .node) (s .rec .opcode)) ++ text " " ++ decimal (s .scope) ++ text " " ++
+    decimal uses ++ text " " ++ yesNo (shouldHoist s uses) ++ text "\n"
 
 unfoldable pub linesFrom : ℕ → List ℕ → List Sym → List ℕ
 linesFrom i slots [] = []

@@ -59,7 +59,9 @@ unfoldable pub define : Graph → Builder → ℕ → ℕ → List ℕ → Env �
 define g build root sc [] env last defs = wrapBlock defs (build root sc env last)
 define g build root sc (s ∷ order) env last defs =
     elim (member g sc env s) [
-      | true ↦ define g build root sc order ((s, suc last) ∷ env) (suc last) (snoc defs (valDefOf (suc last) (build s sc env last)))
+      | true ↦
+          define g build root sc order ((s, suc last) ∷ env) (suc last)
+          (snoc defs (valDefOf (suc last) (build s sc env last)))
       | false ↦ define g build root sc order env last defs
     ]
 
@@ -87,7 +89,8 @@ abbrev pub argEnv : ℕ → List (ℕ × List ℕ) → Env → Env
 argEnv last [] env = env
 argEnv last (a ∷ xs) env = argEnv (suc last) xs ((a .0, suc last) ∷ env)
 
--- a symbol that has no id. An argument outside its lambda is never met; a lambda's body is numbered from one past its arguments
+-- a symbol that has no id. An argument outside its lambda is never met; a lambda's body is numbered from one past its
+-- arguments
 unfoldable pub buildNode : Graph → Builder → Sym → Node → ℕ → Env → ℕ → Tree
 buildNode g build y constant sc env last = node (y .rec) nil
 buildNode g build y unparsed sc env last = node (y .rec) nil
@@ -95,7 +98,8 @@ buildNode g build y argument sc env last = valUseOf 0
 buildNode g build y (func xs body) sc env last =
     node (rec 12 0xD9 (length xs) (argLit last xs))
     (cons (processScope g build (getD (y .kids) 0 0) body (argEnv last xs env) (suc (last + length xs))) nil)
-buildNode g build y (operation brs) sc env last = node (y .rec) (buildOp g build sc env last (y .rec .opcode) 0 (y .kids) brs)
+buildNode g build y (operation brs) sc env last =
+    node (y .rec) (buildOp g build sc env last (y .rec .opcode) 0 (y .kids) brs)
 
 unfoldable pub buildStep : Graph → Builder → Builder
 buildStep g build s sc env last =

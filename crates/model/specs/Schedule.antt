@@ -1,5 +1,5 @@
--- The order of a scope's symbols (materialize.rs: `classify`, `free_vars`, `body_schedule`, `neighbours`, `schedule_order`).
--- Free lists, body order and neighbours call one another, each time on lower symbols.
+-- The order of a scope's symbols (materialize.rs: `classify`, `free_vars`, `body_schedule`, `neighbours`,
+-- `schedule_order`). Free lists, body order and neighbours call one another, each time on lower symbols.
 -- Assumes nothing.
 use Prim.Native.Nat.{ℕ, suc}
 use mathlib.Core.Bool.{Bool, true, false, not, _&&_, _||_}
@@ -24,7 +24,10 @@ pub data Rel : Type 0 where
 
 unfoldable pub classify : Graph → ℕ → ℕ → Rel
 classify g sc cur =
-    elim (eqb sc cur) [ true ↦ local | false ↦ elim (isIn cur (scopeAt (g .scopes) sc .around)) [ true ↦ deeper | false ↦ outside ] ]
+    elim (eqb sc cur) [
+      | true ↦ local
+      | false ↦ elim (isIn cur (scopeAt (g .scopes) sc .around)) [ true ↦ deeper | false ↦ outside ]
+    ]
 
 -- where a symbol's scope lies, seen from scope `cur`
 unfoldable pub relOf : Graph → ℕ → ℕ → Rel
@@ -54,8 +57,10 @@ visit nb = down (λ out. out) (visitStep nb)
 -- those of operands j on that are thunks (b = true), or that are not
 unfoldable pub operands : Bool → ℕ → ℕ → List ℕ → List ℕ
 operands b op j [] = []
-operands true op j (k ∷ ks) = elim (thunked op j) [ true ↦ k ∷ operands true op (suc j) ks | false ↦ operands true op (suc j) ks ]
-operands false op j (k ∷ ks) = elim (thunked op j) [ true ↦ operands false op (suc j) ks | false ↦ k ∷ operands false op (suc j) ks ]
+operands true op j (k ∷ ks) =
+    elim (thunked op j) [ true ↦ k ∷ operands true op (suc j) ks | false ↦ operands true op (suc j) ks ]
+operands false op j (k ∷ ks) =
+    elim (thunked op j) [ true ↦ operands false op (suc j) ks | false ↦ k ∷ operands false op (suc j) ks ]
 
 -- `local_dep_order`: the children, thunks first
 unfoldable pub localDepOrder : Sym → List ℕ
@@ -65,17 +70,28 @@ localDepOrder s = operands true (s .rec .opcode) 0 (s .kids) ++ operands false (
 unfoldable pub bodyOnly : Graph → ℕ → List ℕ → List ℕ
 bodyOnly g cs [] = []
 bodyOnly g cs (d ∷ ds) =
-    elim (isArg (symOf g d .node) || isOutside (relOf g d cs)) [ true ↦ bodyOnly g cs ds | false ↦ d ∷ bodyOnly g cs ds ]
+    elim (isArg (symOf g d .node) || isOutside (relOf g d cs)) [
+      | true ↦ bodyOnly g cs ds
+      | false ↦ d ∷ bodyOnly g cs ds
+    ]
 
 -- body order's neighbours of s in scope cs; `fv` gives the free lists of lower symbols
 unfoldable pub bodyNeighbours : Graph → (ℕ → List ℕ) → ℕ → ℕ → List ℕ
-bodyNeighbours g fv cs s = elim (relOf g s cs) [ local ↦ bodyOnly g cs (symOf g s .kids) | deeper ↦ bodyOnly g cs (fv s) | outside ↦ [] ]
+bodyNeighbours g fv cs s =
+    elim (relOf g s cs) [
+      | local ↦ bodyOnly g cs (symOf g s .kids)
+      | deeper ↦ bodyOnly g cs (fv s)
+      | outside ↦ []
+    ]
 
 -- those of a list that are no arguments and lie outside scope cs, put at the end of `out`, each once
 unfoldable pub outsiders : Graph → ℕ → List ℕ → List ℕ → List ℕ
 outsiders g cs [] out = out
 outsiders g cs (d ∷ ds) out =
-    elim (not (isArg (symOf g d .node)) && isOutside (relOf g d cs)) [ true ↦ outsiders g cs ds (add out d) | false ↦ outsiders g cs ds out ]
+    elim (not (isArg (symOf g d .node)) && isOutside (relOf g d cs)) [
+      | true ↦ outsiders g cs ds (add out d)
+      | false ↦ outsiders g cs ds out
+    ]
 
 -- the outsiders of a body's symbols, in body order
 unfoldable pub collect : Graph → (ℕ → List ℕ) → ℕ → List ℕ → List ℕ → List ℕ

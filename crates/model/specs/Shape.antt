@@ -1,4 +1,5 @@
--- The shapes' table: for each shape its children, aux and literal (check 4), and the opcodes that are bound to a shape (check 5).
+-- The shapes' table: for each shape its children, aux and literal (check 4), and the opcodes that are bound to a
+-- shape (check 5).
 -- In order: reading a literal part by part; the table; `fits`; `agrees`.
 -- Assumes nothing.
 use Prim.Native.Nat.{ℕ, zero, suc}
@@ -43,6 +44,10 @@ unfoldable pub _then_ : Reader → Reader → Reader
 _then_ f g bs = elim (f bs) [ none ↦ none | some rest ↦ g rest ]
 
 infixr 50 _then_
+-- an argument, a definition's or a tagged variable's literal: "id, opt"
+abbrev pub aArg : Reader
+aArg = aId then aOpt
+
 unfoldable pub times : ℕ → Reader → Reader
 times zero f = aEnd
 times (suc n) f = f then times n f
@@ -92,12 +97,12 @@ shapes =
     -- 7 ValUse, 8 ConstPlaceholder, 9 TaggedVar, 10 ValDef
     plain 0 0 aId ∷
     plain 0 0 aId ∷
-    plain 0 0 (aId then aOpt) ∷
-    plain 1 1 (aId then aOpt) ∷
+    plain 0 0 aArg ∷
+    plain 1 1 aArg ∷
     -- 11 BlockValue
     plain 1 free aEnd ∷
     -- 12 FuncValue: aux counts the arguments
-    record { least = 1; most = 1; aux = 15; right = λ a bs. whole (times a (aId then aOpt)) bs } ∷
+    record { least = 1; most = 1; aux = 15; right = λ a bs. whole (times a aArg) bs } ∷
     -- 13 MethodCall, 14 ConcreteCollection
     plain 1 free (aByte then aByte then aCounted aType) ∷
     plain 0 free aType ∷
@@ -121,14 +126,15 @@ shapes =
     []
 
 -- what no record fits, for a shape over 26
-abbrev noShape : Shape
+abbrev pub noShape : Shape
 noShape = record { least = 1; most = 0; aux = 0; right = λ a bs. false }
 
 -- check 4: a record against its shape
 unfoldable pub fits : Row → Bool
 fits r =
     let s = getD shapes (r .rec .shape) noShape in
-    leb (s .least) (r .kids) && leb (r .kids) (s .most) && leb (r .rec .aux) (s .aux) && s .right (r .rec .aux) (r .rec .lit)
+    leb (s .least) (r .kids) && leb (r .kids) (s .most) && leb (r .rec .aux) (s .aux) &&
+    s .right (r .rec .aux) (r .rec .lit)
 
 -- ---- opcodes and shapes
 
@@ -152,5 +158,8 @@ oneWay = (0x95, 5) ∷ (0xED, 4) ∷ (0xEC, 4) ∷ (0xA3, 2) ∷ (0xA4, 2) ∷ (
 unfoldable pub agrees : Rec → Bool
 agrees r =
     Bool·beq (eqb (r .opcode) 0) (leb (r .shape) 1) &&
-    elim (shapeOf bothWays (r .opcode)) [ none ↦ not (isIn (r .shape) (map (λ p. p .1) bothWays)) | some s ↦ eqb s (r .shape) ] &&
+    elim (shapeOf bothWays (r .opcode)) [
+      | none ↦ not (isIn (r .shape) (map (λ p. p .1) bothWays))
+      | some s ↦ eqb s (r .shape)
+    ] &&
     elim (shapeOf oneWay (r .opcode)) [ none ↦ true | some s ↦ eqb s (r .shape) ]

@@ -1,4 +1,5 @@
--- Records and trees ("The forest"): what a record says of itself, trees of records, their records in file order, and their bytes.
+-- Records and trees ("The forest"): what a record says of itself, trees of records, their records in file order, and
+-- their bytes.
 -- Assumes nothing.
 use Prim.Native.Nat.{ℕ, zero, suc, _+_, _*_, max}
 use mathlib.Core.Bool.{Bool, true, false, _&&_}
@@ -22,7 +23,8 @@ rec s o a l = record { shape = s; opcode = o; aux = a; lit = l }
 
 -- "the same shape, opcode, aux, literal"
 unfoldable pub sameRec : Rec → Rec → Bool
-sameRec a b = eqb (a .shape) (b .shape) && eqb (a .opcode) (b .opcode) && eqb (a .aux) (b .aux) && same (a .lit) (b .lit)
+sameRec a b =
+    eqb (a .shape) (b .shape) && eqb (a .opcode) (b .opcode) && eqb (a .aux) (b .aux) && same (a .lit) (b .lit)
 
 -- ---- trees
 
@@ -101,7 +103,8 @@ unfoldable mutual
   rowsOf nil = []
   rowsOf (cons t ts) = rows t ++ rowsOf ts
 
--- the trees that rows are, if they close: from the last row on, each row takes its children from the trees that follow it
+-- the trees that rows are, if they close: from the last row on, each row takes its children from the trees that
+-- follow it
 unfoldable pub grow : List Row → Trees
 grow [] = nil
 grow (r ∷ rs) = let s = grow rs in cons (node (r .rec) (takeT (r .kids) s)) (dropT (r .kids) s)

@@ -62,7 +62,8 @@ unfoldable mutual
   -- what a block of these children gives; a definition's one child gives its value
   pub unfoldLast : Trees → Meaning → ℕ → Unfolded
   unfoldLast nil ms d = arg 0 0
-  unfoldLast (cons t ts) ms d = unfoldItem (isNil ts) (idOf (top t)) (λ m e. unfoldAt t m e) (λ m e. unfoldLast ts m e) ms d
+  unfoldLast (cons t ts) ms d =
+      unfoldItem (isNil ts) (idOf (top t)) (λ m e. unfoldAt t m e) (λ m e. unfoldLast ts m e) ms d
 
 -- "0 and nothing at the root"
 unfoldable pub unfolded : Tree → Unfolded

@@ -18,6 +18,7 @@ usage: cse-reference COMMAND
   rows COUNT [--seed S] [--max-records N]
                                    forest, output length, work words, and what answer gives
   list-rows COUNT [--seed S]       forest, the lister's text in hex
+  check-rows COUNT [--seed S]      forest, and what checks 2 to 10 say of it
   from-notation                    notation in: forests
   to-notation                      forests in: notation
 Standard input has one forest a line, in hex, - for no bytes. Fields are parted by tabs. A forest that
@@ -123,6 +124,18 @@ fn run(arguments: &[String], out: &mut impl Write) -> Result<(), Failure> {
             for seed in arguments.seeds(0)? {
                 let (forest, text) = rows::list_row(seed).map_err(|why| Failure::Row(seed, why))?;
                 writeln!(out, "{}\t{}", hex::print(&forest), hex::print(&text))?;
+            }
+            Ok(())
+        }
+        "check-rows" => {
+            let arguments = parsed(&["COUNT"], &["--seed"])?;
+            for seed in arguments.seeds(0)? {
+                let forest = rows::check_row(seed);
+                let verdict = match accept(&forest) {
+                    Ok(_) => "accepted".to_string(),
+                    Err(refusal) => format!("refused {} at {}", refusal.number, refusal.place),
+                };
+                writeln!(out, "{}\t{verdict}", hex::print(&forest))?;
             }
             Ok(())
         }

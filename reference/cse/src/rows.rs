@@ -1,6 +1,6 @@
 //! Rows for a comparison: a call of the main call, or of the lister, with its answer.
 
-use crate::damage::damaged;
+use crate::damage::{damaged, each};
 use crate::forest::Forest;
 use crate::generate::{accepted, Kind, Rng};
 use crate::oracle::{answer, lister, Answer, NoAnswer, MAX_OUTPUT, MIN_WORK_WORDS};
@@ -39,6 +39,27 @@ pub fn list_row(seed: u64) -> Result<(Vec<u8>, Vec<u8>), NoAnswer> {
     };
     let text = lister(&row.forest)?;
     Ok((row.forest, text))
+}
+
+/// The forest of a seed, for the checks alone: in turn one damaged for each of refusals 2 to 10, and
+/// five to accept.
+pub fn check_row(seed: u64) -> Vec<u8> {
+    const ACCEPTED: [Kind; 10] = [
+        Kind::Small,
+        Kind::Medium,
+        Kind::Deep,
+        Kind::Wide,
+        Kind::Thunks,
+        Kind::Lambdas,
+        Kind::Projections,
+        Kind::Blocks,
+        Kind::Large,
+        Kind::Readings,
+    ];
+    match seed % 14 {
+        turn @ 0..9 => each(turn as u32 + 2, seed).bytes,
+        _ => accepted(seed, ACCEPTED[(seed / 14 % 10) as usize]).to_bytes(),
+    }
 }
 
 /// A call that lends plenty.

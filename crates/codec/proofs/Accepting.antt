@@ -1,0 +1,86 @@
+-- Checks in their order: the first that fails is the answer. In order: a place that was found, or none; 2 to 6; 7 to
+-- 10.
+-- Assumes nothing.
+use Prim.Native.Nat.{ℕ}
+use mathlib.Core.Path.{_≡_, refl, sym, ap, _∙_}
+use mathlib.Core.Option.{Option, none, some}
+use mathlib.Core.List.{List}
+use Rattle.model.specs.Answer.{Answer, refused, good, unless, checked}
+use Rattle.model.specs.Tree.{Trees}
+use Rattle.model.specs.Forest.{treesOf, check2, check3, check4, check5, check6, check7}
+use Rattle.model.specs.Binding.{check8, check9, check10}
+use Rattle.model.specs.Accept.{checks, accept}
+use Rattle.walk.specs.declared.Place.{Place}
+use Rattle.walk.specs.declared.Place.the-variants.{At, Nowhere}
+use Rattle.walk.specs.Walk.{Sound, placeOf}
+use Rattle.codec.specs.Codec.{Shaped}
+
+-- ---- a place, or none
+
+pub passed : (r : Place) (o : Option ℕ) → placeOf r ≡ o → r ≡ Nowhere → o ≡ none
+passed r o e f = sym e ∙ ap placeOf f
+
+pub failed : (r : Place) (o : Option ℕ) (p : ℕ) → placeOf r ≡ o → r ≡ At p → o ≡ some p
+failed r o p e f = sym e ∙ ap placeOf f
+
+-- ---- 2 to 6
+
+module _ (bs : List ℕ) (p : ℕ) where
+  pub refused-2 : check2 bs ≡ some p → refused 2 p ≡ accept bs
+  unfolding accept checks checked unless
+  refused-2 e = rw e
+
+  module _ (two : check2 bs ≡ none) where
+    pub refused-3 : check3 bs ≡ some p → refused 3 p ≡ accept bs
+    unfolding accept checks checked unless
+    refused-3 e = rw (two, e)
+
+    module _ (three : check3 bs ≡ none) where
+      pub refused-4 : check4 bs ≡ some p → refused 4 p ≡ accept bs
+      unfolding accept checks checked unless
+      refused-4 e = rw (two, three, e)
+
+      module _ (four : check4 bs ≡ none) where
+        pub refused-5 : check5 bs ≡ some p → refused 5 p ≡ accept bs
+        unfolding accept checks checked unless
+        refused-5 e = rw (two, three, four, e)
+
+        module _ (five : check5 bs ≡ none) where
+          pub refused-6 : check6 bs ≡ some p → refused 6 p ≡ accept bs
+          unfolding accept checks checked unless
+          refused-6 e = rw (two, three, four, five, e)
+
+-- ---- 7 to 10
+
+module _ (bs : List ℕ) (h : Shaped bs) where
+  -- checks 2 to 6 pass
+  pub after-6 : accept bs ≡
+      unless 7 (check7 bs)
+      (unless 8 (check8 (treesOf bs))
+      (unless 9 (check9 (treesOf bs)) (unless 10 (check10 (treesOf bs)) (good (treesOf bs)))))
+  unfolding accept checks checked unless
+  after-6 =
+      rw (h .sound .laid .header, h .sound .laid .directory, h .sound .fit, h .agree, h .sound .closed)
+
+  pub refused-7 : (p : ℕ) → check7 bs ≡ some p → refused 7 p ≡ accept bs
+  unfolding unless
+  refused-7 p e = sym (after-6 ∙ rw e)
+
+  module _ (seven : check7 bs ≡ none) where
+    pub refused-8 : (p : ℕ) → check8 (treesOf bs) ≡ some p → refused 8 p ≡ accept bs
+    unfolding unless
+    refused-8 p e = sym (after-6 ∙ rw (seven, e))
+
+    module _ (eight : check8 (treesOf bs) ≡ none) where
+      pub refused-9 : (p : ℕ) → check9 (treesOf bs) ≡ some p → refused 9 p ≡ accept bs
+      unfolding unless
+      refused-9 p e = sym (after-6 ∙ rw (seven, eight, e))
+
+      module _ (nine : check9 (treesOf bs) ≡ none) where
+        pub refused-10 : (p : ℕ) → check10 (treesOf bs) ≡ some p → refused 10 p ≡ accept bs
+        unfolding unless
+        refused-10 p e = sym (after-6 ∙ rw (seven, eight, nine, e))
+
+        pub accepted : check10 (treesOf bs) ≡ none → good (treesOf bs) ≡ accept bs
+        unfolding unless
+        accepted e = sym (after-6 ∙ rw (seven, eight, nine, e))

@@ -1,0 +1,29 @@
+-- `codec::check` meets its contract. Assumes nothing.
+use borrow.Author.Needs.{needs}
+use native.Mathlib.Omega.{arith}
+use denote.Ref.{now}
+use mathlib.Core.Path.{_≡_, refl, subst}
+use Rattle.codec.specs.Codec.{Layout}
+use Rattle.codec.proofs.check.Statement.{statement}
+use Rattle.codec.proofs.check.Tie as tie
+
+bindings-requires : tie.Need-bindings-requires
+bindings-requires c κs =
+    let b = c .before .before .before .before .before .before in (
+      subst (Layout (now (b .args .forest))) (c .before .enum-told .given .1)
+          (c .before .before .before .layout .ensures),
+      omega arith,
+    )
+
+returns : tie.Need-returns
+returns c =
+    let b = c .before .before .before .before .before .before in
+    record {
+      is = subst (Layout (now (b .args .forest))) (c .before .n .given .1) (c .before .before .before .layout .ensures);
+      kept = refl;
+    }
+
+pub check-spec : {M : Type 1} → statement M
+check-spec =
+    tie.close (tie.spec (λ c κs. search needs) (λ c. search needs) (λ c. search needs) bindings-requires returns
+    (λ c. search needs) (λ c. search needs))

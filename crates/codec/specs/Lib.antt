@@ -1,0 +1,2 @@
+-- What a check of a forest answers. Assumes nothing.
+pub mod Codec

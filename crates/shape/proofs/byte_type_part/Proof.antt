@@ -1,0 +1,24 @@
+-- `shape::byte_type_part` meets its contract: one part after another.
+-- Assumes nothing.
+use borrow.Author.Needs.{needs}
+use Rattle.shape.proofs.Parts.{end-is, then-end, then-broken}
+use Rattle.shape.proofs.byte_type_part.Statement.{statement}
+use Rattle.shape.proofs.byte_type_part.Tie as tie
+
+returns : tie.Need-returns
+returns c =
+    then-end
+    (c .before .before .k .given .1)
+    (c .before .before .before .before .byte-part .ensures)
+    (c .type-part .ensures)
+
+pub byte-type-part-spec : {M : Type 1} → statement M
+byte-type-part-spec =
+    tie.close
+    (tie.spec
+    (λ c κs. search needs)
+    (λ c. search needs)
+    (λ c κs. end-is (c .before .k .given .1) (c .before .before .before .byte-part .ensures) .within .1)
+    (λ c. search needs)
+    returns
+    (λ c. then-broken _ (c .enum-told .given .1) (c .before .before .byte-part .ensures)))

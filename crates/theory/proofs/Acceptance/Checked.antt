@@ -1,0 +1,121 @@
+-- What checks 4, 5, 8, 9 and 10 say of a tree, piece by piece. `Checked t b ids` is what they leave of a tree: b says
+-- whether a definition has to stand there, and `ids` are in force. `CheckedIn` is the same of a record's children.
+--
+-- In order: the two records; the first child and the rest (`checked-head`, `checked-tail`, `checked-join`); a record
+-- and its children (`checked-kids`), and what the checks say of the record itself.
+-- Interning takes a checked forest apart, record by record; Building puts the written tree's checks together.
+-- Assumes nothing.
+use mathlib.Core.Path.{_≡_, refl, sym}
+use mathlib.Core.Bool.{Bool, true, false, not, _&&_, _||_, Bool·beq}
+use mathlib.Core.List.{List, [], _++_}
+use Prim.Native.Nat.{ℕ}
+use lib.Dec.{eqb}
+use Rattle.model.specs.Lists.{isIn, anyIn, twice}
+use Rattle.model.specs.Tree.{Rec, Tree, Trees, node, nil, cons, many, isNil}
+use Rattle.model.specs.Shape.{fits, agrees}
+use Rattle.model.specs.Binding.{isBlock, idOf, inside, after, misplaced, misplacedIn, rebound, reboundIn, unbound}
+use Rattle.model.specs.Binding.{unboundIn}
+use Rattle.laws.proofs.Clear.{Clear, clear-left, clear-right, clear-join}
+
+-- ---- trees that are checked
+
+-- check 4 of a record with so many children
+abbrev pub FitsWith : Rec → ℕ → Type 0
+FitsWith r n = fits (record { rec = r; kids = n }) ≡ true
+
+-- checks 4 and 5, for each record of a tree
+abbrev mutual
+  pub Fine : Tree → Type 0
+  Fine (node r ts) = FitsWith r (many ts) × (agrees r ≡ true) × Fines ts
+
+  pub Fines : Trees → Type 0
+  Fines nil = Unit {0}
+  Fines (cons t ts) = Fine t × Fines ts
+
+pub record Checked (t : Tree) (b : Bool) (ids : List ℕ) : Type 0 where
+  pub fine : Fine t
+  pub placed : Clear (misplaced t b)
+  pub fresh : Clear (rebound t ids)
+  pub known : Clear (unbound t ids)
+
+-- here b says that these are a block's children
+pub record CheckedIn (ts : Trees) (b : Bool) (ids : List ℕ) : Type 0 where
+  pub fine : Fines ts
+  pub placed : Clear (misplacedIn ts b)
+  pub fresh : Clear (reboundIn ts ids)
+  pub known : Clear (unboundIn ts ids)
+
+-- ---- the first child and the rest
+
+module _ (t : Tree) (ts : Trees) (b : Bool) (ids : List ℕ) where
+  -- t has to be a definition
+  abbrev defHere : Bool
+  defHere = b && not (isNil ts)
+
+  pub checked-head : CheckedIn (cons t ts) b ids → Checked t (b && not (isNil ts)) ids
+  unfolding misplacedIn reboundIn unboundIn
+  checked-head h = record {
+    fine = h .fine .0;
+    placed = clear-left (misplaced t defHere) (misplacedIn ts b) (h .placed);
+    fresh = clear-left (rebound t ids) (reboundIn ts (after t ++ ids)) (h .fresh);
+    known = clear-left (unbound t ids) (unboundIn ts (after t ++ ids)) (h .known);
+  }
+
+  pub checked-tail : CheckedIn (cons t ts) b ids → CheckedIn ts b (after t ++ ids)
+  unfolding misplacedIn reboundIn unboundIn
+  checked-tail h = record {
+    fine = h .fine .1;
+    placed = clear-right (misplaced t defHere) (misplacedIn ts b) (h .placed);
+    fresh = clear-right (rebound t ids) (reboundIn ts (after t ++ ids)) (h .fresh);
+    known = clear-right (unbound t ids) (unboundIn ts (after t ++ ids)) (h .known);
+  }
+
+  pub checked-join : Checked t (b && not (isNil ts)) ids → CheckedIn ts b (after t ++ ids) → CheckedIn (cons t ts) b ids
+  unfolding misplacedIn reboundIn unboundIn
+  checked-join h k = record {
+    fine = (h .fine, k .fine);
+    placed = clear-join (misplaced t defHere) (misplacedIn ts b) (h .placed) (k .placed);
+    fresh = clear-join (rebound t ids) (reboundIn ts (after t ++ ids)) (h .fresh) (k .fresh);
+    known = clear-join (unbound t ids) (unboundIn ts (after t ++ ids)) (h .known) (k .known);
+  }
+
+pub nil-checked : (b : Bool) (ids : List ℕ) → CheckedIn nil b ids
+unfolding misplaced rebound unbound
+nil-checked b ids = record { fine = tt; placed = tt; fresh = tt; known = tt }
+
+-- ---- a record and its children
+
+module _ (r : Rec) (ts : Trees) (b : Bool) (ids : List ℕ) (c : Checked (node r ts) b ids) where
+  pub checked-kids : CheckedIn ts (isBlock r) (inside r ++ ids)
+  unfolding misplaced rebound unbound
+  checked-kids = record { fine = c .fine .2; placed = c .placed .1; fresh = c .fresh .1; known = c .known .1 }
+
+  -- check 8: it is a definition exactly where one has to stand
+  pub checked-place : eqb (r .shape) 10 ≡ b
+  unfolding misplaced
+  checked-place = go (eqb (r .shape) 10) b (c .placed .0)
+    where
+      go : (a b : Bool) → not (Bool·beq a b) ≡ false → a ≡ b
+      go true true e = refl
+      go true false e = e
+      go false true e = sym e
+      go false false e = refl
+
+  -- check 9: no id of its own is in force already, and none comes twice
+  pub checked-own : (anyIn (after (node r ts) ++ inside r) ids || twice (after (node r ts) ++ inside r)) ≡ false
+  unfolding rebound
+  checked-own = c .fresh .0
+
+  -- check 10: if it is a use, its id is in force
+  pub checked-use : (eqb (r .shape) 7 && not (isIn (idOf r) ids)) ≡ false
+  unfolding unbound
+  checked-use = c .known .0
+
+-- what stands where no definition may stand binds nothing in what follows
+no-after : (t : Tree) (ids : List ℕ) → Checked t false ids → after t ≡ []
+unfolding after
+no-after (node r ts) ids c = rw (checked-place r ts false ids c, after)
+
+pub plain-join : (t : Tree) (ts : Trees) (ids : List ℕ) → Checked t false ids → CheckedIn ts false ids →
+    CheckedIn (cons t ts) false ids
+plain-join t ts ids c k = checked-join t ts false ids c (rw (no-after t ids c) k)

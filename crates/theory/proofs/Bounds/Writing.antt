@@ -1,0 +1,287 @@
+-- Every number of a built tree's records is a byte, and so each id is below 2^32, if the symbols' records are of bytes
+-- and the tree is not too large: a record gives at most 16 ids, so from `last` on a tree of n records has ids up to
+-- last + 16 × n.
+-- In order: ids as bytes; definitions and blocks; scopes; operations; lambdas; symbols, `build-has`.
+-- Assumes nothing.
+use mathlib.Core.Path.{_≡_, refl, ap, sym, _∙_, subst}
+use mathlib.Core.Logic.{inl, inr}
+use mathlib.Core.Bool.{Bool, true, false}
+use mathlib.Core.Option.{Option, none, some, Option·some-injective}
+use mathlib.Core.List.{List, [], _∷_, _++_}
+use Prim.Native.Nat.{ℕ, zero, suc, _+_, _*_, _≤_, _<_}
+use native.Mathlib.Omega.{arith}
+use lib.Dec.{eqb, ltb}
+use lib.ListN.{length, getD}
+use Rattle.model.specs.Bytes.{put32}
+use Rattle.model.specs.Down.{under, downFuel, down}
+use Rattle.model.specs.Tree.{rec, Tree, Trees, node, nil, cons, below, snoc, size, sizes}
+use Rattle.model.specs.Intern.{Node, constant, unparsed, argument, func, operation, Env, thunked}
+use Rattle.model.specs.Gate.{Graph, symOf}
+use Rattle.model.specs.Schedule.{schedule}
+use Rattle.model.specs.Materialize.{Builder, valUseOf, valDefOf, renames, onlyOf, wrapBlock, idGiven, member, define}
+use Rattle.model.specs.Materialize.{processScope, buildOp, argLit, argEnv, buildNode, buildStep, buildValue}
+use Rattle.laws.proofs.Apart.{none-some}
+use Rattle.laws.proofs.Members.{Every}
+use Rattle.laws.proofs.Walks.{every-join}
+use Rattle.laws.proofs.ArgLists.{optsIn}
+use Rattle.theory.proofs.Building.Written.{def-size}
+use Rattle.theory.proofs.Bounds.Sound.{RecHas, TreeHas, TreesHave, OptsHave}
+
+abbrev pub Byte : ℕ → Type 0
+Byte b = b < 256
+
+-- from `last` on, n records give ids below 2^32
+abbrev pub Fit : ℕ → ℕ → Type 0
+Fit last n = last + 16 * n < 4294967296
+
+-- ---- ids as bytes
+
+id-has : (i : ℕ) → i < 4294967296 → Every Byte (put32 i)
+unfolding put32
+id-has i l x (inl e) = omega arith
+id-has i l x (inr (inl e)) = omega arith
+id-has i l x (inr (inr (inl e))) = omega arith
+id-has i l x (inr (inr (inr (inl e)))) = omega arith
+id-has i l x (inr (inr (inr (inr e)))) = absurd e
+
+zero-has : Every Byte (0 ∷ [])
+zero-has x (inl e) = omega arith
+zero-has x (inr e) = absurd e
+
+use-has : (i : ℕ) → i < 4294967296 → TreeHas Byte (valUseOf i)
+unfolding valUseOf
+use-has i l =
+    (record { shape-has = omega arith; opcode-has = omega arith; aux-has = omega arith; lit-has = id-has i l }, tt)
+
+def-has : (i : ℕ) (v : Tree) → i < 4294967296 → TreeHas Byte v → TreeHas Byte (valDefOf i v)
+unfolding valDefOf
+def-has i v l h =
+    let lit = every-join Byte (put32 i) (0 ∷ []) (id-has i l) zero-has in
+    (record { shape-has = omega arith; opcode-has = omega arith; aux-has = omega arith; lit-has = lit }, (h, tt))
+
+-- ---- definitions and blocks
+
+-- a definition whose id is the next after at most l
+abbrev DefHas : ℕ → Tree → Type 0
+DefHas l d = (i : ℕ) × (v : Tree) × (d ≡ valDefOf i v) × (i ≤ suc l) × (Fit l (size v) → TreeHas Byte v)
+
+abbrev DefsHave : ℕ → Trees → Type 0
+DefsHave l nil = Unit {0}
+DefsHave l (cons d ds) = DefHas l d × DefsHave (l + 16 * size d) ds
+
+defs-snoc : (l : ℕ) (ds : Trees) (d : Tree) → DefsHave l ds → DefHas (l + 16 * sizes ds) d → DefsHave l (snoc ds d)
+unfolding snoc sizes
+defs-snoc l nil d h k = (subst (λ (z : ℕ). DefHas z d) (omega arith) k, tt)
+defs-snoc l (cons e ds) d h k =
+    (h .0, defs-snoc (l + 16 * size e) ds d (h .1) (subst (λ (z : ℕ). DefHas z d) (omega arith) k))
+
+snoc-sizes : (ds : Trees) (d : Tree) → sizes (snoc ds d) ≡ sizes ds + size d
+unfolding snoc sizes
+snoc-sizes nil d = omega arith
+snoc-sizes (cons e ds) d = omega (arith, snoc-sizes ds d)
+
+snoc-have : (ds : Trees) (d : Tree) → TreesHave Byte ds → TreeHas Byte d → TreesHave Byte (snoc ds d)
+unfolding snoc
+snoc-have nil d h k = (k, tt)
+snoc-have (cons e ds) d h k = (h .0, snoc-have ds d (h .1) k)
+
+one-has : (l : ℕ) (d : Tree) → DefHas l d → Fit l (size d) → TreeHas Byte d
+one-has l d (i, v, e, li, h) f = rw e (def-has i v (omega (arith, f, s)) (h (omega (arith, f, s))))
+  where
+    s : size d ≡ suc (size v)
+    s = ap size e ∙ def-size i v
+
+defs-have : (l : ℕ) (ds : Trees) → DefsHave l ds → Fit l (sizes ds) → TreesHave Byte ds
+unfolding sizes
+defs-have l nil h f = tt
+defs-have l (cons d ds) h f = (one-has l d (h .0) (omega arith), defs-have (l + 16 * size d) ds (h .1) (omega arith))
+
+block-has : (ts : Trees) → TreesHave Byte ts → TreeHas Byte (node (rec 11 0xD8 0 []) ts)
+block-has ts h =
+    (record { shape-has = omega arith; opcode-has = omega arith; aux-has = omega arith; lit-has = λ x i. absurd i }, h)
+
+only-has : (l : ℕ) (d r : Tree) → DefHas l d → Fit l (size (onlyOf (below d) r)) → TreeHas Byte (onlyOf (below d) r)
+unfolding valDefOf
+only-has l d r (i, v, e, li, h) f =
+    subst (λ (z : Tree). Fit l (size (onlyOf (below z) r)) → TreeHas Byte (onlyOf (below z) r)) (sym e) h f
+
+wrap-has : (l : ℕ) (ds : Trees) (r : Tree) → DefsHave l ds → (Fit (l + 16 * sizes ds) (size r) → TreeHas Byte r) →
+    Fit l (size (wrapBlock ds r)) → TreeHas Byte (wrapBlock ds r)
+unfolding wrapBlock sizes size
+wrap-has l nil r h k f = k (omega arith)
+wrap-has l (cons d nil) r h k f = go (renames d (below d) r) f
+  where
+    value : (b : Bool) → Tree
+    value b = elim b [ true ↦ onlyOf (below d) r | false ↦ node (rec 11 0xD8 0 []) (cons d (cons r nil)) ]
+
+    go : (b : Bool) → Fit l (size (value b)) → TreeHas Byte (value b)
+    go true f = only-has l d r (h .0) f
+    go false f =
+        block-has (cons d (cons r nil)) (one-has l d (h .0) (omega arith), (k (omega arith), tt))
+wrap-has l (cons d (cons e ds)) r h k f =
+    let w = defs-have l (cons d (cons e ds)) h (omega (arith, snoc-sizes ds r)) in
+    block-has (cons d (cons e (snoc ds r))) (
+      w .0,
+      (
+        w .1 .0,
+        snoc-have ds r (w .1 .1) (k (omega (arith, snoc-sizes ds r))),
+      ),
+    )
+
+-- ---- scopes
+
+abbrev pub IdsTo : Env → ℕ → Type 0
+IdsTo env last = (s i : ℕ) → idGiven env s ≡ some i → i ≤ last
+
+ids-def : (s : ℕ) (env : Env) (last : ℕ) → IdsTo env last → IdsTo ((s, suc last) ∷ env) (suc last)
+unfolding idGiven
+ids-def s env last h t i e = go (eqb s t) e
+  where
+    go : (b : Bool) → elim b [ true ↦ some (suc last) | false ↦ idGiven env t ] ≡ some i → i ≤ suc last
+    go true e = omega (arith, Option·some-injective _ _ e)
+    go false e = omega (arith, h t i e)
+
+ids-args : (xs : List (ℕ × List ℕ)) (env : Env) (last : ℕ) → IdsTo env last →
+    IdsTo (argEnv last xs env) (last + length xs)
+ids-args [] env last h t i e = omega (arith, h t i e)
+ids-args (x ∷ xs) env last h t i e =
+    omega (arith, ids-args xs ((x .0, suc last) ∷ env) (suc last) (ids-def (x .0) env last h) t i e)
+
+-- one of two trees that are of bytes
+one-of : (b : Bool) (t u : Tree) (l : ℕ) → (Fit l (size t) → TreeHas Byte t) → (Fit l (size u) → TreeHas Byte u) →
+    Fit l (size (elim b [ true ↦ t | false ↦ u ])) → TreeHas Byte (elim b [ true ↦ t | false ↦ u ])
+one-of true t u l x y ft = x ft
+one-of false t u l x y ft = y ft
+
+-- a builder whose trees are of bytes
+abbrev Writes : Builder → ℕ → Type 0
+Writes f s =
+    (sc : ℕ) (env : Env) (last : ℕ) → IdsTo env last → Fit last (size (f s sc env last)) → TreeHas Byte
+    (f s sc env last)
+
+module _ (g : Graph) (f : Builder) (ok : (s : ℕ) → Writes f s) where
+  define-has : (root sc : ℕ) (order : List ℕ) (env : Env) (last : ℕ) (defs : Trees) (l : ℕ) → IdsTo env last →
+      last ≤ l + 16 * sizes defs → DefsHave l defs → Fit l (size (define g f root sc order env last defs)) →
+      TreeHas Byte (define g f root sc order env last defs)
+  unfolding define
+  define-has root sc [] env last defs l ids low h ft =
+      wrap-has l defs (f root sc env last) h (λ q. ok root sc env last ids (omega arith)) ft
+  define-has root sc (s ∷ order) env last defs l ids low h ft =
+      one-of (member g sc env s) (define g f root sc order ((s, suc last) ∷ env) (suc last) (snoc defs d))
+      (define g f root sc order env last defs) l
+      (define-has root sc order ((s, suc last) ∷ env) (suc last) (snoc defs d) l (ids-def s env last ids)
+      (omega (arith, snoc-sizes defs d, def-size (suc last) (f s sc env last))) (defs-snoc l defs d h new))
+      (define-has root sc order env last defs l ids low h) ft
+    where
+      d : Tree
+      d = valDefOf (suc last) (f s sc env last)
+
+      new : DefHas (l + 16 * sizes defs) (valDefOf (suc last) (f s sc env last))
+      new = (suc last, f s sc env last, refl, omega arith, λ q. ok s sc env last ids (omega arith))
+
+  process-has : (root sc : ℕ) (env : Env) (last : ℕ) → IdsTo env last →
+      Fit last (size (processScope g f root sc env last)) →
+      TreeHas Byte (processScope g f root sc env last)
+  unfolding processScope sizes
+  process-has root sc env last ids ft =
+      define-has root sc (schedule g root sc) env last nil last ids (omega arith) tt ft
+
+  -- ---- operations
+
+  op-has : (sc : ℕ) (env : Env) (last op j : ℕ) (ks brs : List ℕ) → IdsTo env last →
+      Fit last (sizes (buildOp g f sc env last op j ks brs)) →
+      TreesHave Byte (buildOp g f sc env last op j ks brs)
+  unfolding buildOp sizes
+  op-has sc env last op j [] brs ids ft = tt
+  op-has sc env last op j (k ∷ ks) [] ids ft =
+      (ok k sc env last ids (omega arith), op-has sc env last op (suc j) ks [] ids (omega arith))
+  op-has sc env last op j (k ∷ ks) (b ∷ brs) ids ft =
+      go (thunked op j) (processScope g f k b env last) (f k sc env last) (buildOp g f sc env last op (suc j) ks brs)
+      (buildOp g f sc env last op (suc j) ks (b ∷ brs)) (process-has k b env last ids) (ok k sc env last ids)
+      (op-has sc env last op (suc j) ks brs ids) (op-has sc env last op (suc j) ks (b ∷ brs) ids) ft
+    where
+      go : (x : Bool) (t u : Tree) (ts us : Trees) → (Fit last (size t) → TreeHas Byte t) →
+          (Fit last (size u) → TreeHas Byte u) →
+          (Fit last (sizes ts) → TreesHave Byte ts) → (Fit last (sizes us) → TreesHave Byte us) →
+          Fit last (sizes (elim x [ true ↦ cons t ts | false ↦ cons u us ])) →
+          TreesHave Byte (elim x [ true ↦ cons t ts | false ↦ cons u us ])
+      go true t u ts us a b c d ft = (a (omega arith), c (omega arith))
+      go false t u ts us a b c d ft = (b (omega arith), d (omega arith))
+
+  -- ---- lambdas and symbols
+
+  lit-has : (last : ℕ) (xs : List (ℕ × List ℕ)) → last + length xs < 4294967296 → OptsHave Byte (optsIn xs) →
+      Every Byte (argLit last xs)
+  unfolding argLit
+  lit-has last [] l h = λ x i. absurd i
+  lit-has last (a ∷ xs) l h =
+      every-join Byte (put32 (suc last)) (a .1 ++ argLit (suc last) xs) (id-has (suc last) (omega arith))
+      (every-join Byte (a .1) (argLit (suc last) xs) (h .0) (lit-has (suc last) xs (omega arith) (h .1)))
+
+-- a node whose opts are of bytes
+abbrev pub NodeHas : Node → Type 0
+NodeHas constant = Unit {0}
+NodeHas unparsed = Unit {0}
+NodeHas argument = Unit {0}
+NodeHas (func xs b) = (length xs ≤ 15) × OptsHave Byte (optsIn xs)
+NodeHas (operation brs) = Unit {0}
+
+module _ (g : Graph) (recs : (s : ℕ) → RecHas Byte (symOf g s .rec)) (nodes : (s : ℕ) → NodeHas (symOf g s .node)) where
+  step-has : (f : Builder) → ((s : ℕ) → Writes f s) → (s : ℕ) → Writes (buildStep g f) s
+  unfolding buildStep buildNode size
+  step-has f ok s sc env last ids ft = given (idGiven env s) refl ft
+    where
+      built : (nd : Node) → NodeHas nd → Fit last (size (buildNode g f (symOf g s) nd sc env last)) →
+          TreeHas Byte (buildNode g f (symOf g s) nd sc env last)
+      built constant h ft = (recs s, tt)
+      built unparsed h ft = (recs s, tt)
+      built argument h ft = use-has 0 (omega arith)
+      built (func xs b) h ft = (
+        record {
+          shape-has = omega arith;
+          opcode-has = omega arith;
+          aux-has = omega (arith, h .0);
+          lit-has = lit-has g f ok last xs (omega (arith, h .0)) (h .1);
+        },
+        (
+          process-has g f ok (getD (symOf g s .kids) 0 0) b (argEnv last xs env) (suc (last + length xs))
+              (λ t i e. omega (arith, ids-args xs env last ids t i e)) (omega (arith, h .0)),
+          tt,
+        ),
+      )
+      built (operation brs) h ft =
+          (recs s, op-has g f ok sc env last (symOf g s .rec .opcode) 0 (symOf g s .kids) brs ids (omega arith))
+
+      tree : Option ℕ → Tree
+      tree o = elim o [ some i ↦ valUseOf i | none ↦ buildNode g f (symOf g s) (symOf g s .node) sc env last ]
+
+      given : (o : Option ℕ) → idGiven env s ≡ o → Fit last (size (tree o)) → TreeHas Byte (tree o)
+      given (some i) e ft = use-has i (omega (arith, ids s i e))
+      given none e ft = built (symOf g s .node) (nodes s) ft
+
+  abbrev zeroUse : ℕ → Env → ℕ → Tree
+  zeroUse sc env last = valUseOf 0
+
+  under-has : (n : ℕ) (f : Builder) → ((s : ℕ) → Writes f s) → (s : ℕ) → Writes (under zeroUse n f) s
+  unfolding under
+  under-has n f ok s = go (ltb s n)
+    where
+      go : (b : Bool) (sc : ℕ) (env : Env) (last : ℕ) → IdsTo env last →
+          Fit last (size ((elim b as (λ z. ℕ → Env → ℕ → Tree) [ true ↦ f s | false ↦ zeroUse ]) sc env last)) →
+          TreeHas Byte ((elim b as (λ z. ℕ → Env → ℕ → Tree) [ true ↦ f s | false ↦ zeroUse ]) sc env last)
+      go true sc env last ids ft = ok s sc env last ids ft
+      go false sc env last ids ft = use-has 0 (omega arith)
+
+  fuel-has : (m s : ℕ) → Writes (downFuel zeroUse (buildStep g) m) s
+  unfolding downFuel
+  fuel-has zero s = λ sc env last ids ft. use-has 0 (omega arith)
+  fuel-has (suc m) s = step-has (under zeroUse s (downFuel zeroUse (buildStep g) m)) (under-has s _ (fuel-has m)) s
+
+  pub build-has : (s : ℕ) → Writes (buildValue g) s
+  unfolding buildValue down
+  build-has s = fuel-has (suc s) s
+
+  pub scope-has : (root sc : ℕ) → Fit 0 (size (processScope g (buildValue g) root sc [] 0)) →
+      TreeHas Byte (processScope g (buildValue g) root sc [] 0)
+  unfolding idGiven
+  scope-has root sc ft = process-has g (buildValue g) build-has root sc [] 0 (λ s i e. none-some e) ft

@@ -1,0 +1,169 @@
+-- What each of the paper's numbers says: `Applies forest room words n p` is the condition of number n, with its place
+-- p, on a call with this forest, so many output bytes and so many work words. The conditions are said each for itself:
+-- none speaks of another number or of the order in which the call tests them.
+-- In order: words for places; the forest's header, directory and records; interning and the tree that document 01
+-- defines; the fourteen conditions.
+-- Assumes nothing.
+use mathlib.Core.Path.{_≡_}
+use mathlib.Core.Logic.{_⊎_, _≢_}
+use mathlib.Core.Bool.{Bool, true, false}
+use mathlib.Core.List.{List, [], _∷_}
+use Prim.Native.Nat.{ℕ, zero, suc, _+_, _*_, _≤_, _<_}
+use lib.ListN.{length, getD, take}
+use Rattle.model.specs.Answer.{refused, good}
+use Rattle.model.specs.Tree.{rec, Row, size, depth}
+use Rattle.model.specs.Shape.{fits, agrees}
+use Rattle.model.specs.Forest.{treeCount, recordCount, pairsOf, rowsIn, treesOf, deeps}
+use Rattle.model.specs.Binding.{misplacedIn, reboundIn, unboundIn}
+use Rattle.model.specs.Intern.{State, Out, internForest}
+use Rattle.model.specs.Call.{rootOf, treeOf, bytesOf, numbers}
+
+-- ---- places
+
+-- p is the first place of which P holds: "Place is the first offending record (3: pair) counted from 0"
+abbrev pub First : (ℕ → Type 0) → ℕ → Type 0
+First P p = P p × ((q : ℕ) → q < p → P q → ⊥)
+
+-- a list with a test for each record, in the file's order, marks record p
+abbrev pub Marked : List Bool → ℕ → Type 0
+Marked tests p = getD tests p false ≡ true
+
+-- ---- 2 and 3: the header and the directory
+
+-- "Bytes 0 to 1: trees, 1 to 16. Bytes 2 to 3: records N, 1 to 256"
+abbrev pub InRange : List ℕ → Type 0
+InRange forest =
+    (1 ≤ treeCount forest) × (treeCount forest ≤ 16) × (1 ≤ recordCount forest) × (recordCount forest ≤ 256)
+
+-- "under 4 or over 65,535 bytes, or header counts out of range"
+abbrev pub HeaderOffends : List ℕ → Type 0
+HeaderOffends forest = (length forest < 4) ⊎ (65535 < length forest) ⊎ (InRange forest → ⊥)
+
+-- where the directory ends, "4 + 4 × N"
+abbrev pub directoryEnd : List ℕ → ℕ
+directoryEnd forest = 4 + 4 * recordCount forest
+
+abbrev pub offsetAt : List ℕ → ℕ → ℕ
+offsetAt forest p = getD (pairsOf forest) p (0, 0) .0
+
+abbrev pub lengthAt : List ℕ → ℕ → ℕ
+lengthAt forest p = getD (pairsOf forest) p (0, 0) .1
+
+-- where pair p has to start: "the first offset is 4 + 4 × N, each next is the previous offset plus length"
+abbrev pub startOf : List ℕ → ℕ → ℕ
+startOf forest zero = directoryEnd forest
+startOf forest (suc p) = offsetAt forest p + lengthAt forest p
+
+-- pair p starts elsewhere, is too short ("a length is at least 5"), or is the last and does not end "at the forest's
+-- end"
+abbrev pub PairOffends : List ℕ → ℕ → Type 0
+PairOffends forest p =
+    (p < recordCount forest) ×
+    ((offsetAt forest p ≢ startOf forest p) ⊎ (lengthAt forest p < 5) ⊎
+    ((suc p ≡ recordCount forest) × (offsetAt forest p + lengthAt forest p ≢ length forest)))
+
+-- "directory": place 0 "when the directory does not fit", else the first pair that offends
+abbrev pub DirectoryOffends : List ℕ → ℕ → Type 0
+DirectoryOffends forest p =
+    ((p ≡ 0) × (length forest < directoryEnd forest)) ⊎
+    ((directoryEnd forest ≤ length forest) × First (PairOffends forest) p)
+
+-- ---- 4 to 6: records
+
+-- record p, with its child count; `noRecord` where there is none
+abbrev pub noRecord : Row
+noRecord = record { rec = rec 0 0 0 []; kids = 0 }
+
+abbrev pub recordAt : List ℕ → ℕ → Row
+recordAt forest p = getD (rowsIn forest) p noRecord
+
+-- "4, a record against its shape"
+abbrev pub ShapeOffends : List ℕ → ℕ → Type 0
+ShapeOffends forest p = (p < recordCount forest) × (fits (recordAt forest p) ≡ false)
+
+-- "5, opcode against shape"
+abbrev pub OpcodeOffends : List ℕ → ℕ → Type 0
+OpcodeOffends forest p = (p < recordCount forest) × (agrees (recordAt forest p .rec) ≡ false)
+
+-- how many children some records have
+abbrev pub children : List Row → ℕ
+children [] = 0
+children (r ∷ rs) = r .kids + children rs
+
+-- the first p records are all the trees: a record for each tree and for each child of these records
+abbrev pub Closed : List ℕ → ℕ → Type 0
+Closed forest p = treeCount forest + children (take p (rowsIn forest)) ≡ p
+
+-- "6, trees do not close": "the first record left over, or the record count if records lack"
+abbrev pub TreesOffend : List ℕ → ℕ → Type 0
+TreesOffend forest p =
+    ((p < recordCount forest) × First (Closed forest) p) ⊎
+    ((p ≡ recordCount forest) × ((q : ℕ) → q ≤ recordCount forest → Closed forest q → ⊥))
+
+-- ---- 11 to 14: symbols, and the tree that is made of them
+
+-- the root's symbol and the symbols and scopes of the forest, or the refusal that interning meets
+abbrev pub interning : List ℕ → Out
+interning forest = rootOf (internForest (treesOf forest))
+
+-- document 01 defines a tree for the forest: o is the root's symbol, with the symbols and scopes
+abbrev pub Defined : List ℕ → ℕ × State → Type 0
+Defined forest o = interning forest ≡ good o
+
+-- "a written tree over 256 records, over 65,535 bytes or longer than the output"
+abbrev pub TooLarge : ℕ → ℕ × State → Type 0
+TooLarge room o = (256 < size (treeOf o)) ⊎ (65535 < length (bytesOf o)) ⊎ (room < length (bytesOf o))
+
+-- ---- the conditions
+
+pub data Applies (forest : List ℕ) (room words : ℕ) : ℕ → ℕ → Type 0 where
+  -- "under 16,384 work words"
+  at-1 : words < 16384 → Applies forest room words 1 0
+  -- "under 4 or over 65,535 bytes, or header counts out of range"
+  at-2 : HeaderOffends forest → Applies forest room words 2 0
+  -- "directory"
+  at-3 : (p : ℕ) → DirectoryOffends forest p → Applies forest room words 3 p
+  -- "a record against its shape"
+  at-4 : (p : ℕ) → First (ShapeOffends forest) p → Applies forest room words 4 p
+  -- "opcode against shape"
+  at-5 : (p : ℕ) → First (OpcodeOffends forest) p → Applies forest room words 5 p
+  -- "trees do not close"
+  at-6 : (p : ℕ) → TreesOffend forest p → Applies forest room words 6 p
+  -- "deeper than 64 (a root has depth 1)": `deeps` marks each record that is
+  at-7 : (p : ℕ) → First (Marked (deeps (treesOf forest) 1)) p → Applies forest room words 7 p
+  -- "a definition out of place": `misplacedIn` marks each, and each record that stands where a definition has to stand
+  at-8 : (p : ℕ) → First (Marked (misplacedIn (treesOf forest) false)) p → Applies forest room words 8 p
+  -- "an id bound while in force or twice in one lambda": `reboundIn` marks each record that binds so
+  at-9 : (p : ℕ) → First (Marked (reboundIn (treesOf forest) [])) p → Applies forest room words 9 p
+  -- "a use of an id not in force": `unboundIn` marks each
+  at-10 : (p : ℕ) → First (Marked (unboundIn (treesOf forest) [])) p → Applies forest room words 10 p
+  -- "over 2,048 readings", "as interning meets them": the place is "the record being read"
+  at-11 : (p : ℕ) → interning forest ≡ refused 11 p → Applies forest room words 11 p
+  -- "over 512 symbols": the place is "the one whose symbol is being made"
+  at-12 : (p : ℕ) → interning forest ≡ refused 12 p → Applies forest room words 12 p
+  -- "a written tree over 256 records, over 65,535 bytes or longer than the output"
+  at-13 : (o : ℕ × State) → Defined forest o → TooLarge room o → Applies forest room words 13 0
+  -- "a written tree deeper than 64"
+  at-14 : (o : ℕ × State) → Defined forest o → 64 < depth (treeOf o) → Applies forest room words 14 0
+
+-- ---- what is said of a call with them
+
+-- the number and the place that the call gives
+abbrev pub number : List ℕ → ℕ → ℕ → ℕ
+number forest room words = numbers forest room words .number
+
+abbrev pub place : List ℕ → ℕ → ℕ → ℕ
+place forest room words = numbers forest room words .place
+
+-- "A forest is accepted when none of 2 to 10 applies", whatever output and work words are lent
+abbrev pub Accepted : List ℕ → Type 0
+Accepted forest = (room words n p : ℕ) → 2 ≤ n → n ≤ 10 → Applies forest room words n p → ⊥
+
+-- no refusal applies to the call
+abbrev pub NoneApplies : List ℕ → ℕ → ℕ → Type 0
+NoneApplies forest room words = (n p : ℕ) → Applies forest room words n p → ⊥
+
+-- number n applies, with place p, and no lower number does
+abbrev pub LowestApplies : List ℕ → ℕ → ℕ → ℕ → ℕ → Type 0
+LowestApplies forest room words n p =
+    Applies forest room words n p × ((m q : ℕ) → m < n → Applies forest room words m q → ⊥)

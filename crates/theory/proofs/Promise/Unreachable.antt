@@ -1,0 +1,83 @@
+-- What the Rust guards by `expect` and `unreachable!`, said of the definitions: none of it can be met after checks 4
+-- to 10. codec.rs, `recompose`, "fewer rebuilt children than the template": `rebuilt-count`, and `operations` below.
+-- materialize.rs, `build_op` and `op_of` "on a non-Op symbol", and a thunk without its branch scope: `operations`.
+-- intern.rs, "global scope is always open": `tables-open`, which Bounds.Sound says at every point. A use without a
+-- binding: `use-bound`. `val_use(0)` for an argument outside its lambda: `argument-never-met` in Main.
+-- Assumes nothing.
+use mathlib.Core.Path.{_≡_, refl, ap, subst}
+use mathlib.Core.Bool.{Bool, true, false, not, _&&_}
+use mathlib.Core.List.{List, [], _∷_}
+use Prim.Native.Nat.{ℕ, suc, _≤_, _<_}
+use lib.ListN.{length}
+use borrow.Author.Tests.{eq-eqb, not-false}
+use Rattle.model.specs.Lists.{isIn}
+use Rattle.model.specs.Answer.{good}
+use Rattle.model.specs.Tree.{Rec, Trees, node, cons, many, root}
+use Rattle.model.specs.Shape.{fits}
+use Rattle.model.specs.Binding.{idOf, unbound}
+use Rattle.model.specs.Accept.{accept}
+use Rattle.model.specs.Intern.{operation, State, Env, thunked}
+use Rattle.model.specs.Gate.{Graph}
+use Rattle.model.specs.Materialize.{Builder, processScope, buildOp}
+use Rattle.model.specs.Call.{interned}
+use Rattle.laws.proofs.Clear.{Clear}
+use Rattle.laws.proofs.Holds.{Holds}
+use Rattle.laws.proofs.Members.{In, isIn-true}
+use Rattle.theory.proofs.Interning.Good.{NodeOk, symCount, scopeCount, recAt, kidsAt, nodeAt}
+use Rattle.theory.proofs.Interning.Interned.{Ready, interned-ready}
+use Rattle.theory.proofs.Bounds.Sound.{thunks, NodeSound, Sound}
+use Rattle.theory.proofs.Bounds.Limits.{Any, forest-sound}
+
+-- an operation is built with as many children as it has child symbols
+pub rebuilt-count : (g : Graph) (f : Builder) (sc : ℕ) (env : Env) (last op j : ℕ) (ks brs : List ℕ) →
+    many (buildOp g f sc env last op j ks brs) ≡ length ks
+unfolding buildOp many
+rebuilt-count g f sc env last op j [] brs = refl
+rebuilt-count g f sc env last op j (k ∷ ks) [] = ap suc (rebuilt-count g f sc env last op (suc j) ks [])
+rebuilt-count g f sc env last op j (k ∷ ks) (b ∷ brs) =
+    go (thunked op j) (rebuilt-count g f sc env last op (suc j) ks brs)
+    (rebuilt-count g f sc env last op (suc j) ks (b ∷ brs))
+  where
+    go : (t : Bool) → many (buildOp g f sc env last op (suc j) ks brs) ≡ length ks →
+        many (buildOp g f sc env last op (suc j) ks (b ∷ brs)) ≡ length ks →
+        many (elim t [
+          | true ↦ cons (processScope g f k b env last) (buildOp g f sc env last op (suc j) ks brs)
+          | false ↦ cons (f k sc env last) (buildOp g f sc env last op (suc j) ks (b ∷ brs))
+        ]) ≡ suc (length ks)
+    go true e d = ap suc e
+    go false e d = ap suc d
+
+-- a use of an id that is in force where it stands
+pub use-bound : (r : Rec) (ts : Trees) (ids : List ℕ) → Clear (unbound (node r ts) ids) → r .shape ≡ 7 → In (idOf r) ids
+unfolding unbound
+use-bound r ts ids known e =
+    let test = subst (λ (z : Bool). (z && not (isIn (idOf r) ids)) ≡ false) (eq-eqb (r .shape) 7 e) (known .0) in
+    isIn-true (idOf r) ids (not-false (isIn (idOf r) ids) test)
+
+-- of the operation symbols: an opcode of their own, as many children as the record's shape has, a branch scope for each
+-- thunk
+pub record Operation (st : State) (s : ℕ) (brs : List ℕ) : Type 0 where
+  pub has-opcode : 2 ≤ recAt (st .syms) s .shape
+  pub kids-fit : fits (record { rec = recAt (st .syms) s; kids = length (kidsAt (st .syms) s) }) ≡ true
+  pub scopes-fit : length brs ≡ thunks (recAt (st .syms) s .opcode) 0 (kidsAt (st .syms) s)
+
+pub record NeverMet (st : State) : Type 0 where
+  pub tables-open : 1 ≤ length (st .tables)
+  pub operations : (s : ℕ) (brs : List ℕ) → s < symCount st → nodeAt (st .syms) s ≡ operation brs → Operation st s brs
+
+pub never-met : (forest : List ℕ) (ts : Trees) → accept forest ≡ good ts → (o : ℕ × State) → interned forest ≡ good o →
+    NeverMet (o .1)
+never-met forest ts e o is = record {
+  tables-open = sound .tables-open;
+  operations = λ s brs l q.
+      let w = subst (NodeSound Any s (scopeCount (o .1)) (recAt (o .1 .syms) s) (kidsAt (o .1 .syms) s)) q
+      (sound .syms-sound s l .node-sound) in
+      let v = subst (NodeOk (o .1 .syms) (o .1 .scopes) s) q (ready .inv .good s l .node-is) in
+      record { has-opcode = w .1; kids-fit = v .0 .fits-is; scopes-fit = w .2 };
+}
+  where
+    ready : Ready (o .1) (o .0) (root ts)
+    ready = subst (Holds (λ o. Ready (o .1) (o .0) (root ts))) is (interned-ready forest ts e)
+
+    sound : Sound Any (o .1)
+    sound = forest-sound forest ts e o is .sound

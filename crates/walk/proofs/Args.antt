@@ -1,0 +1,90 @@
+-- A lambda's arguments, put on top one by one: what is left gives the whole.
+-- Assumes nothing.
+use Prim.Native.Nat.{ℕ, zero, suc, _+_, _-_, _<_, _≤_}
+use mathlib.Core.Path.{_≡_, refl, sym, ap, _∙_}
+use mathlib.Core.Option.{none}
+use mathlib.Core.List.{List, [], _∷_, _++_, map, append-nil}
+use native.Mathlib.Omega.{arith}
+use lib.ListN.{length, getD, set, drop, length-set}
+use Rattle.model.specs.Bytes.{u32}
+use Rattle.model.specs.Binding.{argsOf}
+use Rattle.model.specs.Shape.{aArg}
+use Rattle.shape.specs.Args.{Left, nextArg}
+use Rattle.shape.proofs.Args.{args-step, args-none, left-stands, left-id, left-next}
+use Rattle.walk.specs.Words.{idsOf, idsIn, argIdsAt, Kept, Bound}
+use Rattle.walk.proofs.Words.{kept-refl, kept-then, kept-set, push-one, pushed}
+
+-- of n arguments the last k are still to be put, from `at` on
+pub record Pushing (lit : List ℕ) (n top : ℕ) (ws₀ ws : List ℕ) (at k : ℕ) : Type 0 where
+  pub count : k ≤ n
+  pub left : Left k lit at
+  pub ids : idsIn ws (top + k) (n - k) ++ argIdsAt k (drop at lit) ≡ argIdsAt n lit
+  pub kept : Kept top ws₀ ws
+  pub size : length ws ≡ length ws₀
+
+module _ (lit : List ℕ) (n top : ℕ) (ws₀ : List ℕ) where
+  pub push-start : Left n lit 0 → Pushing lit n top ws₀ ws₀ 0 n
+  unfolding idsIn
+  push-start l = record {
+    count = omega arith;
+    left = l;
+    ids = let e : n - n ≡ 0 = omega arith in rw e;
+    kept = kept-refl top ws₀;
+    size = refl;
+  }
+
+  module _ (ws : List ℕ) (at k : ℕ) (h : Pushing lit n top ws₀ ws at k) where
+    module _ (lt : 0 < k) where
+      left-one : Left (suc (k - 1)) lit at
+      left-one = let e : k ≡ suc (k - 1) = omega arith in rw e at (h .left)
+
+      -- what `id_at` and `arg_end` require
+      pub push-id : at + 4 ≤ length lit
+      push-id = left-id left-one
+
+      pub push-stands : aArg (drop at lit) ≡ none → ⊥
+      push-stands = left-stands left-one
+
+      pub push-turn : (id next : ℕ) → top + n ≤ 3840 → 3840 ≤ length ws₀ → id ≡ u32 (drop at lit) →
+          next ≡ nextArg lit at →
+          Pushing lit n top ws₀ (set ws (top + (k - 1)) id) next (k - 1)
+      push-turn id next few room v e = record {
+        count = omega (arith, h .count);
+        left = rw e (left-next left-one);
+        ids =
+            push-one ws top n k id lt (h .count) (omega (arith, h .size)) (argIdsAt (k - 1) (drop next lit))
+            (argIdsAt n lit)
+            (ap (λ (z : List ℕ). idsIn ws (top + k) (n - k) ++ z) (sym step) ∙ h .ids);
+        kept =
+            kept-then top top ws₀ ws (set ws (top + (k - 1)) id) (omega arith) (h .kept)
+            (kept-set top ws (top + (k - 1)) id (omega arith) (omega (arith, h .count)));
+        size = length-set ws (top + (k - 1)) id ∙ h .size;
+      }
+        where
+          step : argIdsAt k (drop at lit) ≡ id ∷ argIdsAt (k - 1) (drop next lit)
+          step =
+              let z : k ≡ suc (k - 1) = omega arith in
+              ap (λ (m : ℕ). argIdsAt m (drop at lit)) z
+              ∙ ap (map (λ (a : ℕ × List ℕ). a .0)) (args-step (k - 1) lit at)
+              ∙ rw (v, e)
+
+    pub push-end : k ≤ 0 → n ≤ 15 → Bound ws₀ top (argIdsAt n lit) ws (top + n)
+    push-end le few = record {
+      ids = pushed ws₀ ws top n (argIdsAt n lit) all (h .kept);
+      least = omega arith;
+      most = omega arith;
+      kept = h .kept;
+    }
+      where
+        none-left : argIdsAt k (drop at lit) ≡ []
+        none-left =
+            let z : k ≡ 0 = omega arith in ap (λ (m : ℕ). argIdsAt m (drop at lit)) z
+            ∙ ap (map (λ (a : ℕ × List ℕ). a .0)) (args-none (drop at lit))
+
+        all : idsIn ws top n ≡ argIdsAt n lit
+        all =
+            let z : k ≡ 0 = omega arith in
+            let e : top + k ≡ top = omega arith in
+            let f : n - k ≡ n = omega arith in
+            sym (append-nil (idsIn ws top n))
+            ∙ (rw (e, f) at (ap (λ (l : List ℕ). idsIn ws (top + k) (n - k) ++ l) (sym none-left) ∙ h .ids))

@@ -1,0 +1,8 @@
+-- Laws of the walk, callees first. Assumes nothing.
+pub mod Words
+pub mod Tests
+pub mod Args
+pub mod Checks
+pub mod Bridge
+pub mod Steps
+pub mod Walking

@@ -1,0 +1,311 @@
+#!/usr/bin/env python3
+"""Shows that the theorem of demand 3 (crate theory) rests on what crate model defines: wrong definitions are refused.
+
+Usage: check_theorem.py [--jobs N] [NAME...]
+
+Each edit below gives the definitions another operand at one place and leaves their operations as they are. Where a proof repeats
+the definition's own words, the proof is given the edited words too: so the checker does not stop at words that differ, but at a
+fact that no longer holds. For each edit, in a temporary copy of the crates:
+
+- `refl` shows, under the edited definitions, how a small forest is written, and what becomes of that tree: it is not accepted
+  (number and place), or it unfolds to something else. So the theorem is false there, however it were proved. (The same forests,
+  under the definitions as they are, are written, accepted and unfold equally: the first thing that is checked.)
+- crate theory is refused. The first refused declaration is printed, with the beginning of what the checker says; it has to be
+  the one below. (Folder Bounds is passed over: the theorem does not need it.)
+
+edit       the fact that fails, and why it is the theorem's
+hoist      define-built takes from `member` that a definition's symbol is of the scope that is written. Only then are the arguments
+           that it depends on in force there; else it is written outside its lambda.
+one-id     numbered-once: the ids of a lambda's arguments stand once. Else two arguments are one, and check 9 refuses the tree.
+body-from  env-args: no id in force is above the last one given. Else a definition in a lambda's body takes an argument's id.
+literals   isKey-true: a symbol found by its key has the record that was sought. Else another literal is written for it.
+children   isKey-true: a symbol found by its key has the children that were sought. Else other children are written for it.
+next-id    ids-def: each id given is in force after its definition. Else a use is written of an id that nothing binds.
+placement  climb-stays: a symbol stays inside each lambda on whose arguments it depends. Else it is written outside of it.
+
+And one that must be accepted, so that a refusal says something: `gate` defines symbols that are used once, too. What is hoisted
+within its own scope is no matter of meaning, so the theorem holds (though the tree is then not the one that document 01 defines).
+`hoist` has that edit as well: of the symbols of deeper scopes, a schedule has only lambdas' bodies that depend on an argument not
+in force, and a lambda's body is used once.
+
+Exit status: 0 if each edit is refused with its counterexample and `gate` is accepted, 1 if not, 2 if the checker itself failed."""
+import argparse
+import os
+import re
+import shutil
+import subprocess
+import sys
+import tempfile
+from concurrent.futures import ThreadPoolExecutor
+
+TOP = os.path.dirname(os.path.dirname(os.path.abspath(__file__)))
+CRATES = ("model", "laws", "theory")
+
+COUNTER = """-- What becomes of a small forest: is the written tree accepted, and does it unfold to what the forest's root unfolds to?
+use Prim.Native.Nat.{ℕ}
+use mathlib.Core.Path.{_≡_, refl}
+use mathlib.Core.Bool.{Bool, true, false, _&&_}
+use mathlib.Core.List.{List, [], _∷_, _++_}
+use lib.Dec.{eqb}
+use Rattle.model.specs.Lists.{same}
+use Rattle.model.specs.Bytes.{put32}
+use Rattle.model.specs.Answer.{Answer, refused, good}
+use Rattle.model.specs.Tree.{Rec, rec, Tree, Trees, node, nil, cons, root, serialise}
+use Rattle.model.specs.Accept.{accept}
+use Rattle.model.specs.Unfold.{Unfolded, Unfoldeds, arg, lam, made, done, more, unfolded}
+use Rattle.model.specs.Call.{Written, run}
+use Rattle.model.specs.Computing.{computing}
+
+-- ---- equal unfoldings
+
+equalRecs : Rec → Rec → Bool
+equalRecs r q =
+    eqb (r .shape) (q .shape) && eqb (r .opcode) (q .opcode) && eqb (r .aux) (q .aux) && same (r .lit) (q .lit)
+
+equalOpts : List (List ℕ) → List (List ℕ) → Bool
+equalOpts [] [] = true
+equalOpts [] (y ∷ ys) = false
+equalOpts (x ∷ xs) [] = false
+equalOpts (x ∷ xs) (y ∷ ys) = same x y && equalOpts xs ys
+
+mutual
+  equal : Unfolded → Unfolded → Bool
+  equal (arg a b) (arg c d) = eqb a c && eqb b d
+  equal (arg a b) (lam t p c ys vs) = false
+  equal (arg a b) (made q vs) = false
+  equal (lam s o a xs us) (arg c d) = false
+  equal (lam s o a xs us) (lam t p c ys vs) = eqb s t && eqb o p && eqb a c && equalOpts xs ys && equals us vs
+  equal (lam s o a xs us) (made q vs) = false
+  equal (made r us) (arg c d) = false
+  equal (made r us) (lam t p c ys vs) = false
+  equal (made r us) (made q vs) = equalRecs r q && equals us vs
+
+  equals : Unfoldeds → Unfoldeds → Bool
+  equals done done = true
+  equals done (more v vs) = false
+  equals (more u us) done = false
+  equals (more u us) (more v vs) = equal u v && equals us vs
+
+-- ---- what becomes of a forest of one tree
+
+data Fate : Type 0 where
+  call-refuses not-accepted : ℕ → ℕ → Fate
+  unfolds : Bool → Fate
+
+read-back : Tree → Answer Trees → Fate
+read-back t (refused n p) = not-accepted n p
+read-back t (good ts) = unfolds (equal (unfolded (root ts)) (unfolded t))
+
+after-call : Tree → Answer Written → Fate
+after-call t (refused n p) = call-refuses n p
+after-call t (good w) = read-back t (accept (w .bytes))
+
+called : Tree → Answer Written
+called t = run (serialise (cons t nil)) 65535 16384
+
+fate : Tree → Fate
+fate t = after-call t (called t)
+
+-- an answer is this tree
+is : Answer Written → Tree → Bool
+is (refused n p) t = false
+is (good w) t = same (w .bytes) (serialise (cons t nil))
+
+-- ---- the paper's letters
+
+z : Tree
+z = node (rec 2 0xFE 0 []) nil
+
+h : Tree
+h = node (rec 2 0xA3 0 []) nil
+
+-- an SInt
+k : ℕ → Tree
+k n = node (rec 0 0 3 (n ∷ [])) nil
+
+n : Tree → Tree
+n a = node (rec 3 0xF0 0 []) (cons a nil)
+
+p : Tree → Tree → Tree
+p a b = node (rec 4 0x9A 0 []) (cons a (cons b nil))
+
+-- a use
+u : ℕ → Tree
+u i = node (rec 7 0x72 0 (put32 i)) nil
+
+-- lambdas of one and of two arguments, without types
+L : ℕ → Tree → Tree
+L i b = node (rec 12 0xD9 1 (put32 i ++ (0 ∷ []))) (cons b nil)
+
+L2 : ℕ → ℕ → Tree → Tree
+L2 i j b = node (rec 12 0xD9 2 (put32 i ++ (0 ∷ (put32 j ++ (0 ∷ []))))) (cons b nil)
+
+-- a block, {i=a; r}
+B : ℕ → Tree → Tree → Tree
+B i a r = node (rec 11 0xD8 0 []) (cons (node (rec 10 0xD6 0 (put32 i ++ (0 ∷ []))) (cons a nil)) (cons r nil))
+
+-- ---- the forests
+"""
+FATE = """
+{name} : fate ({tree}) ≡ {fate}
+unfolding fate called after-call read-back equal equalRecs equalOpts z h k n p u L L2 computing
+{name} = refl
+"""
+WRITTEN = """
+{name}-tree : is (called ({tree})) ({written}) ≡ true
+unfolding is called z h k n p u L L2 B computing
+{name}-tree = refl
+"""
+
+MEMBER = "model/specs/Materialize"
+INTERN = "model/specs/Intern"
+SCOPES = "theory/proofs/Building/Scopes"
+GIVEN = "theory/proofs/Building/Given"
+NUMBERED = "theory/proofs/Building/Numbered"
+FINISH = "theory/proofs/Interning/Finish"
+INV = "theory/proofs/Interning/Inv"
+ONCE = ("shouldHoist (symOf g s) (usage g s)", "shouldHoist (symOf g s) (suc (usage g s))")
+SAME_REC = "(rec ({0} .shape) ({0} .opcode) ({0} .aux) (r .lit)) r"
+NEXT = "suc (suc last)"
+
+
+class Edit:
+    def __init__(self, name, says, edits, words, fact=None, tree=None, fate=None, written=None):
+        """`edits` are to model and stand once each; `words` are the same words where theory repeats them; `fact` is the
+        declaration that has to be refused first, of those that the theorem needs; `fate` is what
+        becomes of `tree`, which is written as `written`; both in the letters of COUNTER."""
+        self.name, self.says, self.edits, self.words = name, says, edits, words
+        self.fact, self.tree, self.fate, self.written = fact, tree, fate, written
+
+
+EDITS = [
+    Edit("hoist", "a member of another scope is hoisted",
+         [(MEMBER, "eqb (symOf g s .scope) sc", "eqb (symOf g s .scope) (symOf g s .scope)"), (MEMBER, *ONCE)],
+         [(SCOPES, "eqb (symOf g s .scope) sc in", "eqb (symOf g s .scope) (symOf g s .scope) in"), (SCOPES, *ONCE)],
+         "define-built", "L 7 (n (u 7))", "not-accepted 10 3", "B 1 (n (u 0)) (L 2 (u 1))"),
+    Edit("one-id", "a lambda's arguments all get the same number",
+         [(MEMBER, "(a .1 ++ argLit (suc last) xs)", "(a .1 ++ argLit last xs)"),
+          (MEMBER, "argEnv (suc last) xs ((a .0, suc last) ∷ env)", "argEnv last xs ((a .0, suc last) ∷ env)")],
+         [(f, a, b) for f in (NUMBERED, GIVEN)
+          for a, b in (("(suc last) xs", "last xs"), ("(suc last) (suc p) xs", "last (suc p) xs"))],
+         "numbered-once", "L2 7 8 (p (u 7) (u 8))", "not-accepted 9 0", "L2 1 1 (p (u 1) (u 1))"),
+    Edit("body-from", "a lambda's body is numbered from before its arguments",
+         [(MEMBER, "(suc (last + length xs))", "last")],
+         [(GIVEN, "lastIn last xs = suc (last + length xs)", "lastIn last xs = last")],
+         "env-args", "L 7 (p (n (u 7)) (n (u 7)))", "not-accepted 9 2", "L 1 (B 1 (n (u 1)) (p (u 1) (u 1)))"),
+    Edit("literals", "keys are equal without their literals",
+         [(INTERN, "sameRec (symAt ss i .rec) r &&", "sameRec " + SAME_REC.format("symAt ss i .rec") + " &&")],
+         [(FINISH, "and-both (sameRec (recAt ss i) r)", "and-both (sameRec " + SAME_REC.format("recAt ss i") + ")"),
+          (FINISH, "Tree.{Rec, sameRec}", "Tree.{Rec, rec, sameRec}")],
+         "isKey-true", "p (k 1) (k 2)", "unfolds false", "p (k 1) (k 1)"),
+    Edit("children", "keys are equal without their child symbols",
+         [(INTERN, "same (symAt ss i .kids) ks", "same ks ks")],
+         [(FINISH, "(same (kidsAt ss i) ks) e in", "(same ks ks) e in")],
+         "isKey-true", "p (n z) (n h)", "unfolds false", "B 1 (n z) (p (u 1) (u 1))"),
+    Edit("next-id", "a definition's use is written with the next number",
+         [(MEMBER, "((s, suc last) ∷ env)", f"((s, {NEXT}) ∷ env)")],
+         [(SCOPES, "(s, suc last) ∷ env", f"(s, {NEXT}) ∷ env"), (GIVEN, "(s, suc last) ∷ env", f"(s, {NEXT}) ∷ env"),
+          (GIVEN, "given-cases s (suc last)", f"given-cases s ({NEXT})"),
+          (GIVEN, "has-more s (suc last)", f"has-more s ({NEXT})"),
+          (GIVEN, "(s ≡ t) × (suc last ≡ i)", f"(s ≡ t) × ({NEXT} ≡ i)"),
+          (GIVEN, "(s ≡ a) × (suc last ≡ i)", f"(s ≡ a) × ({NEXT} ≡ i)"),
+          (SCOPES, "has-more s (suc last)", f"has-more s ({NEXT})")],
+         "ids-def", "p z z", "not-accepted 10 4", "B 1 z (p (u 2) (u 2))"),
+    Edit("placement", "a symbol moves out of lambdas whose arguments it depends on",
+         [(INTERN, "elim (anyIn xs deps)", "elim (anyIn xs [])")],
+         [(INV, "elim (anyIn xs deps)", "elim (anyIn xs [])"), (INV, "anyIn xs deps ≡ t", "anyIn xs [] ≡ t")],
+         "climb-stays", "L 7 (p (n (u 7)) (n (u 7)))", "not-accepted 10 3", "B 1 (n (u 0)) (L 2 (p (u 1) (u 1)))"),
+]
+GATE = Edit("gate", "symbols that are used once are defined, too", [(MEMBER, *ONCE)], [(SCOPES, *ONCE)])
+
+
+def fail(why):
+    print(f"check_theorem: {why}", file=sys.stderr)
+    sys.exit(2)
+
+
+def replace(room, place, old, new, once):
+    path = os.path.join(room, "crates", place + ".antt")
+    with open(path) as f:
+        text = f.read()
+    if old not in text or once and text.count(old) != 1:
+        fail(f"{place}: {old!r} stands {text.count(old)} times")
+    with open(path, "w") as f:
+        f.write(text.replace(old, new))
+
+
+def checked(edit, fates, crate):
+    """Whether the checker proves a crate of a copy with the edit, and what it says."""
+    with tempfile.TemporaryDirectory() as room:
+        for name in CRATES:
+            shutil.copytree(os.path.join(TOP, "crates", name), os.path.join(room, "crates", name))
+        with open(os.path.join(room, "crates.txt"), "w") as f:
+            f.write("model:\nlaws: model\ntheory: model laws\n")
+        specs = os.path.join(room, "crates", "model", "specs")
+        # the table of examples would be refused before anything else
+        os.remove(os.path.join(specs, "Examples.antt"))
+        with open(os.path.join(specs, "Lib.antt")) as f:
+            lib = f.read().replace("pub mod Examples\n", "")
+        with open(os.path.join(specs, "Lib.antt"), "w") as f:
+            f.write(lib + "pub mod Counter\n")
+        with open(os.path.join(specs, "Counter.antt"), "w") as f:
+            f.write(COUNTER + "".join(fates))
+        for place, old, new in edit.edits if edit else []:
+            replace(room, place, old, new, True)
+        for place, old, new in edit.words if edit else []:
+            replace(room, place, old, new, False)
+        run = subprocess.run(["rt", "check", crate], cwd=room, capture_output=True, text=True, env=dict(os.environ, RT_CUT="0"))
+        said = (run.stdout + run.stderr).replace(os.path.join(room, "crates") + os.sep, "")
+    if run.returncode not in (0, 1):
+        fail(said[-3000:])
+    return run.returncode == 0, said
+
+
+def judge(edit):
+    """Lines to print, and whether all is as it should be."""
+    lines = [f"{edit.name}: {edit.says}"]
+    lines += [f"  {place}: {old}  becomes  {new}" for place, old, new in edit.edits]
+    words = dict(name="it", tree=edit.tree, fate=edit.fate, written=edit.written)
+    proved, said = checked(edit, [FATE.format(**words), WRITTEN.format(**words)] if edit.tree else [], "theory")
+    if edit is GATE:
+        lines.append("  accepted, as it should be" if proved else "  REFUSED: " + said[-800:])
+        return lines, proved
+    if "rt: model proved" not in said:
+        return lines + ["  NO COUNTEREXAMPLE: " + said[-800:]], False
+    lines.append(f"  computed: {edit.tree} is written as {edit.written}, whose fate is: {edit.fate}")
+    errors = re.findall(r"^(\S+):(\d+):\d+: error: `([^`]*)`: (.*)$", said, re.M)
+    errors = [e for e in errors if "was not admitted" not in e[3] and "/Bounds/" not in e[0]]
+    if proved or not errors:
+        return lines + ["  ACCEPTED" if proved else "  REFUSED, but at no declaration: " + said[-800:]], False
+    place, line, name, why = errors[0]
+    lines.append(f"  refused: {name} ({place}:{line}): {why[:200]}")
+    if name != edit.fact:
+        lines.append(f"  NOT at {edit.fact}")
+    return lines, name == edit.fact
+
+
+def main():
+    parser = argparse.ArgumentParser(description=__doc__.split("\n")[0])
+    parser.add_argument("names", nargs="*")
+    parser.add_argument("--jobs", type=int, default=2)
+    options = parser.parse_args()
+    known = EDITS + [GATE]
+    if set(options.names) - {e.name for e in known} or options.jobs < 1:
+        fail("the names are " + ", ".join(e.name for e in known))
+    fates = [FATE.format(name=f"it{i}", tree=e.tree, fate="unfolds true") for i, e in enumerate(EDITS)]
+    proved, said = checked(None, fates, "model")
+    if not proved:
+        print("the forests, under the definitions as they are: REFUSED\n" + said[-2000:])
+        return 1
+    print("the forests, under the definitions as they are: written, accepted, and unfold equally")
+    right = True
+    with ThreadPoolExecutor(options.jobs) as pool:
+        for lines, ok in pool.map(judge, [e for e in known if not options.names or e.name in options.names]):
+            print("\n".join(lines))
+            right = right and ok
+    print("each edit is refused, with a counterexample" if right else "NOT as it should be")
+    return 0 if right else 1
+
+
+if __name__ == "__main__":
+    sys.exit(main())
