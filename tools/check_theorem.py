@@ -41,7 +41,7 @@ from concurrent.futures import ThreadPoolExecutor
 TOP = os.path.dirname(os.path.dirname(os.path.abspath(__file__)))
 CRATES = ("model", "laws", "theory")
 
-COUNTER = """-- What becomes of a small forest: is the written tree accepted, and does it unfold to what the forest's root unfolds to?
+COUNTER = """-- What becomes of a small forest: is the written tree accepted, and does it unfold to what the root unfolds to?
 use Prim.Native.Nat.{ℕ}
 use mathlib.Core.Path.{_≡_, refl}
 use mathlib.Core.Bool.{Bool, true, false, _&&_}

@@ -60,7 +60,7 @@ in-isIn a [] h = absurd h
 in-isIn a (x ∷ xs) (inl e) = rw (eq-eqb a x e)
 in-isIn a (x ∷ xs) (inr h) = rw (in-isIn a xs h) (or-true (eqb a x))
 
-isIn-false : (a : ℕ) (xs : List ℕ) → isIn a xs ≡ false → In a xs → ⊥
+pub isIn-false : (a : ℕ) (xs : List ℕ) → isIn a xs ≡ false → In a xs → ⊥
 isIn-false a xs e h = clash (isIn a xs) (in-isIn a xs h) e
 
 pub in-or-not : (a : ℕ) (xs : List ℕ) → In a xs ⊎ (In a xs → ⊥)

@@ -1,4 +1,5 @@
--- What code relies on besides: limits of a state, numbers that are bytes, walks that end. Assumes nothing.
+-- What code relies on: limits and low numbers at every point of interning (Sound to Limits), bytes in and out (Reading
+-- to Bytes), that free lists and neighbours fall (Falls), and that walks and lists are short (Short). Assumes nothing.
 pub mod Sound
 pub mod Steps
 pub mod Kinds
@@ -8,3 +9,4 @@ pub mod Reading
 pub mod Writing
 pub mod Bytes
 pub mod Falls
+pub mod Short

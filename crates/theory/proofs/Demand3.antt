@@ -37,21 +37,28 @@ use Rattle.theory.proofs.Demand3.Exactly.{zero-passes, zero-both, refus
 -- after number 0, on a forest with so many output bytes and work words
 pub record Writes (forest : List ℕ) (room words : ℕ) : Type 0 where
   -- the root's symbol, with all symbols and scopes: document 01 defines a tree for the forest, `treeOf` of these
-  pub symbols : ℕ × State
-  pub defined : Defined forest symbols
+  pub interned : ℕ × State
+  pub defined : Defined forest interned
   -- its bytes stand in the output, "as many bytes as the written length counts"; those past them "keep their values"
   pub stands : (out : List ℕ) → length out ≡ room →
-      outAfter forest out words ≡ bytesOf symbols ++ drop (length (bytesOf symbols)) out
-  pub counted : numbers forest room words .len ≡ length (bytesOf symbols)
-  pub fits-in : length (bytesOf symbols) ≤ room
+      outAfter forest out words ≡ bytesOf interned ++ drop (length (bytesOf interned)) out
+  -- number, place, written length, symbols, readings
+  pub answers : numbers forest room words ≡ record {
+    number = 0;
+    place = 0;
+    len = length (bytesOf interned);
+    symbols = length (interned .1 .syms);
+    readings = interned .1 .readings;
+  }
+  pub fits-in : length (bytesOf interned) ≤ room
   -- "as input, it meets none of refusals 2 to 10"
-  pub accepted : Accepted (bytesOf symbols)
+  pub accepted : Accepted (bytesOf interned)
   -- read, the bytes are a forest of one tree, the one that document 01 defines
-  pub reads-back : treesOf (bytesOf symbols) ≡ cons (treeOf symbols) nil
+  pub reads-back : treesOf (bytesOf interned) ≡ cons (treeOf interned) nil
   -- no record of it is a use of id 0, as which an argument outside its lambda would be written: none is met
-  pub no-zero-use : NoUse 0 (treeOf symbols)
+  pub no-zero-use : NoUse 0 (treeOf interned)
   -- "its unfolding equals that of the forest's root"
-  pub keeps : unfolded (root (treesOf (bytesOf symbols))) ≡ unfolded (root (treesOf forest))
+  pub keeps : unfolded (root (treesOf (bytesOf interned))) ≡ unfolded (root (treesOf forest))
 
 -- ---- the statement
 
@@ -93,11 +100,10 @@ module _ (forest : List ℕ) (room words : ℕ) (none : NoneApplies forest room 
   writes-of : Writes forest room words
   unfolding numbers numbersOf outAfter outWith writtenOf root
   writes-of = record {
-    symbols = o;
+    interned = o;
     defined = is;
-    stands = λ out l. ap (λ (n : ℕ). outWith (run forest n words) out) l ∙ ap (λ (a : Answer Written). outWith a out)
-        answer;
-    counted = ap (λ (a : Answer Written). numbersOf a .len) answer;
+    stands = λ out l. rw l (ap (λ (a : Answer Written). outWith a out) answer);
+    answers = ap numbersOf answer;
     fits-in = at-most _ _ (λ l. none 13 0 (at-13 o is (inr (inr l))));
     accepted = passes-accepted (bytesOf o) (read-again .0);
     reads-back = read-again .1;

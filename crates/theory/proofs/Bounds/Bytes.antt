@@ -1,21 +1,22 @@
 -- The written bytes of a forest of bytes are bytes: `written-bytes`; and so every id in the written tree is below
--- 2^32: `id-small`.
+-- 2^32: `ids-small`.
 -- In order: the written tree's records; numbers as bytes; the bytes of a tree.
 -- Assumes nothing.
 use mathlib.Core.Path.{_≡_, refl, subst}
 use mathlib.Core.Logic.{inl, inr}
 use mathlib.Core.Bool.{Bool, true, false}
 use mathlib.Core.List.{List, [], _∷_, _++_}
-use Prim.Native.Nat.{ℕ, _+_, _*_, _≤_, _<_}
+use Prim.Native.Nat.{ℕ, zero, suc, _+_, _*_, _≤_, _<_}
 use native.Mathlib.Omega.{arith}
 use lib.Dec.{ltb}
-use lib.ListN.{length, getD, List·getD-eq-default}
+use lib.ListN.{length, drop, getD, List·getD-eq-default}
 use borrow.Author.Tests.{ltb-true, ltb-false}
 use Rattle.model.specs.Bytes.{u32, put16}
 use Rattle.model.specs.Answer.{good}
 use Rattle.model.specs.Tree.{Rec, Row, Tree, Trees, node, nil, cons, many, size, sizes, rows, rowsOf, rowBytes, rowLen}
 use Rattle.model.specs.Tree.{directory, bodies, forestOf, serialise}
 use Rattle.model.specs.Forest.{treesOf}
+use Rattle.model.specs.Binding.{idOf, optOf, argsOf, argIds}
 use Rattle.model.specs.Accept.{checks, accept}
 use Rattle.model.specs.Intern.{State, func, operation, constant, unparsed, argument, Node, symAt, noSym}
 use Rattle.model.specs.Gate.{reachable}
@@ -24,10 +25,11 @@ use Rattle.model.specs.Call.{interned, treeOf, bytesOf}
 use Rattle.laws.proofs.Checks.{checked-good}
 use Rattle.laws.proofs.Members.{Every}
 use Rattle.laws.proofs.Walks.{every-join}
+use Rattle.laws.proofs.ArgLists.{symsIn}
 use Rattle.laws.proofs.Rows.{many-sizes}
 use Rattle.theory.proofs.Acceptance.Bytes.{total, laid-length}
 use Rattle.theory.proofs.Interning.Good.{symCount, scopeCount}
-use Rattle.theory.proofs.Bounds.Sound.{RecHas, TreeHas, TreesHave, NodeSound, Sound}
+use Rattle.theory.proofs.Bounds.Sound.{every-drop, RecHas, Under, TreeHas, TreesHave, NodeSound, Sound}
 use Rattle.theory.proofs.Bounds.Limits.{forest-leaves}
 use Rattle.theory.proofs.Bounds.Reading.{getD-has, trees-have}
 use Rattle.theory.proofs.Bounds.Writing.{Byte, NodeHas, scope-has}
@@ -65,18 +67,36 @@ module _ (st : State) (h : Sound Byte st) where
       node-has i m r ks (func xs b) w = (w .2, w .3)
       node-has i m r ks (operation brs) w = tt
 
-pub tree-bytes : (o : ℕ × State) → Sound Byte (o .1) → size (treeOf o) ≤ 256 → TreeHas Byte (treeOf o)
+tree-bytes : (o : ℕ × State) → Sound Byte (o .1) → size (treeOf o) ≤ 256 → TreeHas Byte (treeOf o)
 unfolding treeOf materialize reachable
 tree-bytes o h few =
     scope-has (reachable (o .1 .syms) (o .1 .scopes) (o .0)) (recs-have (o .1) h) (nodes-have (o .1) h) (o .0) 0
     (omega arith)
 
 -- four bytes are a number below 2^32
-pub id-small : (bs : List ℕ) → Every Byte bs → u32 bs < 4294967296
+id-small : (bs : List ℕ) → Every Byte bs → u32 bs < 4294967296
 unfolding u32
 id-small bs h =
     let at : (i : ℕ) → getD bs i 0 < 256 = λ i. getD-has Byte (omega arith) bs i h in
     omega (arith, at 0, at 1, at 2, at 3)
+
+args-small : (n : ℕ) (bs : List ℕ) → Every Byte bs → Under 4294967296 (symsIn (argsOf n bs))
+unfolding argsOf
+args-small zero bs h = λ x i. absurd i
+args-small (suc n) bs h =
+    both (symsIn (argsOf n rest)) (args-small n rest (every-drop Byte (4 + length (optOf (drop 4 bs))) bs h))
+  where
+    rest : List ℕ
+    rest = drop (4 + length (optOf (drop 4 bs))) bs
+
+    both : (xs : List ℕ) → Under 4294967296 xs → Under 4294967296 (u32 bs ∷ xs)
+    both xs k x (inl e) = omega (arith, id-small bs h)
+    both xs k x (inr i) = k x i
+
+-- the id of a use or a definition, and those of a lambda's arguments
+pub ids-small : (r : Rec) → RecHas Byte r → (idOf r < 4294967296) × Under 4294967296 (argIds r)
+unfolding idOf argIds
+ids-small r h = (id-small (r .lit) (h .lit-has), args-small (r .aux) (r .lit) (h .lit-has))
 
 -- ---- numbers as bytes
 

@@ -165,6 +165,13 @@ lambda-kids op nil e m = absurd (omega arith)
 lambda-kids op (cons t nil) e m = rw (lambda-plain op e 0, plainKids) refl
 lambda-kids op (cons t (cons u ts)) e m = absurd (omega arith)
 
+-- a use is of an id that is in force where it stands
+pub use-bound : (r : Rec) (ts : Trees) (ids : List ℕ) → Clear (unbound (node r ts) ids) → r .shape ≡ 7 → In (idOf r) ids
+unfolding unbound
+use-bound r ts ids known e =
+    let test = subst (λ (z : Bool). (z && not (isIn (idOf r) ids)) ≡ false) (eq-eqb (r .shape) 7 e) (known .0) in
+    isIn-true (idOf r) ids (not-false (isIn (idOf r) ids) test)
+
 module _ (B : ℕ → Type 0) (b0 : B 0) (b1 : B 1) (b2 : B 2) (at cur : ℕ) (r : Rec) (ts : Trees) (has : RecHas B r)
     (fine : Fine (node r ts)) (ids : List ℕ) (known : Clear (unbound (node r ts) ids)) (env : Env) (kids : Kids)
     (kk : KidsKeep B (inside r ++ ids) (r .opcode) ts kids) (st : State) (k c : ℕ) (sound : Sound B st)
@@ -175,13 +182,9 @@ module _ (B : ℕ → Type 0) (b0 : B 0) (b1 : B 1) (b2 : B 2) (at cur : ℕ) (r
   abbrev Kept : List ℕ × List ℕ × State → Type 0
   Kept = KeepsAll B st (suc k + many ts) (suc c) (many ts) (r .opcode) 0
 
-  -- the id of a use is bound
+  -- and so it is bound
   use-low : kind (r .shape) ≡ valUse → In (idOf r) (keys env) × (resolve env (idOf r) < symCount st)
-  unfolding unbound
-  use-low e =
-      let s7 = eq-eqb (r .shape) 7 (kind-shape (r .shape) valUse e .shape) in
-      let test = subst (λ (z : Bool). (z && not (isIn (idOf r) ids)) ≡ false) s7 (known .0) in
-      envs (idOf r) (isIn-true (idOf r) ids (not-false (isIn (idOf r) ids) test))
+  use-low e = envs (idOf r) (use-bound r ts ids known (kind-shape (r .shape) valUse e .shape))
 
   -- the children of a record that is no lambda, from a later state
   kids-keep : (inside r ≡ []) → (st' : State) (j d : ℕ) → Keeps B st st' j (suc d) →

@@ -130,7 +130,7 @@ wrap-has l (cons d (cons e ds)) r h k f =
 
 -- ---- scopes
 
-abbrev pub IdsTo : Env → ℕ → Type 0
+abbrev IdsTo : Env → ℕ → Type 0
 IdsTo env last = (s i : ℕ) → idGiven env s ≡ some i → i ≤ last
 
 ids-def : (s : ℕ) (env : Env) (last : ℕ) → IdsTo env last → IdsTo ((s, suc last) ∷ env) (suc last)
@@ -277,7 +277,7 @@ module _ (g : Graph) (recs : (s : ℕ) → RecHas Byte (symOf g s .rec)) (nodes 
   fuel-has zero s = λ sc env last ids ft. use-has 0 (omega arith)
   fuel-has (suc m) s = step-has (under zeroUse s (downFuel zeroUse (buildStep g) m)) (under-has s _ (fuel-has m)) s
 
-  pub build-has : (s : ℕ) → Writes (buildValue g) s
+  build-has : (s : ℕ) → Writes (buildValue g) s
   unfolding buildValue down
   build-has s = fuel-has (suc s) s
 

@@ -2,7 +2,7 @@
 -- p, on a call with this forest, so many output bytes and so many work words. The conditions are said each for itself:
 -- none speaks of another number or of the order in which the call tests them.
 -- In order: words for places; the forest's header, directory and records; interning and the tree that document 01
--- defines; the fourteen conditions.
+-- defines; the fourteen conditions; what is said of a call with them.
 -- Assumes nothing.
 use mathlib.Core.Path.{_≡_}
 use mathlib.Core.Logic.{_⊎_, _≢_}
@@ -54,8 +54,7 @@ abbrev pub startOf : List ℕ → ℕ → ℕ
 startOf forest zero = directoryEnd forest
 startOf forest (suc p) = offsetAt forest p + lengthAt forest p
 
--- pair p starts elsewhere, is too short ("a length is at least 5"), or is the last and does not end "at the forest's
--- end"
+-- pair p starts elsewhere, is too short ("a length is at least 5"), or is the last and ends elsewhere than the forest
 abbrev pub PairOffends : List ℕ → ℕ → Type 0
 PairOffends forest p =
     (p < recordCount forest) ×

@@ -1,28 +1,25 @@
--- What the Rust guards by `expect` and `unreachable!`, said of the definitions: none of it can be met after checks 4
--- to 10. codec.rs, `recompose`, "fewer rebuilt children than the template": `rebuilt-count`, and `operations` below.
--- materialize.rs, `build_op` and `op_of` "on a non-Op symbol", and a thunk without its branch scope: `operations`.
--- intern.rs, "global scope is always open": `tables-open`, which Bounds.Sound says at every point. A use without a
--- binding: `use-bound`. `val_use(0)` for an argument outside its lambda: `argument-never-met` in Main.
+-- What the Rust guards by `expect` and `unreachable!`, said of the definitions: none can be met after checks 4 to 10.
+-- codec.rs, "recompose: fewer rebuilt children than the template": `rebuilt-count` and `kids-fit`.
+-- materialize.rs, "build_op on a non-Op symbol" and "op_of on a non-Op symbol": `buildOp` is called on an `operation`
+-- only, which has an opcode, `has-opcode`; `branch_scopes[next_branch]`, past its end: `scopes-fit`.
+-- intern.rs, "global scope is always open": `tables-open`, here at the end, and in Bounds.Sound at every point.
+-- A use without a binding: `use-bound` in Bounds.Kinds. `val_use(0)`, an argument outside its lambda:
+-- `argument-never-met` in Main.
 -- Assumes nothing.
 use mathlib.Core.Path.{_≡_, refl, ap, subst}
-use mathlib.Core.Bool.{Bool, true, false, not, _&&_}
+use mathlib.Core.Bool.{Bool, true, false}
 use mathlib.Core.List.{List, [], _∷_}
 use Prim.Native.Nat.{ℕ, suc, _≤_, _<_}
 use lib.ListN.{length}
-use borrow.Author.Tests.{eq-eqb, not-false}
-use Rattle.model.specs.Lists.{isIn}
 use Rattle.model.specs.Answer.{good}
-use Rattle.model.specs.Tree.{Rec, Trees, node, cons, many, root}
+use Rattle.model.specs.Tree.{Trees, cons, many, root}
 use Rattle.model.specs.Shape.{fits}
-use Rattle.model.specs.Binding.{idOf, unbound}
 use Rattle.model.specs.Accept.{accept}
 use Rattle.model.specs.Intern.{operation, State, Env, thunked}
 use Rattle.model.specs.Gate.{Graph}
 use Rattle.model.specs.Materialize.{Builder, processScope, buildOp}
 use Rattle.model.specs.Call.{interned}
-use Rattle.laws.proofs.Clear.{Clear}
 use Rattle.laws.proofs.Holds.{Holds}
-use Rattle.laws.proofs.Members.{In, isIn-true}
 use Rattle.theory.proofs.Interning.Good.{NodeOk, symCount, scopeCount, recAt, kidsAt, nodeAt}
 use Rattle.theory.proofs.Interning.Interned.{Ready, interned-ready}
 use Rattle.theory.proofs.Bounds.Sound.{thunks, NodeSound, Sound}
@@ -47,15 +44,7 @@ rebuilt-count g f sc env last op j (k ∷ ks) (b ∷ brs) =
     go true e d = ap suc e
     go false e d = ap suc d
 
--- a use of an id that is in force where it stands
-pub use-bound : (r : Rec) (ts : Trees) (ids : List ℕ) → Clear (unbound (node r ts) ids) → r .shape ≡ 7 → In (idOf r) ids
-unfolding unbound
-use-bound r ts ids known e =
-    let test = subst (λ (z : Bool). (z && not (isIn (idOf r) ids)) ≡ false) (eq-eqb (r .shape) 7 e) (known .0) in
-    isIn-true (idOf r) ids (not-false (isIn (idOf r) ids) test)
-
--- of the operation symbols: an opcode of their own, as many children as the record's shape has, a branch scope for each
--- thunk
+-- of an operation symbol: an opcode of its own, as many children as its shape has, a branch scope for each thunk
 pub record Operation (st : State) (s : ℕ) (brs : List ℕ) : Type 0 where
   pub has-opcode : 2 ≤ recAt (st .syms) s .shape
   pub kids-fit : fits (record { rec = recAt (st .syms) s; kids = length (kidsAt (st .syms) s) }) ≡ true

@@ -1,0 +1,3 @@
+-- Laws that the proofs of the functions cite. Assumes nothing.
+pub mod Args
+pub mod Rows
