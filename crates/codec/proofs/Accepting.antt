@@ -1,18 +1,20 @@
--- Checks in their order: the first that fails is the answer. In order: a place that was found, or none; 2 to 6; 7 to
--- 10.
+-- Checks in their order: the first that fails is the answer.
+-- In order: a place that was found, or none; 2 to 6; 7 to 10; what an accepted forest has.
 -- Assumes nothing.
 use Prim.Native.Nat.{ℕ}
 use mathlib.Core.Path.{_≡_, refl, sym, ap, _∙_}
 use mathlib.Core.Option.{Option, none, some}
 use mathlib.Core.List.{List}
+use native.Mathlib.Omega.{arith}
 use Rattle.model.specs.Answer.{Answer, refused, good, unless, checked}
 use Rattle.model.specs.Tree.{Trees}
 use Rattle.model.specs.Forest.{treesOf, check2, check3, check4, check5, check6, check7}
 use Rattle.model.specs.Binding.{check8, check9, check10}
 use Rattle.model.specs.Accept.{checks, accept}
+use Rattle.record.specs.Record.{Laid}
 use Rattle.walk.specs.declared.Place.{Place}
 use Rattle.walk.specs.declared.Place.the-variants.{At, Nowhere}
-use Rattle.walk.specs.Walk.{Sound, placeOf}
+use Rattle.walk.specs.Walk.{placeOf}
 use Rattle.codec.specs.Codec.{Shaped}
 
 -- ---- a place, or none
@@ -84,3 +86,44 @@ module _ (bs : List ℕ) (h : Shaped bs) where
         pub accepted : check10 (treesOf bs) ≡ none → good (treesOf bs) ≡ accept bs
         unfolding unless
         accepted e = sym (after-6 ∙ rw (seven, eight, nine, e))
+
+-- ---- an accepted forest, for those who go on with one
+
+pub record Passed (bs : List ℕ) (ts : Trees) : Type 0 where
+  pub shaped : Shaped bs
+  pub shallow : check7 bs ≡ none
+  pub placed : check8 (treesOf bs) ≡ none
+  pub fresh : check9 (treesOf bs) ≡ none
+  pub bound : check10 (treesOf bs) ≡ none
+  pub trees : treesOf bs ≡ ts
+
+unless-good : {A : Type 0} (n : ℕ) (o : Option ℕ) (r : Answer A) (a : A) → unless n o r ≡ good a →
+    (o ≡ none) × (r ≡ good a)
+unfolding unless
+unless-good n none r a e = (refl, e)
+unless-good n (some p) r a e = absurd (let z : _≡_ {A = ℕ} 0 1 = cc in omega arith)
+
+pub accept-passed : (bs : List ℕ) (ts : Trees) → accept bs ≡ good ts → Passed bs ts
+unfolding accept checks checked
+accept-passed bs ts e =
+    let two = unless-good 2 (check2 bs) _ ts e in
+    let three = unless-good 3 (check3 bs) _ ts (two .1) in
+    let four = unless-good 4 (check4 bs) _ ts (three .1) in
+    let five = unless-good 5 (check5 bs) _ ts (four .1) in
+    let six = unless-good 6 (check6 bs) _ ts (five .1) in
+    let seven = unless-good 7 (check7 bs) _ ts (six .1) in
+    let eight = unless-good 8 (check8 (treesOf bs)) _ ts (seven .1) in
+    let nine = unless-good 9 (check9 (treesOf bs)) _ ts (eight .1) in
+    let ten = unless-good 10 (check10 (treesOf bs)) (good (treesOf bs)) ts (nine .1) in
+    let laid : Laid bs = record { header = two .0; directory = three .0 } in
+    record {
+      shaped = record { sound = record { laid = laid; fit = four .0; closed = six .0 }; agree = five .0 };
+      shallow = seven .0;
+      placed = eight .0;
+      fresh = nine .0;
+      bound = ten .0;
+      trees = good-same (treesOf bs) ts (ten .1);
+    }
+  where
+    good-same : (a b : Trees) → good a ≡ good b → a ≡ b
+    good-same a b f = cc

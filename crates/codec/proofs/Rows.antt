@@ -1,11 +1,11 @@
--- Checks 4 and 5, record by record. In order: a record made of its fields; what is left of a test of all rows gives
--- the whole.
+-- Checks 4 and 5, record by record.
+-- In order: a record made of its fields; what is left of a test of all rows gives the whole.
 -- Assumes nothing.
 use Prim.Native.Nat.{ℕ, _+_, _<_, _≤_}
-use mathlib.Core.Path.{_≡_, refl, sym, ap, _∙_}
+use mathlib.Core.Path.{_≡_, ap, _∙_}
 use mathlib.Core.Bool.{Bool, true, false, not}
 use mathlib.Core.Option.{Option, none, some}
-use mathlib.Core.List.{List, [], _∷_, map}
+use mathlib.Core.List.{List, map}
 use lib.ListN.{drop}
 use Rattle.model.specs.Lists.{first}
 use Rattle.model.specs.Tree.{Rec, rec, Row}
@@ -19,12 +19,12 @@ use Rattle.walk.proofs.Steps.{shift-zero, shift-hit, shift-miss}
 -- ---- a record made of its fields
 
 pub fits-made : (r : Row) (s k a : ℕ) (l : List ℕ) → s ≡ r .rec .shape → k ≡ r .kids → a ≡ r .rec .aux →
-    l ≡ r .rec .lit →
-    fits (record { rec = rec s (r .rec .opcode) a l; kids = k }) ≡ fits r
-fits-made r s k a l e f g h = rw (e, f, g, h)
+    l ≡ r .rec .lit → (b : Bool) → ((o : ℕ) → b ≡ fits (record { rec = rec s o a l; kids = k })) → b ≡ fits r
+fits-made r s k a l e f g h b m = m (r .rec .opcode) ∙ rw (e, f, g, h)
 
-pub agrees-made : (r : Rec) (s o : ℕ) → s ≡ r .shape → o ≡ r .opcode → agrees (rec s o (r .aux) (r .lit)) ≡ agrees r
-agrees-made r s o e f = rw (e, f)
+pub agrees-made : (r : Rec) (s o : ℕ) → s ≡ r .shape → o ≡ r .opcode → (b : Bool) →
+    ((a : ℕ) (l : List ℕ) → b ≡ agrees (rec s o a l)) → b ≡ agrees r
+agrees-made r s o e f b m = m (r .aux) (r .lit) ∙ rw (e, f)
 
 -- ---- what is left gives the whole
 

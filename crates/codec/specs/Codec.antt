@@ -1,5 +1,5 @@
--- What checks of a forest answer. In order: one pair of the directory; verdicts; what checks 2 to 6 leave, and say;
--- all checks.
+-- What checks of a forest answer.
+-- In order: one pair of the directory; verdicts; what checks 2 to 6 leave, and say; all checks.
 -- Assumes nothing.
 use Prim.Native.Nat.{ℕ, _+_}
 use mathlib.Core.Path.{_≡_}

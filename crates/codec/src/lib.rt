@@ -1,10 +1,10 @@
-// Checks 2 to 6 of a forest, and checks 2 to 10 in order (codec.rs, validate). A check gives the place where it fails.
+// Checks 2 to 6 of a forest, and checks 2 to 10 in order. A check gives the place where it fails.
 // In order: 2; 3; 4; 5; 6; all of them.
 use walk::Place;
 ghost use mathlib.Core.Path.{_≡_};
 ghost use mathlib.Core.Option.{none};
-ghost use Prim.Native.Nat.{ℕ, _+_, _*_, _<_, _≤_};
-ghost use lib.ListN.{length, drop};
+ghost use Prim.Native.Nat.{_+_, _*_, _<_, _≤_};
+ghost use lib.ListN.{length};
 ghost use Rattle.model.specs.Forest as model;
 ghost use Rattle.model.specs.Shape as table;
 ghost use Rattle.record.specs.Record.{Laid, rowAt};
@@ -63,8 +63,8 @@ fn bad_pair(total: usize, from: usize, at: usize, size: usize, last: bool) -> bo
     false
 }
 
-// Check 3: the directory. Rules out: nowhere where bytes stand after the last record; the record after the one that
-// offends.
+// Check 3: the directory.
+// Rules out: nowhere where bytes stand after the last record; the record after the one that offends.
 pub fn check3(forest: &[u8]) -> Place
     requires { ⌜ model.check2 (now forest) ≡ none ⌝ }
     ensures { λ r. ⌜ placeOf r ≡ model.check3 (now (forest .entry)) ⌝ }
@@ -215,9 +215,8 @@ fn bindings(forest: &[u8], work: &mut [u32]) -> Verdict
     }
 }
 
-// Checks 2 to 10, "in that order, each over the whole forest before the next". The work memory's first 3,840 words
-// held the ids
-// in force and may hold anything; the others are as they were.
+// Checks 2 to 10, "in that order, each over the whole forest before the next". The work memory's first 3,840 words held
+// the ids in force and may hold anything; the others are as they were.
 // Rules out: 9 where 8 fails in a later record; accepted where a definition's value uses it.
 pub fn check(forest: &[u8], work: &mut [u32]) -> Verdict
     requires { ⌜ 3840 ≤ length (now work) ⌝ }

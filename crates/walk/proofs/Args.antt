@@ -1,17 +1,16 @@
 -- A lambda's arguments, put on top one by one: what is left gives the whole.
 -- Assumes nothing.
-use Prim.Native.Nat.{ℕ, zero, suc, _+_, _-_, _<_, _≤_}
+use Prim.Native.Nat.{ℕ, suc, _+_, _-_, _<_, _≤_}
 use mathlib.Core.Path.{_≡_, refl, sym, ap, _∙_}
 use mathlib.Core.Option.{none}
-use mathlib.Core.List.{List, [], _∷_, _++_, map, append-nil}
+use mathlib.Core.List.{List, _∷_, _++_, map, append-nil, []}
 use native.Mathlib.Omega.{arith}
-use lib.ListN.{length, getD, set, drop, length-set}
+use lib.ListN.{length, set, drop, length-set}
 use Rattle.model.specs.Bytes.{u32}
-use Rattle.model.specs.Binding.{argsOf}
 use Rattle.model.specs.Shape.{aArg}
 use Rattle.shape.specs.Args.{Left, nextArg}
 use Rattle.shape.proofs.Args.{args-step, args-none, left-stands, left-id, left-next}
-use Rattle.walk.specs.Words.{idsOf, idsIn, argIdsAt, Kept, Bound}
+use Rattle.walk.specs.Words.{idsIn, argIdsAt, Kept, Bound}
 use Rattle.walk.proofs.Words.{kept-refl, kept-then, kept-set, push-one, pushed}
 
 -- of n arguments the last k are still to be put, from `at` on

@@ -1,20 +1,18 @@
--- Record numbers and trees: the trees from record i on begin with record i's subtree, and a record's children are
--- among them.
--- In order: rows by number; `trees-at`; closing; counts; rows that fit their shapes.
+-- Record numbers and trees: the trees from record i on begin with record i's subtree, and its children are among them.
+-- In order: rows by number; trees by number; closing; counts; rows that fit their shapes; literals that hold ids.
 -- Assumes nothing.
 use Prim.Native.Nat.{ℕ, zero, suc, _+_, _-_, _*_, _<_, _≤_}
 use mathlib.Core.Path.{_≡_, refl, sym, ap, _∙_, subst}
 use mathlib.Core.Bool.{Bool, true, false, not}
-use mathlib.Core.Option.{Option, none, some}
-use mathlib.Core.List.{List, [], _∷_, map}
+use mathlib.Core.Option.{none}
+use mathlib.Core.List.{List, _∷_, map, []}
 use native.Mathlib.Omega.{arith}
 use native.Mathlib.Decide.{decLt}
 use native.Mathlib.Numerals.{add-one}
 use borrow.Author.Tests.{not-false}
 use lib.ListN.{length, getD, drop}
-use lib.Seq.{drop-cons, drop-length}
-use Rattle.model.specs.Lists.{first}
-use Rattle.model.specs.Tree.{Row, Tree, Trees, node, nil, cons, many, takeT, dropT, grow}
+use lib.Seq.{drop-cons}
+use Rattle.model.specs.Tree.{Row, Trees, nil, cons, many, dropT, grow}
 use Rattle.model.specs.Shape.{Pairs, fits}
 use Rattle.model.specs.Forest.{treeCount, recordCount, pairsOf, rowsAt, rowsIn, bodyStart, treesOf, unclosed, check4}
 use Rattle.model.specs.Forest.{check6}
@@ -22,7 +20,7 @@ use Rattle.laws.proofs.Apart.{some-none}
 use Rattle.laws.proofs.Clear.{Clear, first-clear}
 use Rattle.shape.specs.Args.{Left}
 use Rattle.shape.proofs.Fitting.{fits-use, fits-def, fits-func}
-use Rattle.record.specs.Record.{Laid, noRow, rowAt}
+use Rattle.record.specs.Record.{noRow, rowAt}
 use Rattle.laws.proofs.Header.{header-of, row-count}
 use Rattle.walk.specs.Walk.{treesFrom, kidsAt, restAt, treeAt, Sound}
 

@@ -1,10 +1,10 @@
--- The walk with each of the four tests is the model's check. In order: what has the walk's equations is the walk; 7,
--- 8, 9, 10.
+-- The walk with each of the four tests is the model's check.
+-- In order: what has the walk's equations is the walk; 7, 8, 9, 10.
 -- Assumes nothing.
 use Prim.Native.Nat.{ℕ}
 use mathlib.Core.Path.{_≡_, refl, ap, _∙_}
 use mathlib.Core.Bool.{Bool}
-use mathlib.Core.List.{List, [], _∷_, _++_}
+use mathlib.Core.List.{List, _∷_, _++_, []}
 use Rattle.model.specs.Lists.{first}
 use Rattle.model.specs.Tree.{Rec, Tree, Trees, node, nil, cons}
 use Rattle.model.specs.Forest.{treesOf, deep, deeps, check7}

@@ -1,12 +1,11 @@
 -- The steps of the walk. In order: the first fault of two lists of tests in a row; a record and its children; trees in
--- a row;
--- what is left of trees in a row gives the whole.
+-- a row; what is left of trees in a row gives the whole.
 -- Assumes nothing.
 use Prim.Native.Nat.{ℕ, zero, suc, _+_, _-_, _<_, _≤_}
-use mathlib.Core.Path.{_≡_, refl, sym, ap, _∙_, subst}
+use mathlib.Core.Path.{_≡_, refl, sym, ap, _∙_}
 use mathlib.Core.Bool.{Bool, true, false, not, _&&_}
 use mathlib.Core.Option.{Option, none, some}
-use mathlib.Core.List.{List, [], _∷_, _++_}
+use mathlib.Core.List.{List, _∷_, _++_, []}
 use native.Mathlib.Omega.{arith}
 use borrow.Author.Tests.{lt-ltb, le-ltb}
 use lib.Dec.{ltb}
@@ -15,10 +14,9 @@ use Rattle.model.specs.Lists.{first}
 use Rattle.model.specs.Tree.{Rec, Tree, Trees, node, nil, cons, isNil, many, takeT, dropT, size, sizes}
 use Rattle.model.specs.Forest.{recordCount}
 use Rattle.laws.proofs.Apart.{some-none}
-use Rattle.walk.specs.declared.Walk.{Walk}
-use Rattle.walk.specs.declared.Walk.the-variants.{Next, Fault}
+use Rattle.walk.specs.declared.Walk.the-variants.{Next}
 use Rattle.walk.specs.Faults.{Ctx, inner, here, later, faults, faultsIn}
-use Rattle.walk.specs.Walk.{treesFrom, kidsAt, restAt, treeAt, shift, faultOf, Comes}
+use Rattle.walk.specs.Walk.{treesFrom, restAt, treeAt, shift, Comes}
 use Rattle.walk.proofs.Bridge.{trees-at}
 
 -- ---- the first fault of two lists in a row
@@ -150,7 +148,7 @@ here-is (suc m) (cons t ts) l = sym (lt-ltb 0 (suc m) (omega arith))
 -- ---- what is left gives the whole
 
 -- of `count` trees from record i on, `left` are left from record j on, and stand at d
-pub record Left (bs : List ℕ) (p : Ctx → Rec → Bool) (i count : ℕ) (c : Ctx) (j left : ℕ) (d : Ctx) : Type 0 where
+pub record Remains (bs : List ℕ) (p : Ctx → Rec → Bool) (i count : ℕ) (c : Ctx) (j left : ℕ) (d : Ctx) : Type 0 where
   pub fault : shift j (first (faultsIn p (takeT left (treesFrom bs j)) d)) ≡ shift i
       (first (faultsIn p (takeT count (treesFrom bs i)) c))
   pub place : j + sizes (takeT left (treesFrom bs j)) ≡ i + sizes (takeT count (treesFrom bs i))
@@ -158,15 +156,15 @@ pub record Left (bs : List ℕ) (p : Ctx → Rec → Bool) (i count : ℕ) (c : 
   pub there : left ≤ many (treesFrom bs j)
 
 module _ (bs : List ℕ) (p : Ctx → Rec → Bool) (i count : ℕ) (c : Ctx) where
-  pub left-start : count ≤ many (treesFrom bs i) → Left bs p i count c i count c
-  left-start l = record { fault = refl; place = refl; rest = refl; there = l }
+  pub remains-start : count ≤ many (treesFrom bs i) → Remains bs p i count c i count c
+  remains-start l = record { fault = refl; place = refl; rest = refl; there = l }
 
-  module _ (j left : ℕ) (d : Ctx) (h : Left bs p i count c j left d) where
-    pub left-end : left ≤ 0 →
+  module _ (j left : ℕ) (d : Ctx) (h : Remains bs p i count c j left d) where
+    pub remains-end : left ≤ 0 →
         (none ≡ shift i (first (faultsIn p (takeT count (treesFrom bs i)) c))) × Comes bs i
         (sizes (takeT count (treesFrom bs i))) (dropT count (treesFrom bs i)) (Next j)
     unfolding takeT dropT faults size first
-    left-end l =
+    remains-end l =
         let e : left ≡ 0 = omega arith in (
           ap (λ (n : ℕ). shift j (first (faultsIn p (takeT n (treesFrom bs j)) d))) (sym e) ∙ h .fault,
           (
@@ -195,18 +193,18 @@ module _ (bs : List ℕ) (p : Ctx → Rec → Bool) (i count : ℕ) (c : Ctx) wh
           ap (λ (b : Bool). record { depth = d .depth; def = d .def && b; ids = d .ids })
           (here-is (left - 1) (restAt bs j) still-there)
 
-      pub left-offends : (q : ℕ) → some q ≡ shift j (first (faults p (treeAt bs j) stands)) →
+      pub remains-offends : (q : ℕ) → some q ≡ shift j (first (faults p (treeAt bs j) stands)) →
           some q ≡ shift i (first (faultsIn p (takeT count (treesFrom bs i)) c))
-      left-offends q e =
+      remains-offends q e =
           row-offends p j q (treeAt bs j) (takeT (left - 1) (restAt bs j)) d (rw stands-here e)
           ∙ ap (λ (ts : Trees). shift j (first (faultsIn p ts d))) (sym take-left)
           ∙ h .fault
 
-      pub left-turn : (next : ℕ) (d′ : Ctx) → none ≡ shift j (first (faults p (treeAt bs j) stands)) →
+      pub remains-turn : (next : ℕ) (d′ : Ctx) → none ≡ shift j (first (faults p (treeAt bs j) stands)) →
           next ≡ j + size (treeAt bs j) → treesFrom bs next ≡ restAt bs j → d′ ≡ later (treeAt bs j) d →
-          Left bs p i count c next (left - 1) d′
+          Remains bs p i count c next (left - 1) d′
       unfolding size
-      left-turn next d′ e place rest there = record {
+      remains-turn next d′ e place rest there = record {
         fault =
             rw (rest, there, place)
             (row-passes p j (treeAt bs j) (takeT (left - 1) (restAt bs j)) d (rw stands-here e)

@@ -2,16 +2,16 @@
 -- Assumes nothing.
 use Prim.Native.Nat.{ℕ, zero, suc, _+_, _-_, _<_, _≤_}
 use mathlib.Core.Path.{_≡_, refl, sym, ap, _∙_}
-use mathlib.Core.Bool.{Bool, true, false, not, _&&_, _||_, Bool·beq}
-use mathlib.Core.List.{List, [], _∷_, _++_, map}
+use mathlib.Core.Bool.{Bool, true, false, not, _&&_, Bool·beq, _||_}
+use mathlib.Core.List.{List, _∷_, _++_, []}
 use native.Mathlib.Omega.{arith}
 use borrow.Author.Tests.{eq-eqb, ne-eqb, lt-ltb, le-ltb}
 use lib.Dec.{eqb, ltb}
 use lib.ListN.{length, getD, drop, length-append}
 use Rattle.model.specs.Lists.{isIn, anyIn, twice}
 use Rattle.model.specs.Bytes.{u32}
-use Rattle.model.specs.Tree.{Rec, Tree, Trees, node, nil, top}
-use Rattle.model.specs.Binding.{Kind, valUse, valDef, block, lambda, field, other, kind, idOf, argsOf, argIds, inside}
+use Rattle.model.specs.Tree.{Rec, Tree, node, nil, top}
+use Rattle.model.specs.Binding.{Kind, valUse, valDef, block, lambda, field, other, kind, idOf, argIds, inside}
 use Rattle.model.specs.Binding.{after}
 use Rattle.laws.proofs.Apart.{true-false}
 use Rattle.walk.specs.Faults.{Ctx, reboundAt, unboundAt, test}
@@ -117,13 +117,13 @@ module _ (n : ℕ) (c : Ctx) (r : Rec) where
   unfolding test
   test-8 e = rw e
 
-  pub test-9 : n ≡ 9 → reboundAt r (c .ids) ≡ test n c r
+  pub test-9 : (b : Bool) → b ≡ reboundAt r (c .ids) → n ≡ 9 → b ≡ test n c r
   unfolding test
-  test-9 e = rw e
+  test-9 b f e = f ∙ rw e
 
-  pub test-10 : (n ≡ 7 → ⊥) → (n ≡ 8 → ⊥) → (n ≡ 9 → ⊥) → unboundAt r (c .ids) ≡ test n c r
+  pub test-10 : (b : Bool) → b ≡ unboundAt r (c .ids) → (n ≡ 7 → ⊥) → (n ≡ 8 → ⊥) → (n ≡ 9 → ⊥) → b ≡ test n c r
   unfolding test
-  test-10 e f g = rw (test, ne-eqb n 7 e, ne-eqb n 8 f, ne-eqb n 9 g)
+  test-10 b h e f g = h ∙ rw (test, ne-eqb n 7 e, ne-eqb n 8 f, ne-eqb n 9 g)
 
 -- 8
 pub misplaced-def : (s : ℕ) (d : Bool) → s ≡ 10 → not d ≡ not (Bool·beq (eqb s 10) d)

@@ -1,32 +1,30 @@
--- The walk by record number keeps to the walk over trees. In order: where a record stands; one subtree; subtrees in a
--- row; a forest.
+-- The walk by record number keeps to the walk over trees.
+-- In order: where a record stands; one subtree; subtrees in a row; a forest.
 -- Assumes nothing.
-use Prim.Native.Nat.{ℕ, zero, suc, _+_, _-_, _*_, _<_, _≤_}
+use Prim.Native.Nat.{ℕ, suc, _+_, _-_, _*_, _<_, _≤_}
 use mathlib.Core.Path.{_≡_, refl, sym, ap, _∙_, subst}
 use mathlib.Core.Bool.{Bool, true, false}
-use mathlib.Core.Option.{Option, none, some}
-use mathlib.Core.List.{List, [], _∷_, _++_}
+use mathlib.Core.List.{List, _++_}
 use native.Mathlib.Omega.{arith}
 use lib.Dec.{eqb}
-use lib.ListN.{length}
 use Rattle.model.specs.Lists.{first}
-use Rattle.model.specs.Tree.{Rec, Tree, Trees, node, nil, cons, many, takeT, dropT, size, sizes}
+use Rattle.model.specs.Tree.{Tree, Trees, node, nil, cons, many, takeT, dropT, size, sizes}
 use Rattle.model.specs.Forest.{recordCount, treeCount, treesOf}
 use Rattle.model.specs.Binding.{inside, after}
 use Rattle.record.specs.Record.{rowAt}
 use Rattle.walk.specs.declared.Context.{Context}
-use Rattle.walk.specs.declared.Place.{Place}
 use Rattle.walk.specs.declared.Place.the-variants.{At, Nowhere}
 use Rattle.walk.specs.declared.Walk.{Walk}
 use Rattle.walk.specs.declared.Walk.the-variants.{Next, Fault}
-use Rattle.walk.specs.Faults.{Ctx, start, inner, later, faults, faultsIn, test}
+use Rattle.walk.specs.Faults.{Ctx, start, inner, faultsIn, test}
 use Rattle.walk.specs.Words.{idsOf, Kept, Bound, ctxOf, childOf}
-use Rattle.walk.specs.Walk.{treesFrom, kidsAt, restAt, treeAt, Sound, Stands, placeOf, faultOf, shift, Comes}
+use Rattle.walk.specs.Walk.{treesFrom, kidsAt, restAt, treeAt, Sound, Stands, faultOf, shift, Comes}
 use Rattle.walk.specs.Walk.{Walked, WalkedIn, Checked}
 use Rattle.walk.proofs.Words.{kept-refl, kept-then, ids-kept}
 use Rattle.walk.proofs.Bridge.{trees-left, trees-all, tree-count}
-use Rattle.walk.proofs.Steps.{shift-zero, node-offends, node-passes, Left, left-start, left-end, left-offends}
-use Rattle.walk.proofs.Steps.{left-turn}
+use Rattle.walk.proofs.Steps.{shift-zero, node-offends, node-passes, Remains, remains-start, remains-end}
+use Rattle.walk.proofs.Steps.{remains-offends}
+use Rattle.walk.proofs.Steps.{remains-turn}
 
 -- ---- where a record stands
 
@@ -97,7 +95,7 @@ size-some (node r ts) = omega arith
 
 -- the walk of `count` trees from record i on has come to record j, with `left` trees left
 pub record Walking (bs : List ℕ) (n i count : ℕ) (at : Context) (ws₀ ws : List ℕ) (j left top : ℕ) : Type 0 where
-  pub trees : Left bs (test n) i count (ctxOf ws₀ at) j left
+  pub trees : Remains bs (test n) i count (ctxOf ws₀ at) j left
       (record { depth = at .depth; def = at .def; ids = idsOf ws top })
   pub onward : i ≤ j
   pub more : at .top ≤ top
@@ -107,7 +105,7 @@ pub record Walking (bs : List ℕ) (n i count : ℕ) (at : Context) (ws₀ ws : 
 module _ (bs : List ℕ) (n i count : ℕ) (at : Context) (ws₀ : List ℕ) where
   pub walking-start : count ≤ many (treesFrom bs i) → Stands i at → Walking bs n i count at ws₀ ws₀ i count (at .top)
   walking-start l h = record {
-    trees = left-start bs (test n) i count (ctxOf ws₀ at) l;
+    trees = remains-start bs (test n) i count (ctxOf ws₀ at) l;
     onward = omega arith;
     more = omega arith;
     few = h .few;
@@ -120,7 +118,7 @@ module _ (bs : List ℕ) (n i count : ℕ) (at : Context) (ws₀ : List ℕ) whe
 
     pub walking-end : left ≤ 0 → WalkedIn bs n i count at ws₀ ws (Next j)
     walking-end l =
-        let e = left-end bs (test n) i count (ctxOf ws₀ at) j left d (h .trees) l in
+        let e = remains-end bs (test n) i count (ctxOf ws₀ at) j left d (h .trees) l in
         record { fault = e .0; comes = e .1; kept = h .kept }
 
     module _ (l : 0 < left) where
@@ -138,7 +136,7 @@ module _ (bs : List ℕ) (n i count : ℕ) (at : Context) (ws₀ : List ℕ) whe
           Walked bs n j c ws ws₁ r → WalkedIn bs n i count at ws₀ ws₁ (Fault p)
       walking-offends ws₁ c r p f e v = record {
         fault =
-            left-offends bs (test n) i count (ctxOf ws₀ at) j left d (h .trees) l walking-there p
+            remains-offends bs (test n) i count (ctxOf ws₀ at) j left d (h .trees) l walking-there p
             (ap faultOf (sym e) ∙ w .fault);
         comes = tt;
         kept = kept-then (at .top) top ws₀ ws ws₁ (h .more) (h .kept) (w .kept);
@@ -152,7 +150,7 @@ module _ (bs : List ℕ) (n i count : ℕ) (at : Context) (ws₀ : List ℕ) whe
           Walking bs n i count at ws₀ ws₂ next (left - 1) top′
       walking-turn ws₁ ws₂ c r next top′ f e v b = record {
         trees =
-            left-turn bs (test n) i count (ctxOf ws₀ at) j left d (h .trees) l walking-there next
+            remains-turn bs (test n) i count (ctxOf ws₀ at) j left d (h .trees) l walking-there next
             (record { depth = at .depth; def = at .def; ids = idsOf ws₂ top′ }) (ap faultOf (sym e) ∙ w .fault)
             (came .0) (came .1)
             (ap (λ (z : List ℕ). record { depth = at .depth; def = at .def; ids = z })
@@ -202,7 +200,7 @@ module _ (bs : List ℕ) (count : ℕ) (sound : Sound bs) (e : count ≡ treeCou
         ∙ shift-zero (first (faultsIn (test n) (treesOf bs) start))
 
     pub forest-clear : (j : ℕ) → r ≡ Next j → WalkedIn bs n 0 count origin ws ws′ r → Checked bs n ws ws′ Nowhere
-    forest-clear j f w = record { place = ap faultOf (sym f) ∙ forest-place w; kept = w .kept }
+    forest-clear j f w = record { place = ap faultOf (sym f) ∙ forest-place w; kept = w .kept .high }
 
     pub forest-fails : (p : ℕ) → r ≡ Fault p → WalkedIn bs n 0 count origin ws ws′ r → Checked bs n ws ws′ (At p)
-    forest-fails p f w = record { place = ap faultOf (sym f) ∙ forest-place w; kept = w .kept }
+    forest-fails p f w = record { place = ap faultOf (sym f) ∙ forest-place w; kept = w .kept .high }

@@ -1,16 +1,15 @@
 -- Laws of ids in work words. In order: a search for an id; a search for a clash; what is kept; ids in a part of the
--- words;
--- ids that were put on top.
+-- words; ids that were put on top.
 -- Assumes nothing.
 use Prim.Native.Nat.{ℕ, zero, suc, _+_, _-_, _<_, _≤_}
-use mathlib.Core.Path.{_≡_, refl, sym, ap, _∙_, subst}
-use mathlib.Core.Bool.{Bool, true, false, _||_}
-use mathlib.Core.List.{List, [], _∷_, _++_, append-assoc}
+use mathlib.Core.Path.{_≡_, refl, sym, ap, _∙_}
+use mathlib.Core.Bool.{true, false, _||_}
+use mathlib.Core.List.{List, _∷_, _++_, append-assoc, []}
 use native.Mathlib.Omega.{arith}
 use borrow.Author.Tests.{eq-eqb, ne-eqb}
-use lib.ListN.{length, getD, set, drop, length-append, length-set}
+use lib.ListN.{length, getD, set}
 use lib.Seq.{getD-set-same, getD-set-other, drop-set-lt}
-use Rattle.model.specs.Lists.{isIn, anyIn, twice}
+use Rattle.model.specs.Lists.{isIn}
 use Rattle.walk.specs.Words.{idsOf, idsIn, clash, Kept, Bound}
 
 -- ---- a search for an id, from the newest down

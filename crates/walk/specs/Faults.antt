@@ -1,10 +1,9 @@
--- Checks 7 to 10 as one walk over trees with four tests: a test says of a record, and of where it stands, whether it
--- offends.
--- In order: where a record stands; the walk; the tests.
+-- Checks 7 to 10 as one walk over trees with four tests: a test says of a record, where it stands, whether it offends.
+-- In order: what a tree binds; where a record stands; the walk; the tests.
 -- Assumes nothing.
 use Prim.Native.Nat.{ℕ, suc}
-use mathlib.Core.Bool.{Bool, true, false, not, _&&_, _||_, Bool·beq}
-use mathlib.Core.List.{List, [], _∷_, _++_}
+use mathlib.Core.Bool.{Bool, true, false, not, _&&_, Bool·beq, _||_}
+use mathlib.Core.List.{List, _∷_, _++_, []}
 use lib.Dec.{eqb, ltb}
 use Rattle.model.specs.Lists.{isIn, anyIn, twice}
 use Rattle.model.specs.Tree.{Rec, Tree, Trees, node, nil, cons, isNil, top}

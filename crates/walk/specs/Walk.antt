@@ -1,21 +1,21 @@
 -- The walk by record number: the trees from a record on, and what walking one of them, or several, gives.
 -- In order: trees by record number; what a walk requires; places; what a walk ensures.
 -- Assumes nothing.
-use Prim.Native.Nat.{ℕ, suc, _+_, _*_, _<_, _≤_}
+use Prim.Native.Nat.{ℕ, _+_, _*_, _≤_}
 use mathlib.Core.Path.{_≡_}
 use mathlib.Core.Option.{Option, none, some}
 use mathlib.Core.List.{List}
-use lib.ListN.{length, drop}
+use lib.ListN.{drop}
 use Rattle.model.specs.Lists.{first}
-use Rattle.model.specs.Tree.{Rec, Tree, Trees, node, many, takeT, dropT, size, sizes, grow}
-use Rattle.model.specs.Forest.{rowsIn, treesOf, recordCount, check4, check6}
+use Rattle.model.specs.Tree.{Rec, Tree, Trees, node, takeT, dropT, size, sizes, grow}
+use Rattle.model.specs.Forest.{rowsIn, treesOf, check4, check6}
 use Rattle.record.specs.Record.{Laid, rowAt}
 use Rattle.walk.specs.declared.Context.{Context}
 use Rattle.walk.specs.declared.Place.{Place}
 use Rattle.walk.specs.declared.Place.the-variants.{At, Nowhere}
 use Rattle.walk.specs.declared.Walk.{Walk}
 use Rattle.walk.specs.declared.Walk.the-variants.{Next, Fault}
-use Rattle.walk.specs.Faults.{Ctx, start, faults, faultsIn, test}
+use Rattle.walk.specs.Faults.{start, faults, faultsIn, test}
 use Rattle.walk.specs.Words.{Kept, ctxOf}
 
 -- ---- trees by record number
@@ -88,4 +88,4 @@ pub record WalkedIn (bs : List ℕ) (n i count : ℕ) (c : Context) (ws ws′ : 
 -- the walk of a forest's trees
 pub record Checked (bs : List ℕ) (n : ℕ) (ws ws′ : List ℕ) (r : Place) : Type 0 where
   pub place : placeOf r ≡ first (faultsIn (test n) (treesOf bs) start)
-  pub kept : Kept 0 ws ws′
+  pub kept : drop 3840 ws′ ≡ drop 3840 ws

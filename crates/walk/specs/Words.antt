@@ -1,12 +1,12 @@
--- Ids in work words. In order: the ids in force; ids in a part of the words; what a walk leaves as it was; where a
--- record stands.
+-- Ids in work words. In order: the ids in force; ids in a part of the words; an argument list's ids; what a walk leaves
+-- as it was; where a record and its children stand.
 -- Assumes nothing.
 use Prim.Native.Nat.{ℕ, zero, suc, _+_, _<_, _≤_}
 use mathlib.Core.Path.{_≡_}
-use mathlib.Core.Bool.{Bool, true, false, _&&_, _||_}
-use mathlib.Core.List.{List, [], _∷_, _++_, map}
+use mathlib.Core.Bool.{Bool, false, _&&_, _||_}
+use mathlib.Core.List.{List, _∷_, _++_, map, []}
 use lib.Dec.{ltb}
-use lib.ListN.{length, getD, drop}
+use lib.ListN.{getD, drop}
 use Rattle.model.specs.Lists.{isIn}
 use Rattle.model.specs.Binding.{argsOf}
 use Rattle.walk.specs.declared.Context.{Context}

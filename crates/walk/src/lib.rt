@@ -1,16 +1,15 @@
-// Checks 7 to 10 (codec.rs, validate): one walk over a forest's records, with a test for each check. A record is
-// followed by
-// its children's subtrees, in order: the walk of a subtree gives the record after it. The ids in force stand in work
-// words.
+// Checks 7 to 10: one walk over a forest's records, with a test for each check. A record is
+// followed by its children's subtrees, in order: the walk of a subtree gives the record after it. The ids in force
+// stand in work words.
 // In order: ids in force; what a record binds; the tests; the walk.
 ghost use mathlib.Core.Path.{_≡_};
 ghost use mathlib.Core.Bool.{not, Bool·beq};
 ghost use mathlib.Core.List.{_++_};
-ghost use Prim.Native.Nat.{ℕ, _+_, _-_, _*_, _<_, _≤_};
+ghost use Prim.Native.Nat.{_+_, _-_, _<_, _≤_};
 ghost use lib.Dec.{eqb};
-ghost use lib.ListN.{length, drop};
+ghost use lib.ListN.{length};
 ghost use Rattle.model.specs.Lists.{isIn};
-ghost use Rattle.model.specs.Tree.{Rec, node, nil, many};
+ghost use Rattle.model.specs.Tree.{many};
 ghost use Rattle.model.specs.Forest.{recordCount};
 ghost use Rattle.model.specs.Binding.{idOf, inside, after};
 ghost use Rattle.shape.specs.Args.{Left};
@@ -31,8 +30,8 @@ pub enum Walk {
     Fault(usize),
 }
 
-// Where a record stands: its depth, whether a definition has to stand here, and how many ids are in force:
-// work[0..top].
+// Where a record stands: its depth, whether a definition has to stand here, and how many ids are in force. They stand
+// in work[0..top], the newest last.
 pub struct Context {
     pub depth: usize,
     pub def: bool,
@@ -212,8 +211,8 @@ fn child(at: Context, left: usize, top: usize) -> Context
     }
 }
 
-// The walk of record i's subtree. Rules out: a fault of a later record where this one offends; the record after i's
-// first child.
+// The walk of record i's subtree.
+// Rules out: a fault of a later record where this one offends; the record after i's first child.
 pub fn subtree(forest: &[u8], work: &mut [u32], number: u32, i: usize, at: Context) -> Walk
     requires { ⌜ Sound (now forest) ⌝ }
     requires { ⌜ (i < recordCount (now forest)) × (3840 ≤ length (now work)) × Stands i at ⌝ }
@@ -233,8 +232,8 @@ pub fn subtree(forest: &[u8], work: &mut [u32], number: u32, i: usize, at: Conte
     subtrees(forest, work, number, i + 1, record::kids(forest, i), inner)
 }
 
-// The walk of `count` trees from record i on. Rules out: an id in force past its block's end; a fault in a tree past
-// the last.
+// The walk of `count` trees from record i on.
+// Rules out: an id in force past its block's end; a fault in a tree past the last.
 pub fn subtrees(
     forest: &[u8],
     work: &mut [u32],
@@ -263,9 +262,8 @@ pub fn subtrees(
     Walk::Next(j)
 }
 
-// Check 7, 8, 9 or 10 of a forest, by its number. Rules out: the place counted in one tree and not in the forest; a
-// check
-// of the first tree only.
+// Check 7, 8, 9 or 10 of a forest, by its number.
+// Rules out: the place counted in one tree and not in the forest; a check of the first tree only.
 pub fn trees(forest: &[u8], work: &mut [u32], number: u32) -> Place
     requires { ⌜ Sound (now forest) ⌝ }
     requires { ⌜ 3840 ≤ length (now work) ⌝ }

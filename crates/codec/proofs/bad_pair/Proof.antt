@@ -1,7 +1,6 @@
 -- `codec::bad_pair` meets its contract. Assumes nothing.
 use borrow.Author.Needs.{needs}
-use mathlib.Core.Path.{_≡_, sym, ap, _∙_}
-use mathlib.Core.Bool.{Bool}
+use mathlib.Core.Path.{sym, ap, _∙_}
 use Rattle.codec.specs.Codec.{badPair}
 use Rattle.codec.proofs.Directory.{pair-moved, pair-short, pair-last, pair-inner}
 use Rattle.codec.proofs.bad_pair.Statement.{statement}

@@ -1,7 +1,7 @@
 -- `codec::bindings` meets its contract. Assumes nothing.
 use borrow.Author.Needs.{needs}
 use denote.Ref.{now}
-use mathlib.Core.Path.{_≡_, _∙_}
+use mathlib.Core.Path.{_∙_}
 use Rattle.model.specs.Forest.{treesOf}
 use Rattle.walk.proofs.Checks.{check-7, check-8, check-9, check-10}
 use Rattle.codec.proofs.Accepting.{passed, failed, refused-7, refused-8, refused-9, refused-10, accepted}
@@ -18,7 +18,7 @@ returns c =
     let fails = failed _ _ _ (c7 .trees .ensures .place ∙ check-7 bs) (c .before .p .given .1) in
     record {
       is = refused-7 bs (b .pre .0) _ fails;
-      kept = c7 .trees .ensures .kept .high;
+      kept = c7 .trees .ensures .kept;
     }
 
 returns-2 : tie.Need-returns-2
@@ -32,8 +32,8 @@ returns-2 c =
     record {
       is = refused-8 bs (b .pre .0) seven _ fails;
       kept =
-          c8 .trees2 .ensures .kept .high
-          ∙ c7 .trees .ensures .kept .high;
+          c8 .trees2 .ensures .kept
+          ∙ c7 .trees .ensures .kept;
     }
 
 returns-3 : tie.Need-returns-3
@@ -50,9 +50,9 @@ returns-3 c =
     record {
       is = refused-9 bs (b .pre .0) seven eight _ fails;
       kept =
-          c9 .trees3 .ensures .kept .high
-          ∙ c8 .trees2 .ensures .kept .high
-          ∙ c7 .trees .ensures .kept .high;
+          c9 .trees3 .ensures .kept
+          ∙ c8 .trees2 .ensures .kept
+          ∙ c7 .trees .ensures .kept;
     }
 
 returns-4 : tie.Need-returns-4
@@ -72,10 +72,10 @@ returns-4 c =
     record {
       is = refused-10 bs (b .pre .0) seven eight nine _ fails;
       kept =
-          c10 .trees4 .ensures .kept .high
-          ∙ c9 .trees3 .ensures .kept .high
-          ∙ c8 .trees2 .ensures .kept .high
-          ∙ c7 .trees .ensures .kept .high;
+          c10 .trees4 .ensures .kept
+          ∙ c9 .trees3 .ensures .kept
+          ∙ c8 .trees2 .ensures .kept
+          ∙ c7 .trees .ensures .kept;
     }
 
 returns-5 : tie.Need-returns-5
@@ -95,10 +95,10 @@ returns-5 c =
     record {
       is = accepted bs (b .pre .0) seven eight nine ten;
       kept =
-          c10 .trees4 .ensures .kept .high
-          ∙ c9 .trees3 .ensures .kept .high
-          ∙ c8 .trees2 .ensures .kept .high
-          ∙ c7 .trees .ensures .kept .high;
+          c10 .trees4 .ensures .kept
+          ∙ c9 .trees3 .ensures .kept
+          ∙ c8 .trees2 .ensures .kept
+          ∙ c7 .trees .ensures .kept;
     }
 
 pub bindings-spec : {M : Type 1} → statement M

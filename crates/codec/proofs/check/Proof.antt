@@ -2,7 +2,7 @@
 use borrow.Author.Needs.{needs}
 use native.Mathlib.Omega.{arith}
 use denote.Ref.{now}
-use mathlib.Core.Path.{_≡_, refl, subst}
+use mathlib.Core.Path.{refl, subst}
 use Rattle.codec.specs.Codec.{Layout}
 use Rattle.codec.proofs.check.Statement.{statement}
 use Rattle.codec.proofs.check.Tie as tie

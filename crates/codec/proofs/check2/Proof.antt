@@ -1,7 +1,6 @@
 -- `codec::check2` meets its contract. Assumes nothing.
 use borrow.Author.Needs.{needs}
 use native.Mathlib.Omega.{arith}
-use denote.Ref.{now}
 use Rattle.codec.proofs.Header.{header-short, header-long, header-no-tree, header-trees}
 use Rattle.codec.proofs.Header.{header-no-record, header-records, header-right}
 use Rattle.codec.proofs.check2.Statement.{statement}

@@ -1,12 +1,10 @@
 -- `codec::check6` meets its contract. Assumes nothing.
 use Prim.Native.Nat.{ℕ, _+_, _-_, _*_, _≤_}
-use mathlib.Core.Path.{_≡_, refl, sym, ap, _∙_}
+use mathlib.Core.Path.{_≡_, sym, ap, _∙_}
 use native.Mathlib.Omega.{arith}
-use borrow.Author.Needs.{needs}
 use denote.Ref.{now}
 use lib.ListN.{drop}
 use Rattle.model.specs.Forest.{recordCount, rowsIn, unclosed, check6}
-use Rattle.record.specs.Record.{rowAt}
 use Rattle.laws.proofs.Header.{header-of}
 use Rattle.codec.proofs.Closing.{closing-start, closing-over, closing-turn, closing-none, closing-lack}
 use Rattle.codec.proofs.check6.Statement.{statement}

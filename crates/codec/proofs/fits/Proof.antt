@@ -1,7 +1,6 @@
 -- `codec::fits` meets its contract. Assumes nothing.
 use borrow.Author.Needs.{needs}
 use denote.Ref.{now}
-use mathlib.Core.Path.{_∙_}
 use Rattle.record.specs.Record.{rowAt}
 use Rattle.codec.proofs.Rows.{fits-made}
 use Rattle.codec.proofs.fits.Statement.{statement}
@@ -11,9 +10,9 @@ returns : tie.Need-returns
 returns c =
     let a = c .before .before .before .before .before .before .args in
     let r = rowAt (now (a .forest)) (a .i) in
-    c .fits2 .ensures (r .rec .opcode)
-    ∙ fits-made r _ _ _ _ (c .before .before .before .before .shape .ensures)
-    (c .before .before .before .kids .ensures .0) (c .before .before .aux .ensures) (c .before .literal .ensures)
+    fits-made r _ _ _ _ (c .before .before .before .before .shape .ensures)
+    (c .before .before .before .kids .ensures .0) (c .before .before .aux .ensures)
+    (c .before .literal .ensures) (c .fits2 .result) (c .fits2 .ensures)
 
 pub fits-spec : {M : Type 1} → statement M
 fits-spec =

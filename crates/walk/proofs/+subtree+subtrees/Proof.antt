@@ -1,6 +1,6 @@
 -- `walk::subtree` and `walk::subtrees` meet their contracts: records left fall with each call. Assumes nothing.
 use Prim.Native.Nat.{ℕ, _+_, _-_, _*_, _<_, _≤_}
-use mathlib.Core.Path.{_≡_, refl, sym, ap, _∙_}
+use mathlib.Core.Path.{_≡_, refl, _∙_}
 use native.Mathlib.Omega.{arith}
 use borrow.Author.Needs.{needs}
 use borrow.Fn.Kinds.{In}
@@ -9,7 +9,6 @@ use denote.Ref.{now}
 use lib.ListN.{length}
 use Rattle.record.proofs.kids.Reads as kids-reads
 use Rattle.record.proofs.shape.Reads as shape-reads
-use Rattle.walk.specs.Walk.{Sound}
 use Rattle.walk.proofs.Words.{bound-own}
 use Rattle.walk.proofs.Bridge.{kids-there, records-few, ids-room}
 use Rattle.walk.proofs.Walking.{Walking, subtree-offends, subtree-passes, below-stands}

@@ -3,8 +3,8 @@ use borrow.Author.Needs.{needs}
 use native.Mathlib.Omega.{arith}
 use denote.Ref.{now}
 use Prim.Native.Nat.{ℕ}
-use mathlib.Core.Path.{_≡_, sym, ap, _∙_}
-use mathlib.Core.List.{[], _∷_}
+use mathlib.Core.Path.{sym, ap, _∙_}
+use mathlib.Core.List.{_∷_, []}
 use Rattle.walk.specs.Walk.{treeAt}
 use Rattle.walk.proofs.Words.{bound-none, bound-one}
 use Rattle.walk.proofs.Bridge.{def-literal}

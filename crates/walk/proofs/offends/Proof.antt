@@ -2,8 +2,8 @@
 use borrow.Author.Needs.{needs}
 use denote.Ref.{now}
 use Prim.Native.Nat.{ℕ}
-use mathlib.Core.Bool.{Bool, not, Bool·beq}
-use mathlib.Core.Path.{_≡_, sym, ap, _∙_}
+use mathlib.Core.Bool.{not, Bool·beq}
+use mathlib.Core.Path.{ap, _∙_}
 use lib.Dec.{eqb}
 use Rattle.record.specs.Record.{rowAt}
 use Rattle.walk.specs.Words.{ctxOf}
@@ -27,16 +27,14 @@ returns-2 c =
 returns-3 : tie.Need-returns-3
 returns-3 c =
     let a = c .before .before .before .before .before .before .args in
-    c .rebound .ensures
-    ∙ test-9 (a .number) (ctxOf (now (a .work)) (a .at)) (rowAt (now (a .forest)) (a .i) .rec) (c .before .if3 .taken)
+    test-9 (a .number) (ctxOf (now (a .work)) (a .at)) (rowAt (now (a .forest)) (a .i) .rec) (c .rebound .result)
+    (c .rebound .ensures) (c .before .if3 .taken)
 
 returns-4 : tie.Need-returns-4
 returns-4 c =
     let a = c .before .before .before .before .before .before .args in
-    c .unbound .ensures
-    ∙ test-10 (a .number) (ctxOf (now (a .work)) (a .at)) (rowAt (now (a .forest)) (a .i) .rec)
-    (c .before .before .before .if1 .left)
-    (c .before .before .if2 .left) (c .before .if3 .left)
+    test-10 (a .number) (ctxOf (now (a .work)) (a .at)) (rowAt (now (a .forest)) (a .i) .rec) (c .unbound .result)
+    (c .unbound .ensures) (c .before .before .before .if1 .left) (c .before .before .if2 .left) (c .before .if3 .left)
 
 pub offends-spec : {M : Type 1} → statement M
 offends-spec =

@@ -3,8 +3,8 @@ use borrow.Author.Needs.{needs}
 use native.Mathlib.Omega.{arith}
 use denote.Ref.{now}
 use Prim.Native.Nat.{ℕ}
-use mathlib.Core.Bool.{Bool, not}
-use mathlib.Core.Path.{_≡_, sym, ap, _∙_}
+use mathlib.Core.Bool.{not}
+use mathlib.Core.Path.{sym, ap, _∙_}
 use Rattle.model.specs.Lists.{isIn}
 use Rattle.record.specs.Record.{rowAt}
 use Rattle.walk.specs.Words.{idsOf}

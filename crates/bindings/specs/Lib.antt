@@ -1,0 +1,2 @@
+-- What the contracts of bindings cite. Assumes nothing.
+pub mod Bindings

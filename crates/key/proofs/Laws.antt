@@ -1,0 +1,154 @@
+-- A symbol that was stored is read back, every other symbol is as it was, and so is every other word. In order: the
+-- parts that words hold; reading back; other words; the words that a symbol hangs on; other symbols.
+-- Assumes nothing.
+use Prim.Native.Nat.{ℕ, suc, _+_, _*_, _/_, _%_, _<_, _≤_}
+use mathlib.Core.Path.{_≡_, refl, sym, ap, _∙_, subst}
+use mathlib.Core.List.{List, [], _∷_}
+use mathlib.Core.Logic.{⊎-elim}
+use native.Mathlib.Omega.{arith}
+use native.Mathlib.Nat.{add-zero, add-mul-mod-self-left, mod-eq-of-lt}
+use lib.ListN.{length, getD, set, length-set}
+use lib.Seq.{sets}
+use Rattle.key.specs.declared.Parts.{Parts}
+use Rattle.key.specs.declared.Symbol.{Symbol}
+use Rattle.key.specs.declared.Node.{Node}
+use Rattle.key.specs.declared.Node.the-variants.{Const, Unparsed, Arg, Lambda, Op}
+use Rattle.key.specs.Key.{Fits, partsOf, nodeOf, head, middle, tail, put5, storeSymbol, symbolOf, symbolAt}
+use Rattle.key.proofs.Runs.{Agree, sets-run, sets-before, sets-after}
+
+-- ---- the parts that words hold
+
+tag-small : (n : Node) → partsOf n .tag < 8
+tag-small (Const l) = omega arith
+tag-small (Unparsed l) = omega arith
+tag-small (Arg l) = omega arith
+tag-small (Lambda f) = omega arith
+tag-small (Op o) = omega arith
+
+-- what `store` shows of the parts that it packs
+module _ (p : Parts) (y : Symbol) (is : p ≡ partsOf (y .node)) (fits : Fits y) where
+  pub head-fits : (p .tag < 8) × (p .«record» < 256) × (p .field < 4) × (y .count < 512)
+  head-fits = rw is (tag-small (y .node), fits .from, fits .field, fits .count)
+
+  pub middle-fits : (y .kids < 4096) × (p .second < 4096) × (p .branches < 4)
+  middle-fits = rw is (fits .kids, fits .second, fits .branches)
+
+  pub tail-fits : (y .scope < 4096) × (p .first < 4096)
+  tail-fits = rw is (fits .scope, fits .first)
+
+  -- the words that it stores are the definition's
+  pub packed : (ws ws′ : List ℕ) (s a b c d e : ℕ) → ws′ ≡ put5 ws (5 * s) a b c d e →
+      a ≡ head p (y .count) → b ≡ middle p (y .kids) → c ≡ tail p (y .scope) →
+      d ≡ y .levels % 4294967296 → e ≡ y .levels / 4294967296 → ws′ ≡ storeSymbol ws s y
+  unfolding storeSymbol
+  packed ws ws′ s a b c d e ew ea eb ec ed ee = rw (ew, ea, eb, ec, ed, ee, is)
+
+node-parts : (n : Node) → nodeOf (partsOf n) ≡ n
+node-parts (Const l) = refl
+node-parts (Unparsed l) = refl
+node-parts (Arg l) = refl
+node-parts (Lambda f) = refl
+node-parts (Op o) = refl
+
+-- the lowest digit in base m
+digit : (m x r k : ℕ) → x ≡ r + m * k → r < m → x % m ≡ r
+digit m x r k e lt = rw (e, add-mul-mod-self-left r m k) (mod-eq-of-lt lt)
+
+module _ (p : Parts) (count kids scope levels : ℕ) where
+  unpacked : (p .tag < 8) × (p .«record» < 256) × (p .field < 4) × (count < 512) →
+      (kids < 4096) × (p .second < 4096) × (p .branches < 4) → (scope < 4096) × (p .first < 4096) →
+      symbolOf (head p count) (middle p kids) (tail p scope) (levels % 4294967296) (levels / 4294967296)
+      ≡ record { node = nodeOf p; kids = kids; count = count; scope = scope; levels = levels }
+  unpacked h m t =
+      let a1 : head p count % 8 ≡ p .tag = omega arith in
+      let a : head p count / 8 ≡ p .«record» + 256 * (p .field + 4 * count) = omega arith in
+      let a2 : head p count / 8 % 256 ≡ p .«record» = digit 256 _ _ _ a (h .1) in
+      let a′ : head p count / 2048 ≡ p .field + 4 * count = omega arith in
+      let a3 : head p count / 2048 % 4 ≡ p .field = digit 4 _ _ _ a′ (h .2) in
+      let a4 : head p count / 8192 ≡ count = omega arith in
+      let b1 : middle p kids % 4096 ≡ kids = omega arith in
+      let b : middle p kids / 4096 ≡ p .second + 4096 * p .branches = omega arith in
+      let b2 : middle p kids / 4096 % 4096 ≡ p .second = digit 4096 _ _ _ b (m .1) in
+      let b3 : middle p kids / 16777216 ≡ p .branches = omega arith in
+      let c1 : tail p scope % 4096 ≡ scope = omega arith in
+      let c2 : tail p scope / 4096 ≡ p .first = omega arith in
+      let d : levels % 4294967296 + 4294967296 * (levels / 4294967296) ≡ levels = omega arith in
+      rw (a1, a2, a3, a4, b1, b2, b3, c1, c2, d)
+
+-- ---- reading back
+
+module _ (ws : List ℕ) (at a b c d e : ℕ) where
+  abbrev five : List ℕ
+  five = a ∷ b ∷ c ∷ d ∷ e ∷ []
+
+  put5-sets : put5 ws at a b c d e ≡ sets ws at five
+  put5-sets =
+      let e1 : at + 1 ≡ suc at = omega arith in
+      let e2 : at + 2 ≡ suc (suc at) = omega arith in
+      let e3 : at + 3 ≡ suc (suc (suc at)) = omega arith in
+      let e4 : at + 4 ≡ suc (suc (suc (suc at))) = omega arith in
+      rw (e1, e2, e3, e4)
+
+  put5-reads : at + 5 ≤ length ws → (j : ℕ) → j < 5 → getD (put5 ws at a b c d e) (at + j) 0 ≡ getD five j 0
+  put5-reads h j lt = ap (λ (x : List ℕ). getD x (at + j) 0) put5-sets ∙ sets-run five ws at j lt h
+
+  put5-before : (k : ℕ) → k < at → getD (put5 ws at a b c d e) k 0 ≡ getD ws k 0
+  put5-before k h = ap (λ (x : List ℕ). getD x k 0) put5-sets ∙ sets-before five ws at k h
+
+  put5-after : (k : ℕ) → at + 5 ≤ k → getD (put5 ws at a b c d e) k 0 ≡ getD ws k 0
+  put5-after k h = ap (λ (x : List ℕ). getD x k 0) put5-sets ∙ sets-after five ws at k h
+
+-- load after store
+pub load-store : (ws : List ℕ) (s : ℕ) (y : Symbol) → Fits y → 5 * s + 5 ≤ length ws →
+    symbolAt (storeSymbol ws s y) s ≡ y
+unfolding storeSymbol symbolAt
+load-store ws s y fits h =
+    let p = partsOf (y .node) in
+    let l = y .levels in
+    let r : (j : ℕ) → j < 5 → getD (storeSymbol ws s y) (5 * s + j) 0
+    ≡ getD (head p (y .count) ∷ middle p (y .kids) ∷ tail p (y .scope) ∷ l % 4294967296 ∷ l / 4294967296 ∷ []) j 0 =
+    put5-reads ws (5 * s) (head p (y .count)) (middle p (y .kids)) (tail p (y .scope)) (l % 4294967296)
+    (l / 4294967296) h in
+    let r0 : getD (storeSymbol ws s y) (5 * s) 0 ≡ head p (y .count) =
+    ap (λ (k : ℕ). getD (storeSymbol ws s y) k 0) (sym (add-zero (5 * s))) ∙ r 0 (omega arith) in
+    rw (r0, r 1 (omega arith), r 2 (omega arith), r 3 (omega arith), r 4 (omega arith))
+    (unpacked p (y .count) (y .kids) (y .scope) l (head-fits p y refl fits) (middle-fits p y refl fits)
+    (tail-fits p y refl fits)
+    ∙ ap (λ (n : Node). record { node = n; kids = y .kids; count = y .count; scope = y .scope; levels = l })
+    (node-parts (y .node)))
+
+-- ---- other words
+
+module _ (ws : List ℕ) (s : ℕ) (y : Symbol) where
+  pub store-length : length (storeSymbol ws s y) ≡ length ws
+  unfolding storeSymbol
+  store-length = simp length-set
+
+  pub store-before : (k : ℕ) → k < 5 * s → getD (storeSymbol ws s y) k 0 ≡ getD ws k 0
+  unfolding storeSymbol
+  store-before k h = put5-before ws (5 * s) _ _ _ _ _ k h
+
+  pub store-after : (k : ℕ) → 5 * s + 5 ≤ k → getD (storeSymbol ws s y) k 0 ≡ getD ws k 0
+  unfolding storeSymbol
+  store-after k h = put5-after ws (5 * s) _ _ _ _ _ k h
+
+-- ---- a symbol hangs on its five words only
+
+pub symbol-agree : (ws ws′ : List ℕ) (s : ℕ) → Agree ws ws′ (5 * s) (5 * s + 5) → symbolAt ws′ s ≡ symbolAt ws s
+unfolding symbolAt
+symbol-agree ws ws′ s h =
+    rw (
+      h (5 * s) (omega arith) (omega arith),
+      h (5 * s + 1) (omega arith) (omega arith),
+      h (5 * s + 2) (omega arith) (omega arith),
+      h (5 * s + 3) (omega arith) (omega arith),
+      h (5 * s + 4) (omega arith) (omega arith),
+    )
+
+-- ---- other symbols
+
+pub store-lower : (ws : List ℕ) (s : ℕ) (y : Symbol) (t : ℕ) → t < s → symbolAt (storeSymbol ws s y) t ≡ symbolAt ws t
+store-lower ws s y t h = symbol-agree ws (storeSymbol ws s y) t (λ k l r. store-before ws s y k (omega arith))
+
+pub store-higher : (ws : List ℕ) (s : ℕ) (y : Symbol) (t : ℕ) → s < t → symbolAt (storeSymbol ws s y) t ≡ symbolAt ws t
+store-higher ws s y t h = symbol-agree ws (storeSymbol ws s y) t (λ k l r. store-after ws s y k (omega arith))

@@ -1,0 +1,3 @@
+-- Laws that callers cite: runs of stores, and symbols in words. Assumes nothing.
+pub mod Runs
+pub mod Laws

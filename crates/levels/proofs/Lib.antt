@@ -1,0 +1,2 @@
+-- Laws of sets of levels. Assumes nothing.
+pub mod Laws

@@ -1,0 +1,2 @@
+-- What the contracts of memo cite. Assumes nothing.
+pub mod Memo

@@ -1,0 +1,26 @@
+-- Projections remembered in words, one to a pair, from word 7,688 on. Assumes nothing.
+use Prim.Native.Nat.{ℕ, zero, suc, _+_, _*_, _/_, _%_}
+use mathlib.Core.Option.{Option, none, some}
+use mathlib.Core.List.{List, [], _∷_}
+use lib.ListN.{getD, set}
+use Rattle.memo.specs.declared.Projections.{Projections}
+use Rattle.memo.specs.declared.Projections.the-variants.{Pair, Nothing}
+
+-- a symbol and its two projections, in a word
+abbrev pub tripleOf : ℕ → ℕ × ℕ × ℕ
+tripleOf w = (w % 512, w / 512 % 512, w / 262144)
+
+abbrev pub tripleAt : List ℕ → ℕ → ℕ × ℕ × ℕ
+tripleAt ws k = tripleOf (getD ws (7688 + k) 0)
+
+-- the first n pairs, the newest first
+unfoldable pub memoOf : List ℕ → ℕ → List (ℕ × ℕ × ℕ)
+memoOf ws zero = []
+memoOf ws (suc n) = tripleAt ws n ∷ memoOf ws n
+
+abbrev pub remembered : List ℕ → ℕ → ℕ → ℕ → ℕ → List ℕ
+remembered ws n p a b = set ws (7688 + n) (p + 512 * a + 262144 * b)
+
+abbrev pub projectionsOf : Projections → Option (ℕ × ℕ)
+projectionsOf (Pair a b) = some (a, b)
+projectionsOf Nothing = none

@@ -1,0 +1,37 @@
+// Projections remembered, in work words: a word to a pair, the newest last.
+ghost use mathlib.Core.Path.{_≡_};
+ghost use Prim.Native.Nat.{_+_, _<_, _≤_};
+ghost use lib.ListN.{length};
+ghost use Rattle.model.specs.Intern.{recall};
+ghost use Rattle.memo.specs.Memo.{memoOf, projectionsOf, remembered};
+
+// The symbols of the fields 1 and 2 of a symbol.
+pub enum Projections {
+    Pair(u32, u32),
+    Nothing,
+}
+
+// What is remembered of symbol p among the first n pairs. Not: the pair of another symbol; the two fields exchanged.
+pub fn recall(work: &[u32], n: usize, p: u32) -> Projections
+    requires { ⌜ 7688 + n ≤ length (now work) ⌝ }
+    ensures { λ r. ⌜ projectionsOf r ≡ recall (memoOf (now (work .entry)) n) p ⌝ }
+{
+    let mut k = n;
+    while 0 < k {
+        k -= 1;
+        let w = work[7688 + k];
+        if w % 512 == p {
+            return Projections::Pair(w / 512 % 512, w / 262144);
+        }
+    }
+    Projections::Nothing
+}
+
+// Pair n: a and b are fields 1 and 2 of p. Not: b first; another pair changed.
+pub fn remember(work: &mut [u32], n: usize, p: u32, a: u32, b: u32)
+    requires { ⌜ 7688 + n < length (now work) ⌝ }
+    requires { ⌜ (p < 512) × (a < 512) × (b < 512) ⌝ }
+    ensures { λ _. ⌜ now (work .exit) ≡ remembered (now (work .entry)) n p a b ⌝ }
+{
+    work[7688 + n] = p + 512 * a + 262144 * b;
+}
