@@ -5,7 +5,7 @@ ghost use lib.ListN.{length};
 ghost use Rattle.model.specs.Intern.{resolve};
 ghost use Rattle.bindings.specs.Bindings.{envOf, bound};
 
-// The symbol of an id among the first n entries, by the newest that has it. Not: by the oldest; the id itself.
+// The symbol of an id among the first n entries, by the newest that has it. Rules out: by the oldest; the id itself.
 pub fn resolve(work: &[u32], n: usize, id: u32) -> u32
     requires { ⌜ 8456 + 2 * n ≤ length (now work) ⌝ }
     ensures { λ r. ⌜ r ≡ resolve (envOf (now (work .entry)) n) id ⌝ }
@@ -20,7 +20,8 @@ pub fn resolve(work: &[u32], n: usize, id: u32) -> u32
     0
 }
 
-// An id and its symbol become entry k. Not: the symbol under the next id; a word changed beside the entry's two.
+// An id and its symbol become entry k.
+// Rules out: the symbol under the next id; a word changed beside the entry's two.
 pub fn bind(work: &mut [u32], k: usize, id: u32, symbol: u32)
     requires { ⌜ 8456 + 2 * k + 1 < length (now work) ⌝ }
     ensures { λ _. ⌜ now (work .exit) ≡ bound (now (work .entry)) k id symbol ⌝ }

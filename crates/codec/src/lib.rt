@@ -128,7 +128,8 @@ fn agrees(forest: &[u8], i: usize) -> bool
     shape::agrees(shape, opcode)
 }
 
-// Check 5: opcodes against shapes. Rules out: the last record that does not agree; nowhere for opcode 00 with shape 2.
+// Check 5: opcodes against shapes.
+// Rules out: the last record that does not agree; nowhere for opcode 00 with shape 2.
 pub fn check5(forest: &[u8]) -> Place
     requires { ⌜ Laid (now forest) ⌝ }
     ensures { λ r. ⌜ placeOf r ≡ model.check5 (now (forest .entry)) ⌝ }
@@ -215,8 +216,8 @@ fn bindings(forest: &[u8], work: &mut [u32]) -> Verdict
     }
 }
 
-// Checks 2 to 10, "in that order, each over the whole forest before the next". The work memory's first 3,840 words held
-// the ids in force and may hold anything; the others are as they were.
+// Checks 2 to 10, "in that order, each over the whole forest before the next". The work memory's first 3,840 words
+// held the ids in force and may hold anything; the others are as they were.
 // Rules out: 9 where 8 fails in a later record; accepted where a definition's value uses it.
 pub fn check(forest: &[u8], work: &mut [u32]) -> Verdict
     requires { ⌜ 3840 ≤ length (now work) ⌝ }

@@ -2,12 +2,11 @@
 -- parts that words hold; reading back; other words; the words that a symbol hangs on; other symbols.
 -- Assumes nothing.
 use Prim.Native.Nat.{ℕ, suc, _+_, _*_, _/_, _%_, _<_, _≤_}
-use mathlib.Core.Path.{_≡_, refl, sym, ap, _∙_, subst}
+use mathlib.Core.Path.{_≡_, refl, sym, ap, _∙_}
 use mathlib.Core.List.{List, [], _∷_}
-use mathlib.Core.Logic.{⊎-elim}
 use native.Mathlib.Omega.{arith}
 use native.Mathlib.Nat.{add-zero, add-mul-mod-self-left, mod-eq-of-lt}
-use lib.ListN.{length, getD, set, length-set}
+use lib.ListN.{length, getD, length-set}
 use lib.Seq.{sets}
 use Rattle.key.specs.declared.Parts.{Parts}
 use Rattle.key.specs.declared.Symbol.{Symbol}

@@ -6,8 +6,6 @@ use mathlib.Core.Bool.{Bool, true, false}
 use lib.Dec.{eqb}
 use lib.ListN.{getD, set}
 use Rattle.key.specs.declared.Leaf.{Leaf}
-use Rattle.key.specs.declared.Func.{Func}
-use Rattle.key.specs.declared.Operation.{Operation}
 use Rattle.key.specs.declared.Parts.{Parts}
 use Rattle.key.specs.declared.Symbol.{Symbol}
 use Rattle.key.specs.declared.Node.{Node}
@@ -80,17 +78,21 @@ storeSymbol ws s y =
 
 -- ---- loading
 
+-- the parts in the first three words
+abbrev pub partsIn : ℕ → ℕ → ℕ → Parts
+partsIn a b c = record {
+  tag = a % 8;
+  «record» = a / 8 % 256;
+  field = a / 2048 % 4;
+  branches = b / 16777216;
+  first = c / 4096;
+  second = b / 4096 % 4096;
+}
+
 -- the symbol of five words
 abbrev pub symbolOf : ℕ → ℕ → ℕ → ℕ → ℕ → Symbol
 symbolOf a b c d e = record {
-  node = nodeOf (record {
-    tag = a % 8;
-    «record» = a / 8 % 256;
-    field = a / 2048 % 4;
-    branches = b / 16777216;
-    first = c / 4096;
-    second = b / 4096 % 4096;
-  });
+  node = nodeOf (partsIn a b c);
   kids = b % 4096;
   count = a / 8192;
   scope = c % 4096;

@@ -3,7 +3,7 @@ ghost use mathlib.Core.Path.{_≡_};
 ghost use Prim.Native.Nat.{_+_, _*_, _<_, _≤_, _/_, _%_};
 ghost use lib.ListN.{length};
 ghost use Rattle.key.specs.Key.{Fits, leafParts, partsOf, nodeOf, head, middle, tail};
-ghost use Rattle.key.specs.Key.{put5, storeSymbol, symbolAt};
+ghost use Rattle.key.specs.Key.{partsIn, put5, storeSymbol, symbolAt};
 
 // A constant, an unparsed node or an argument: the record that it was made for.
 pub struct Leaf {
@@ -182,16 +182,8 @@ pub fn store(work: &mut [u32], s: usize, y: Symbol)
     put(work, 5 * s, a, b, c, low(y.levels), high(y.levels))
 }
 
-fn parts_from(a: u32, b: u32, c: u32) -> Parts
-    ensures { λ r.
-        ⌜ r ≡ record {
-          tag = a % 8;
-          «record» = a / 8 % 256;
-          field = a / 2048 % 4;
-          branches = b / 16777216;
-          first = c / 4096;
-          second = b / 4096 % 4096;
-        } ⌝ }
+fn parts_in(a: u32, b: u32, c: u32) -> Parts
+    ensures { λ r. ⌜ r ≡ partsIn a b c ⌝ }
 {
     Parts {
         tag: a % 8,
@@ -212,7 +204,7 @@ pub fn load(work: &[u32], s: usize) -> Symbol
     let a = work[at];
     let b = work[at + 1];
     let c = work[at + 2];
-    let node = node_of(parts_from(a, b, c));
+    let node = node_of(parts_in(a, b, c));
     let levels = wide(work[at + 3]) + 4294967296 * wide(work[at + 4]);
     Symbol {
         node,

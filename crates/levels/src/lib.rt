@@ -5,14 +5,14 @@ ghost use Prim.Native.Nat.{ℕ, _<_, _^_};
 ghost use lib.Dec.{eqb};
 ghost use Rattle.levels.specs.Levels.{has};
 
-// No level. Not: level 0; every level.
+// No level. Rules out: level 0; every level.
 pub fn empty() -> u64
     ensures { λ r. ⌜ ((j : ℕ) → has r j ≡ false) ⌝ }
 {
     0
 }
 
-// Whether level k is in the set. Not: whether a level above k is; whether the set is k alone.
+// Whether level k is in the set. Rules out: whether a level above k is; whether the set is k alone.
 pub fn has(levels: u64, k: u32) -> bool
     requires { ⌜ k < 64 ⌝ }
     ensures { λ r. ⌜ r ≡ has levels k ⌝ }
@@ -28,7 +28,7 @@ fn only(k: u32) -> u64
     1u64 << k
 }
 
-// The set with level k. Not: k alone; the set with k taken out where it was in.
+// The set with level k. Rules out: k alone; the set with k taken out where it was in.
 pub fn with(levels: u64, k: u32) -> u64
     requires { ⌜ k < 64 ⌝ }
     ensures { λ r. ⌜ ((j : ℕ) → has r j ≡ (eqb j k || has levels j)) ⌝ }
@@ -36,7 +36,7 @@ pub fn with(levels: u64, k: u32) -> u64
     levels | only(k)
 }
 
-// The set without level k. Not: the set with k put in where it was out; the set without the levels below k.
+// The set without level k. Rules out: the set with k put in where it was out; the set without the levels below k.
 pub fn without(levels: u64, k: u32) -> u64
     requires { ⌜ k < 64 ⌝ }
     ensures { λ r. ⌜ ((j : ℕ) → has r j ≡ (not (eqb j k) && has levels j)) ⌝ }
@@ -44,7 +44,7 @@ pub fn without(levels: u64, k: u32) -> u64
     levels ^ (levels & only(k))
 }
 
-// The levels of either set. Not: those of both; those of one of the two sets only.
+// The levels of either set. Rules out: those of both; those of one of the two sets only.
 pub fn join(a: u64, b: u64) -> u64
     ensures { λ r. ⌜ ((j : ℕ) → has r j ≡ (has a j || has b j)) ⌝ }
 {

@@ -11,7 +11,8 @@ pub enum Projections {
     Nothing,
 }
 
-// What is remembered of symbol p among the first n pairs. Not: the pair of another symbol; the two fields exchanged.
+// What is remembered of symbol p among the first n pairs.
+// Rules out: the pair of another symbol; the two fields exchanged.
 pub fn recall(work: &[u32], n: usize, p: u32) -> Projections
     requires { ⌜ 7688 + n ≤ length (now work) ⌝ }
     ensures { λ r. ⌜ projectionsOf r ≡ recall (memoOf (now (work .entry)) n) p ⌝ }
@@ -27,7 +28,7 @@ pub fn recall(work: &[u32], n: usize, p: u32) -> Projections
     Projections::Nothing
 }
 
-// Pair n: a and b are fields 1 and 2 of p. Not: b first; another pair changed.
+// Pair n: a and b are fields 1 and 2 of p. Rules out: b first; another pair changed.
 pub fn remember(work: &mut [u32], n: usize, p: u32, a: u32, b: u32)
     requires { ⌜ 7688 + n < length (now work) ⌝ }
     requires { ⌜ (p < 512) × (a < 512) × (b < 512) ⌝ }

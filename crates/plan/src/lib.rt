@@ -4,7 +4,8 @@ ghost use Prim.Native.Nat.{_+_, _≤_};
 ghost use lib.ListN.{length};
 ghost use Rattle.plan.specs.Plan.{put3, plannedOf, plannedAt, storePlanned};
 
-// A record to be written. Field is made beside a projection that was read, so no record of the forest has its literal.
+// A record to be written. Field is made beside a projection that was read, so no record of the forest has its
+// literal.
 pub enum Planned {
     // the forest's record, as it stands
     Copy(u32),

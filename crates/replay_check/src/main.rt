@@ -1,5 +1,5 @@
-// Replays a list of forests. A row of standard input is a 32-bit length and so many bytes, at most 65,536; for each row the
-// answer of the checks is printed on a line.
+// Replays a list of forests. A row of standard input is a 32-bit length and so many bytes, at most 65,536; for each
+// row the answer of the checks is printed on a line.
 ghost use Prim.Native.Nat.{_<_};
 use codec::Verdict;
 use libc::STDIN_FILENO;

@@ -33,7 +33,7 @@ fn packed(parent: u32, first: u32, code: u32, level: u32) -> u32
     parent + 4096 * first + 2097152 * code + 67108864 * level
 }
 
-// The outermost scope is opened. Not: a word left as it was; a lambda.
+// The outermost scope is opened. Rules out: a word left as it was; a lambda.
 pub fn open_outermost(work: &mut [u32])
     requires { ⌜ 5120 < length (now work) ⌝ }
     ensures { λ _. ⌜ now (work .exit) ≡ set (now (work .entry)) 5120 0 ⌝ }
@@ -41,7 +41,7 @@ pub fn open_outermost(work: &mut [u32])
     work[5120] = 0;
 }
 
-// Scope m is opened as a thunk inside `cur`. Not: a lambda without arguments; a scope one level deeper.
+// Scope m is opened as a thunk inside `cur`. Rules out: a lambda without arguments; a scope one level deeper.
 pub fn open_thunk(work: &mut [u32], m: usize, cur: usize)
     requires { ⌜ 5120 + m < length (now work) ⌝ }
     requires { ⌜ (cur < m) × (m ≤ 4096) ⌝ }
@@ -52,7 +52,7 @@ pub fn open_thunk(work: &mut [u32], m: usize, cur: usize)
 }
 
 // Scope m is opened as the body of a lambda inside `cur`, with `count` arguments from symbol `first` on.
-// Not: at the level of `cur`; with one argument more or less.
+// Rules out: at the level of `cur`; with one argument more or less.
 pub fn open_lambda(work: &mut [u32], m: usize, cur: usize, first: u32, count: u32)
     requires { ⌜ 5120 + m < length (now work) ⌝ }
     requires { ⌜ (cur < m) × (m ≤ 4096) ⌝ }
@@ -66,7 +66,7 @@ pub fn open_lambda(work: &mut [u32], m: usize, cur: usize, first: u32, count: u3
 
 // ---- the parts of a scope
 
-// The scope around scope k. Not: k itself; the outermost.
+// The scope around scope k. Rules out: k itself; the outermost.
 pub fn parent(work: &[u32], k: usize) -> usize
     requires { ⌜ 5120 + k < length (now work) ⌝ }
     ensures { λ r. ⌜ r ≡ parentOf (scopeWord (now (work .entry)) k) ⌝ }
@@ -74,7 +74,7 @@ pub fn parent(work: &[u32], k: usize) -> usize
     (work[5120 + k] % 4096) as usize
 }
 
-// The lambdas around scope k, its own among them. Not: those around its parent; the scopes around k.
+// The lambdas around scope k, its own among them. Rules out: those around its parent; the scopes around k.
 pub fn level(work: &[u32], k: usize) -> u32
     requires { ⌜ 5120 + k < length (now work) ⌝ }
     ensures { λ r. ⌜ r ≡ levelOf (scopeWord (now (work .entry)) k) ⌝ }
@@ -82,7 +82,7 @@ pub fn level(work: &[u32], k: usize) -> u32
     work[5120 + k] / 67108864
 }
 
-// The arguments of scope k. Not: those of the nearest lambda; no arguments for a lambda that has none.
+// The arguments of scope k. Rules out: those of the nearest lambda; no arguments for a lambda that has none.
 pub fn args(work: &[u32], k: usize) -> Arguments
     requires { ⌜ 5120 + k < length (now work) ⌝ }
     ensures { λ r. ⌜ symbolsOf r ≡ argsIn (scopeWord (now (work .entry)) k) ⌝ }
@@ -112,8 +112,9 @@ fn leaves(work: &[u32], k: usize, levels: u64) -> bool
     true
 }
 
-// The scope that a symbol met in `cur` is placed in: out of each lambda whose level is not among `levels`, never out of
-// a thunk. Not: the parent of a thunk; a lambda that the symbol does not depend on.
+// The scope that a symbol met in `cur` is placed in: out of each lambda whose level is not among `levels`, never out
+// of a thunk.
+// Rules out: the parent of a thunk; a lambda that the symbol does not depend on.
 pub fn placement(work: &[u32], cur: usize, levels: u64) -> usize
     requires { ⌜ 5120 + cur < length (now work) ⌝ }
     requires { ⌜ Nested (now work) (cur + 1) ⌝ }
@@ -128,7 +129,7 @@ pub fn placement(work: &[u32], cur: usize, levels: u64) -> usize
 
 // ---- where a scope lies
 
-// Whether scope `ancestor` is around scope `sc`. Not: true of `sc` itself; true of a scope inside `sc`.
+// Whether scope `ancestor` is around scope `sc`. Rules out: true of `sc` itself; true of a scope inside `sc`.
 pub fn is_ancestor(work: &[u32], ancestor: usize, sc: usize) -> bool
     requires { ⌜ 5120 + sc < length (now work) ⌝ }
     requires { ⌜ Nested (now work) (sc + 1) ⌝ }
@@ -144,7 +145,7 @@ pub fn is_ancestor(work: &[u32], ancestor: usize, sc: usize) -> bool
     false
 }
 
-// Where scope `sc` lies, seen from `cur`. Not: where `cur` lies, seen from `sc`; deeper for `cur` itself.
+// Where scope `sc` lies, seen from `cur`. Rules out: where `cur` lies, seen from `sc`; deeper for `cur` itself.
 pub fn classify(work: &[u32], sc: usize, cur: usize) -> Rel
     requires { ⌜ 5120 + sc < length (now work) ⌝ }
     requires { ⌜ Nested (now work) (sc + 1) ⌝ }

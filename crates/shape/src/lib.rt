@@ -1,5 +1,6 @@
 // Checks 4 and 5 of one record: its children, aux and literal against its shape, and its opcode against its shape.
-// Then the arguments in a lambda's literal. In order: parts of a literal; the table of shapes; opcodes; ids, arguments.
+// Then the arguments in a lambda's literal. In order: parts of a literal; the table of shapes; opcodes; ids,
+// arguments.
 ghost use mathlib.Core.Path.{_≡_};
 ghost use mathlib.Core.Option.{none};
 ghost use Prim.Native.Nat.{ℕ, _+_, _<_, _≤_};

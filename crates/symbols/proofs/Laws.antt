@@ -3,21 +3,22 @@
 -- Assumes nothing.
 use Prim.Native.Nat.{ℕ, zero, suc, _+_, _*_, _<_, _≤_}
 use mathlib.Core.Path.{_≡_, refl, sym, ap, _∙_, subst}
+use mathlib.Core.Bool.{Bool}
 use mathlib.Core.List.{List, [], _∷_, _++_}
 use mathlib.Core.Logic.{⊎-elim}
 use native.Mathlib.Omega.{arith}
 use native.Mathlib.Nat.{eq-or-lt-of-le}
 use lib.ListN.{length, getD, length-append, List·getD-append}
 use lib.Seq.{sets, length-sets, getD-at}
-use Rattle.model.specs.Tree.{Rec}
 use Rattle.model.specs.Forest.{recordCount}
-use Rattle.model.specs.Intern.{Sym, noSym, symAt}
+use Rattle.model.specs.Intern.{Sym, State, noSym, symAt, placement, push}
 use Rattle.key.specs.declared.Symbol.{Symbol}
 use Rattle.key.specs.Key.{partsOf, symbolAt, storeSymbol}
 use Rattle.key.proofs.Runs.{Agree, sets-before, sets-after}
 use Rattle.key.proofs.Laws.{symbol-agree, load-store, store-length, store-before, store-after}
 use Rattle.symbols.specs.Words.{wordsFrom, slotsFrom, pendingFrom}
-use Rattle.symbols.specs.Symbols.{recOf, symOf, symFrom, symsOf, kidsAt, made, Room, Sound, AllSound}
+use Rattle.symbols.specs.Symbols.{recOf, nodeOf, depsOf, symOf, symFrom, symsOf, kidsAt}
+use Rattle.symbols.specs.Symbols.{made, Room, Sound, AllSound}
 use Rattle.symbols.proofs.Words.{words-length, words-at, words-agree, words-stored}
 
 -- ---- how many
@@ -92,6 +93,9 @@ module _ (bs ws ws′ : List ℕ) (used : ℕ) (slots : Agree ws ws′ 2560 (256
             (sound .lower k lt));
       }
 
+  pub sounds-agree : (n : ℕ) → Agree ws ws′ 0 (5 * n) → AllSound bs ws used n → AllSound bs ws′ used n
+  sounds-agree n own sound i lt = sound-agree i (λ k l r. own k (omega arith) (omega arith)) (sound i lt)
+
   sound-more : (more i : ℕ) → used ≤ more → Sound bs ws used i → Sound bs ws more i
   sound-more more i le sound = record { from = sound .from; slots = omega (arith, sound .slots); lower = sound .lower }
 
@@ -158,7 +162,6 @@ module _ (ws : List ℕ) (n held : ℕ) (y : Symbol) (room : Room ws n held y) w
     own-kept : (i : ℕ) → i < n → Agree ws (made ws n held y) (5 * i) (5 * i + 5)
     own-kept i lt k l r = made-before ws n held y (room .few) k (omega arith) (omega arith)
 
-    -- the syms of model's `push`
     pub syms-made : symsOf bs (made ws n held y) (suc n)
         ≡ symsOf bs ws n ++ (symOf bs (symsOf bs ws n) n y (pendingFrom ws held (y .count)) ∷ [])
     unfolding symsOf
@@ -166,6 +169,15 @@ module _ (ws : List ℕ) (n held : ℕ) (y : Symbol) (room : Room ws n held y) w
         let e : symsOf bs (made ws n held y) n ≡ symsOf bs ws n =
         syms-agree bs ws (made ws n held y) used slots-kept n (made-before ws n held y (room .few)) sound in
         rw (e, made-symbol, slots-made)
+
+    -- the syms of model's `push`, where the new symbol is placed in its scope
+    pub push-made : (cur : ℕ) (shared : Bool) (st : State) → st .syms ≡ symsOf bs ws n →
+        placement st cur (depsOf bs (symsOf bs ws n) n (y .node) (pendingFrom ws held (y .count))) ≡ y .scope →
+        push cur (recOf bs (y .node)) (pendingFrom ws held (y .count))
+        (depsOf bs (symsOf bs ws n) n (y .node) (pendingFrom ws held (y .count))) shared (nodeOf bs (y .node)) st .syms
+        ≡ symsOf bs (made ws n held y) (suc n)
+    unfolding push symOf
+    push-made cur shared st e p = rw (p, e) (sym syms-made)
 
     pub sound-made : partsOf (y .node) .«record» < recordCount bs →
         ((k : ℕ) → k < y .count → getD ws (8200 + held + k) 0 < n) →

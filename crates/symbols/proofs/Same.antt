@@ -1,7 +1,7 @@
 -- Laws of the comparisons `same` (lists) and `sameRec` (records), and of records as keys have them. In order: `same`;
 -- `sameRec`; `keyRec`; what `same_literal` and `same_rec` read.
 -- Assumes nothing.
-use Prim.Native.Nat.{ℕ, zero, suc, _<_}
+use Prim.Native.Nat.{ℕ, _<_}
 use mathlib.Core.Path.{_≡_, refl, sym, ap, _∙_}
 use mathlib.Core.Bool.{Bool, true, false, _&&_}
 use mathlib.Core.List.{List, [], _∷_}

@@ -1,12 +1,12 @@
 -- Laws of `wordsFrom`: its length, its elements, one word more, the words that it hangs on, a stored run; a copy.
 -- Assumes nothing.
 use Prim.Native.Nat.{ℕ, zero, suc, _+_, _<_, _≤_}
-use mathlib.Core.Path.{_≡_, refl, sym, ap, _∙_}
+use mathlib.Core.Path.{_≡_, refl, ap, _∙_}
 use mathlib.Core.List.{List, [], _∷_, _++_}
 use native.Mathlib.Omega.{arith}
 use native.Mathlib.Numerals.{add-one}
-use lib.ListN.{length, getD, set, length-set}
-use lib.Seq.{sets, length-sets, ext-getD}
+use lib.ListN.{length, getD, set}
+use lib.Seq.{sets, ext-getD}
 use Rattle.key.proofs.Runs.{Agree, sets-run, sets-after, sets-more}
 use Rattle.symbols.specs.Words.{wordsFrom}
 

@@ -8,7 +8,7 @@ returns : tie.Need-returns
 unfolding symbolAt
 returns c =
     let n = c .before .before .before .before in
-    rw (n .node-of .ensures, n .before .parts-from .ensures, c .before .before .wide .ensures .0, c .wide2 .ensures .0)
+    rw (n .node-of .ensures, n .before .parts-in .ensures, c .before .before .wide .ensures .0, c .wide2 .ensures .0)
 
 pub load-spec : {M : Type 1} → statement M
 load-spec =

@@ -2,7 +2,7 @@
 -- it; one entry more; entries that are sound.
 -- Assumes nothing.
 use Prim.Native.Nat.{ℕ, zero, suc, _+_, _-_, _<_, _≤_}
-use mathlib.Core.Path.{_≡_, refl, sym, ap, _∙_, subst}
+use mathlib.Core.Path.{_≡_, refl, ap, _∙_}
 use mathlib.Core.List.{List, [], _∷_}
 use mathlib.Core.Logic.{⊎-elim}
 use native.Mathlib.Omega.{arith}
@@ -12,7 +12,7 @@ use lib.ListN.{length, getD, set, length-set}
 use lib.Seq.{getD-set-same, getD-set-other}
 use Rattle.model.specs.Intern.{enter, dropFirst}
 use Rattle.key.proofs.Runs.{Agree}
-use Rattle.symbols.specs.Symbols.{Sound, AllSound}
+use Rattle.symbols.specs.Symbols.{AllSound}
 use Rattle.tables.specs.declared.Tables.{Tables}
 use Rattle.tables.specs.Tables.{entries, tables, tablesOf, first, opened, closed, newest, Open, Entries, Below}
 
