@@ -64,7 +64,8 @@ r{i} = refl
 
 
 def bad(line, why):
-    sys.exit(f"check_definitions: line {line}: {why}") if line else sys.exit(f"check_definitions: {why}")
+    print(f"check_definitions: line {line}: {why}" if line else f"check_definitions: {why}", file=sys.stderr)
+    sys.exit(2)
 
 
 def numeral(text, line):

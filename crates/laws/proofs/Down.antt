@@ -1,6 +1,6 @@
 -- The equation of `down`, with no condition on the step: the value at n is the step from the values below n.
 --
--- In order: `under`, which masks what is not below n; fuel that suffices is as good as more; `down-step`.
+-- In order: `under`, which masks what is not below n (`under-low`, `under-same`); fuel that suffices is as good as more; `down-step`.
 -- The meaning of a symbol, free lists and building are such recursions: each is opened by `down-step` and `under-low`.
 -- Assumes nothing.
 use mathlib.Core.Path.{_≡_, refl, ap, fun-ext}
@@ -17,7 +17,7 @@ module _ {A : Type 0} (z : A) (step : (ℕ → A) → ℕ → A) where
   unfolding under
   under-low n f d e = rw (e, under)
 
-  under-same : (n : ℕ) (f g : ℕ → A) → ((d : ℕ) → d < n → f d ≡ g d) → under z n f ≡ under z n g
+  pub under-same : (n : ℕ) (f g : ℕ → A) → ((d : ℕ) → d < n → f d ≡ g d) → under z n f ≡ under z n g
   unfolding under
   under-same n f g h = fun-ext λ d. go d (ltb d n) refl
     where

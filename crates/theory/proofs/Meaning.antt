@@ -1,3 +1,4 @@
 -- What a symbol means, and the laws of that: the bridge between a forest and the written tree. Assumes nothing.
 pub mod Mean
+pub mod Extend
 pub mod Coincide
