@@ -2,15 +2,15 @@
 -- In order: a place that was found, or none; 2 to 6; 7 to 10; what an accepted forest has.
 -- Assumes nothing.
 use Prim.Native.Nat.{ℕ}
-use mathlib.Core.Path.{_≡_, refl, sym, ap, _∙_}
+use mathlib.Core.Path.{_≡_, sym, ap, _∙_}
 use mathlib.Core.Option.{Option, none, some}
 use mathlib.Core.List.{List}
-use native.Mathlib.Omega.{arith}
-use Rattle.model.specs.Answer.{Answer, refused, good, unless, checked}
+use Rattle.model.specs.Answer.{refused, good, unless, checked}
 use Rattle.model.specs.Tree.{Trees}
 use Rattle.model.specs.Forest.{treesOf, check2, check3, check4, check5, check6, check7}
 use Rattle.model.specs.Binding.{check8, check9, check10}
 use Rattle.model.specs.Accept.{checks, accept}
+use Rattle.laws.proofs.Checks.{checked-good}
 use Rattle.record.specs.Record.{Laid}
 use Rattle.walk.specs.declared.Place.{Place}
 use Rattle.walk.specs.declared.Place.the-variants.{At, Nowhere}
@@ -97,33 +97,20 @@ pub record Passed (bs : List ℕ) (ts : Trees) : Type 0 where
   pub bound : check10 (treesOf bs) ≡ none
   pub trees : treesOf bs ≡ ts
 
-unless-good : {A : Type 0} (n : ℕ) (o : Option ℕ) (r : Answer A) (a : A) → unless n o r ≡ good a →
-    (o ≡ none) × (r ≡ good a)
-unfolding unless
-unless-good n none r a e = (refl, e)
-unless-good n (some p) r a e = absurd (let z : _≡_ {A = ℕ} 0 1 = cc in omega arith)
-
 pub accept-passed : (bs : List ℕ) (ts : Trees) → accept bs ≡ good ts → Passed bs ts
-unfolding accept checks checked
+unfolding accept checks
 accept-passed bs ts e =
-    let two = unless-good 2 (check2 bs) _ ts e in
-    let three = unless-good 3 (check3 bs) _ ts (two .1) in
-    let four = unless-good 4 (check4 bs) _ ts (three .1) in
-    let five = unless-good 5 (check5 bs) _ ts (four .1) in
-    let six = unless-good 6 (check6 bs) _ ts (five .1) in
-    let seven = unless-good 7 (check7 bs) _ ts (six .1) in
-    let eight = unless-good 8 (check8 (treesOf bs)) _ ts (seven .1) in
-    let nine = unless-good 9 (check9 (treesOf bs)) _ ts (eight .1) in
-    let ten = unless-good 10 (check10 (treesOf bs)) (good (treesOf bs)) ts (nine .1) in
-    let laid : Laid bs = record { header = two .0; directory = three .0 } in
+    let w = checked-good (checks bs) (treesOf bs) ts e in
+    let two = w .0 in
+    let four = two .1 .1 in
+    let six = four .1 .1 in
+    let eight = six .1 .1 in
+    let laid : Laid bs = record { header = two .0; directory = two .1 .0 } in
     record {
-      shaped = record { sound = record { laid = laid; fit = four .0; closed = six .0 }; agree = five .0 };
-      shallow = seven .0;
+      shaped = record { sound = record { laid = laid; fit = four .0; closed = six .0 }; agree = four .1 .0 };
+      shallow = six .1 .0;
       placed = eight .0;
-      fresh = nine .0;
-      bound = ten .0;
-      trees = good-same (treesOf bs) ts (ten .1);
+      fresh = eight .1 .0;
+      bound = eight .1 .1 .0;
+      trees = w .1;
     }
-  where
-    good-same : (a b : Trees) → good a ≡ good b → a ≡ b
-    good-same a b f = cc
