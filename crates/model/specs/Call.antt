@@ -1,14 +1,14 @@
 -- The main call, whole: its five numbers, and what the output and the work memory hold afterwards, refused calls too.
 -- Assumes nothing.
 use Prim.Native.Nat.{ℕ}
-use mathlib.Core.Bool.{Bool, true, false, _||_}
+use mathlib.Core.Bool.{true, false, _||_}
 use mathlib.Core.Option.{Option}
 use mathlib.Core.List.{List, [], _∷_, _++_}
 use lib.Dec.{ltb}
 use lib.ListN.{length, drop, replicate}
 use Rattle.model.specs.Lists.{last}
 use Rattle.model.specs.Answer.{Answer, refused, good, _>>=_, unless, checked, at0}
-use Rattle.model.specs.Tree.{Tree, Trees, nil, cons, size, depth, serialise}
+use Rattle.model.specs.Tree.{Tree, nil, cons, size, depth, serialise}
 use Rattle.model.specs.Accept.{accept}
 use Rattle.model.specs.Intern.{State, Out, Outs, internForest}
 use Rattle.model.specs.Materialize.{materialize}

@@ -2,7 +2,7 @@
 -- on lower symbols only, so free lists, schedules and building are such recursions.
 -- Assumes nothing.
 use Prim.Native.Nat.{ℕ, zero, suc}
-use mathlib.Core.Bool.{Bool, true, false}
+use mathlib.Core.Bool.{true, false}
 use lib.Dec.{ltb}
 
 module _ {A : Type 0} where

@@ -9,7 +9,7 @@ use mathlib.Core.List.{List, [], _∷_, _++_}
 use lib.Dec.{eqb, ltb}
 use lib.ListN.{length, getD}
 use Rattle.model.specs.Lists.{anyIn, union, without, same, last}
-use Rattle.model.specs.Answer.{Answer, refused, good, _>>=_, guard}
+use Rattle.model.specs.Answer.{Answer, good, _>>=_, guard}
 use Rattle.model.specs.Tree.{Rec, rec, sameRec, Tree, Trees, node, nil, cons, top, size}
 use Rattle.model.specs.Binding.{Kind, kind, valUse, valDef, block, lambda, field, other, isDef, idOf, argsOf}
 

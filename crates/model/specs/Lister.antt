@@ -1,14 +1,13 @@
 -- The lister's lines ("Trees to compare", at its end), as bytes; each line ends with a newline.
 -- Assumes nothing.
 use Prim.Native.Nat.{ℕ, zero, suc, _+_, _/_, _%_}
-use Prim.Native.String.{String}
 use mathlib.Core.Bool.{Bool, true, false}
 use mathlib.Core.List.{List, [], _∷_, _++_}
-use lib.Dec.{eqb, ltb}
+use lib.Dec.{ltb}
 use lib.ListN.{length}
 use Rattle.model.specs.Lists.{count}
 use Rattle.model.specs.Answer.{Answer, refused, good}
-use Rattle.model.specs.Intern.{Node, constant, unparsed, argument, func, operation, Sym, State, Out}
+use Rattle.model.specs.Intern.{Node, constant, unparsed, argument, func, operation, Sym, Out}
 use Rattle.model.specs.Gate.{shouldHoist}
 use Rattle.model.specs.Call.{Written, run, interned}
 use Rattle.model.specs.Text.{text}

@@ -13,8 +13,8 @@ use borrow.Author.Tests.{not-false}
 use lib.ListN.{length, getD, drop}
 use lib.Seq.{drop-cons}
 use Rattle.model.specs.Tree.{Row, Trees, nil, cons, many, dropT, grow}
-use Rattle.model.specs.Shape.{Pairs, fits}
-use Rattle.model.specs.Forest.{treeCount, recordCount, pairsOf, rowsAt, rowsIn, bodyStart, treesOf, unclosed, check4}
+use Rattle.model.specs.Shape.{fits}
+use Rattle.model.specs.Forest.{treeCount, recordCount, rowsIn, treesOf, unclosed, check4}
 use Rattle.model.specs.Forest.{check6}
 use Rattle.laws.proofs.Apart.{some-none}
 use Rattle.laws.proofs.Clear.{Clear, first-clear}

@@ -11,14 +11,14 @@ use native.Mathlib.Omega.{arith}
 use lib.Dec.{eqb, ltb}
 use lib.ListN.{length, length-append}
 use borrow.Author.Tests.{eqb-true, eqb-false, ltb-true, ltb-false}
-use Rattle.model.specs.Lists.{isIn, count, add, union}
+use Rattle.model.specs.Lists.{isIn, add, union}
 use Rattle.model.specs.Down.{under, downFuel, down}
 use Rattle.model.specs.Intern.{Sym, symAt}
 use Rattle.model.specs.Gate.{Graph, symOf, reach, slotsOf}
 use Rattle.model.specs.Schedule.{isArg, isOutside, relOf, each, visitStep, visit, bodyNeighbours, outsiders, collect}
 use Rattle.model.specs.Schedule.{freeStep, freeVars, neighbours, schedule}
 use Rattle.laws.proofs.Members.{In, isIn-false, in-either, union-cases}
-use Rattle.theory.proofs.Interning.Good.{Once}
+use Rattle.laws.proofs.Once.{Once, snoc-once, add-once, reach-once}
 use Rattle.theory.proofs.Bounds.Sound.{Under, slotsIn, under-more}
 use Rattle.theory.proofs.Bounds.Falls.{Falls, visit-low, body-falls, free-falls, neighbours-fall}
 
@@ -79,23 +79,6 @@ once-short zero [] h u = omega arith
 once-short zero (x ∷ xs) h u = absurd (omega (arith, u x (inl refl)))
 once-short (suc n) xs h u =
     omega (arith, minus-length n xs, once-short n (minus n xs) (minus-once n xs h) (minus-under n xs h u))
-
-snoc-once : (xs : List ℕ) (y : ℕ) → Once xs → (In y xs → ⊥) → Once (xs ++ (y ∷ []))
-snoc-once [] y h new = (λ i. i, tt)
-snoc-once (x ∷ xs) y h new = (λ i. go (in-either x xs (y ∷ []) i), snoc-once xs y (h .1) (λ i. new (inr i)))
-  where
-    go : In x xs ⊎ In x (y ∷ []) → ⊥
-    go (inl i) = h .0 i
-    go (inr (inl e)) = new (inl (sym e))
-    go (inr (inr i)) = i
-
-add-once : (xs : List ℕ) (y : ℕ) → Once xs → Once (add xs y)
-unfolding add
-add-once xs y h = go (isIn y xs) refl
-  where
-    go : (b : Bool) → isIn y xs ≡ b → Once (elim b [ true ↦ xs | false ↦ xs ++ (y ∷ []) ])
-    go true e = h
-    go false e = snoc-once xs y h (isIn-false y xs e)
 
 -- ---- walks
 
@@ -220,23 +203,6 @@ module _ (g : Graph) (kids-low : (s : ℕ) → Under s (symOf g s .kids)) where
   unfolding schedule
   schedule-short root sc = visit-short (neighbours g sc) (neighbours-fall g kids-low sc) root
 
-union-once : (xs ys : List ℕ) → Once xs → Once (union xs ys)
-unfolding union
-union-once xs [] h = h
-union-once xs (y ∷ ys) h = union-once (add xs y) ys (add-once xs y h)
-
-reach-once : (ss : List Sym) (n : ℕ) (seen : List ℕ) → Once seen → Once (reach ss n seen)
-unfolding reach
-reach-once ss zero seen h = h
-reach-once ss (suc n) seen h =
-    go (isIn n seen) (reach-once ss n (union seen (symAt ss n .kids)) (union-once seen (symAt ss n .kids) h))
-    (reach-once ss n seen h)
-  where
-    go : (b : Bool) → Once (reach ss n (union seen (symAt ss n .kids))) → Once (reach ss n seen) →
-        Once (elim b [ true ↦ reach ss n (union seen (symAt ss n .kids)) | false ↦ reach ss n seen ])
-    go true a c = a
-    go false a c = c
-
 reach-under : (ss : List Sym) → ((s : ℕ) → Under s (symAt ss s .kids)) → (m n : ℕ) (seen : List ℕ) → n ≤ m →
     Under m seen → Under m (reach ss n seen)
 unfolding reach
@@ -316,12 +282,3 @@ slots-short ss low root l =
     let w = reached ss low root in
     let u = under-more (suc root) (length ss) is l (w .1) in
     omega (arith, slots-sum ss is, once-sum (λ i. length (symAt ss i .kids)) (length ss) is (w .0) u, slots-total ss)
-
-pub count-short : (n : ℕ) (xs : List ℕ) → count n xs ≤ length xs
-unfolding count
-count-short n [] = omega arith
-count-short n (x ∷ xs) = go (eqb n x) (count-short n xs)
-  where
-    go : (b : Bool) → count n xs ≤ length xs → elim b [ true ↦ suc (count n xs) | false ↦ count n xs ] ≤ suc (length xs)
-    go true l = omega arith
-    go false l = omega arith

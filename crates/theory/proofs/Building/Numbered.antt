@@ -26,7 +26,7 @@ use Rattle.laws.proofs.Members.{In, not-in-isIn, neither-or, both-and}
 use Rattle.laws.proofs.ArgLists.{ArgList, symsIn, optsIn, AllOpts, next-arg}
 use Rattle.theory.proofs.Meaning.Mean.{Val, bindSyms}
 use Rattle.theory.proofs.Acceptance.Checked.{FitsWith}
-use Rattle.theory.proofs.Interning.Good.{Once}
+use Rattle.laws.proofs.Once.{Once}
 use Rattle.theory.proofs.Building.Written.{read-id}
 
 -- ---- the numbered list

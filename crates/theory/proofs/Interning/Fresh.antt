@@ -24,7 +24,8 @@ use Rattle.laws.proofs.Members.{In}
 use Rattle.laws.proofs.ArgLists.{ArgList, symsIn, optsIn}
 use Rattle.theory.proofs.Meaning.Mean.{Val, bindSyms, mean}
 use Rattle.theory.proofs.Meaning.Coincide.{mean-arg}
-use Rattle.theory.proofs.Interning.Good.{depsAt, nodeAt, symCount, scopeCount, Once, SymOk}
+use Rattle.laws.proofs.Once.{Once}
+use Rattle.theory.proofs.Interning.Good.{depsAt, nodeAt, symCount, scopeCount, SymOk}
 use Rattle.theory.proofs.Interning.Inv.{Args, HasArg, argSyms, keys, LamApart, Inv, EnvOk, lt-or, grow-none}
 use Rattle.theory.proofs.Interning.Inv.{grow-then, Fits, fits-back}
 use Rattle.theory.proofs.Interning.Push.{newSym, push-count, push-grows, PartsAt, push-parts, push-inv}

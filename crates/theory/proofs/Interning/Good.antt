@@ -20,6 +20,7 @@ use Rattle.model.specs.Intern.{Node, constant, unparsed, argument, func, operat
 use Rattle.model.specs.Intern.{thunked}
 use Rattle.laws.proofs.Apart.{false-true}
 use Rattle.laws.proofs.Members.{In, clash}
+use Rattle.laws.proofs.Once.{Once}
 use Rattle.laws.proofs.ArgLists.{ArgList, symsIn, optsIn, boundBy, AllOpts}
 
 -- ---- the parts of a symbol, by its number
@@ -96,11 +97,6 @@ PairsOk fin scs op j (k ∷ ks) (b ∷ brs) =
     ]
 
 -- ---- symbols
-
--- no number stands twice
-abbrev pub Once : List ℕ → Type 0
-Once [] = Unit {0}
-Once (a ∷ xs) = (In a xs → ⊥) × Once xs
 
 -- a symbol that keeps its record: its deps are those of its children, no more and no less
 pub record Plain (fin : List Sym) (i : ℕ) : Type 0 where

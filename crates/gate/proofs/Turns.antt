@@ -1,0 +1,85 @@
+-- The loops over symbols: what holds after some turns. In order: the start; what a turn needs; a turn that notes
+-- children; a turn that visits a symbol; the end of visits.
+-- Assumes nothing.
+use Prim.Native.Nat.{ℕ, zero, suc, _+_, _*_, _<_, _≤_}
+use mathlib.Core.Path.{_≡_, refl, ap, _∙_}
+use mathlib.Core.List.{List}
+use native.Mathlib.Omega.{arith}
+use native.Mathlib.Numerals.{add-one}
+use lib.ListN.{length}
+use Rattle.symbols.specs.Symbols.{kidsAt}
+use Rattle.gate.specs.Gate.{usesAt, allNoted, visited, visitedDown, tallied, Lower, Stored, Small, Kept}
+use Rattle.gate.proofs.Words.{Under, kept-refl, kept-trans, allNoted-length, allNoted-kept, allNoted-uses}
+use Rattle.gate.proofs.Run.{kids-under, kids-short, kids-kept, stored-kept}
+use Rattle.gate.proofs.Visits.{visited-length, visited-kept, visited-bound, visited-agree}
+
+-- the words of symbols are kept, and the counts are bounded by the turns
+pub record Going (ws ws′ : List ℕ) (n turns : ℕ) : Type 0 where
+  pub long : length ws′ ≡ length ws
+  pub kept : Kept ws ws′
+  pub uses : (t : ℕ) → t < n → usesAt ws′ t ≤ 2560 * turns
+
+module _ (ws : List ℕ) (n : ℕ) where
+  pub going-start : ((s : ℕ) → s < n → usesAt ws s ≡ 0) → Going ws ws n 0
+  going-start zeros = record { long = refl; kept = kept-refl ws; uses = λ t l. omega (arith, zeros t l) }
+
+  module _ (st : Stored ws n) (ws′ : List ℕ) (turns : ℕ) (going : Going ws ws′ n turns) (s : ℕ) (lt : s < n) where
+    below : s < 512
+    below = omega (arith, st .few)
+
+    lower : Lower ws′ s
+    lower = stored-kept ws ws′ (going .kept) n (going .long) st .kids s lt
+
+    under : Under 512 (kidsAt ws′ s)
+    under a i = omega (arith, below, kids-under ws′ s lower a i)
+
+    enough : 9480 ≤ length ws′
+    enough = omega (arith, going .long, st .words)
+
+    -- what `note_kids` and `visit_symbol` require
+    pub turn-fits : turns ≤ 512 → ((s < 512) × (9480 ≤ length ws′)) × (Lower ws′ s × Small ws′ s)
+    turn-fits few = ((below, enough), (lower, λ t l. omega (arith, going .uses t (omega arith))))
+
+    -- the children as they were stored
+    pub turn-kids : kidsAt ws′ s ≡ kidsAt ws s
+    turn-kids = kids-kept ws ws′ (going .kept) s below (st .kids s lt)
+
+    module _ (ws″ : List ℕ) where
+      pub noted-going : ws″ ≡ allNoted ws′ (kidsAt ws′ s) → Going ws ws″ n (turns + 1)
+      noted-going e = record {
+        long = rw e (allNoted-length ws′ (kidsAt ws′ s) ∙ going .long);
+        kept = rw e (kept-trans ws ws′ _ (going .kept) (allNoted-kept ws′ (kidsAt ws′ s) under));
+        uses = rw e
+            (λ t l. omega (
+              arith,
+              allNoted-uses ws′ (kidsAt ws′ s) under enough t (omega (arith, st .few)),
+              kids-short ws′ s lower t,
+              going .uses t l,
+            ));
+      }
+
+      pub visited-going : ws″ ≡ visited (kidsAt ws′) ws′ s → Going ws ws″ n (turns + 1)
+      visited-going e = record {
+        long = rw e (visited-length (kidsAt ws′) ws′ s ∙ going .long);
+        kept = rw e (kept-trans ws ws′ _ (going .kept) (visited-kept (kidsAt ws′) ws′ s under));
+        uses = rw e
+            (λ t l. omega (
+              arith,
+              visited-bound (kidsAt ws′) ws′ s under enough t (omega (arith, st .few)) (kids-short ws′ s lower t),
+              going .uses t l,
+            ));
+      }
+
+      pub visited-as : ws″ ≡ visited (kidsAt ws′) ws′ s → ws″ ≡ visited (kidsAt ws) ws′ s
+      visited-as e = e ∙ visited-agree (kidsAt ws) (kidsAt ws′) ws′ s turn-kids
+
+      pub tallied-more : ws″ ≡ allNoted ws′ (kidsAt ws′ s) → ws′ ≡ tallied (kidsAt ws) ws s →
+          ws″ ≡ tallied (kidsAt ws) ws (s + 1)
+      unfolding tallied
+      tallied-more e is = rw (add-one s) (e ∙ ap (allNoted ws′) turn-kids ∙ rw is)
+
+-- no visit is left
+pub down-end : (kids : ℕ → List ℕ) (ws all : List ℕ) (s : ℕ) → s ≤ 0 → visitedDown kids ws s ≡ all → ws ≡ all
+unfolding visitedDown
+down-end kids ws all zero l e = e
+down-end kids ws all (suc s) l e = absurd (omega arith)

@@ -1,0 +1,198 @@
+// Usage and the gate (gate.rs): how often a symbol is used, and whether it may be hoisted. The count of symbol s is
+// word 8,456 + s, its mark word 8,968 + s.
+use symbols::SLOTS;
+ghost use mathlib.Core.Path.{_≡_};
+ghost use Prim.Native.Nat.{ℕ, suc, _+_, _*_, _<_, _≤_};
+ghost use lib.ListN.{length};
+ghost use Rattle.model.specs.Forest.{recordCount};
+ghost use Rattle.model.specs.Intern.{Sym, symAt};
+ghost use Rattle.model.specs.Gate.{isContextProperty, isInternal, isConst, shouldHoist};
+ghost use Rattle.record.specs.Record.{Laid};
+ghost use Rattle.symbols.specs.Words.{wordsFrom};
+ghost use Rattle.symbols.specs.Symbols.{keyRec, kidsAt, symsOf, Sound};
+ghost use Rattle.gate.specs.Gate.{usesAt, cleared, noted, allNoted, visited, visitedDown, tallied};
+ghost use Rattle.gate.specs.Gate.{Lower, Stored, Small, Notable, Reached, Tallied};
+
+pub const USES: usize = 8456;
+
+pub const MARKS: usize = 8968;
+
+const HEIGHT: u8 = 0xA3;
+
+const INPUTS: u8 = 0xA4;
+
+const OUTPUTS: u8 = 0xA5;
+
+const SELF_BOX: u8 = 0xA7;
+
+const GLOBAL: u8 = 0xDD;
+
+fn clear(work: &mut [u32], n: usize)
+    requires { ⌜ (n ≤ 512) × (9480 ≤ length (now work)) ⌝ }
+    ensures { λ _. ⌜ now (work .exit) ≡ cleared (now (work .entry)) n ⌝ }
+{
+    let mut s = 0;
+    while s < n {
+        work[USES + s] = 0;
+        work[MARKS + s] = 0;
+        s += 1;
+    }
+}
+
+// One use more of symbol s.
+fn note(work: &mut [u32], s: usize)
+    requires { ⌜ (s < 512) × (9480 ≤ length (now work)) × (usesAt (now work) s < 4000000000) ⌝ }
+    ensures { λ _. ⌜ now (work .exit) ≡ noted (now (work .entry)) s ⌝ }
+{
+    work[USES + s] += 1;
+    work[MARKS + s] = 1;
+}
+
+// The symbols in the words from `at` on.
+fn note_all(work: &mut [u32], at: usize, count: usize)
+    requires { ⌜ Notable (now work) at count ⌝ }
+    ensures { λ _. ⌜ now (work .exit) ≡ allNoted (now (work .entry)) (wordsFrom (now (work .entry)) at count) ⌝ }
+{
+    let mut k = 0;
+    while k < count {
+        let kid = work[at + k] as usize;
+        note(work, kid);
+        k += 1;
+    }
+}
+
+// The children of symbol s.
+fn note_kids(work: &mut [u32], s: usize)
+    requires { ⌜ (s < 512) × (9480 ≤ length (now work)) ⌝ }
+    requires { ⌜ Lower (now work) s ⌝ }
+    requires { ⌜ Small (now work) s ⌝ }
+    ensures { λ _. ⌜ now (work .exit) ≡ allNoted (now (work .entry)) (kidsAt (now (work .entry)) s) ⌝ }
+{
+    let y = key::load(work, s);
+    let kids = y.kids as usize;
+    let count = y.count as usize;
+    note_all(work, SLOTS + kids, count)
+}
+
+// The children of symbol s, if it is marked.
+fn visit_symbol(work: &mut [u32], s: usize)
+    requires { ⌜ (s < 512) × (9480 ≤ length (now work)) ⌝ }
+    requires { ⌜ Lower (now work) s ⌝ }
+    requires { ⌜ Small (now work) s ⌝ }
+    ensures { λ _. ⌜ now (work .exit) ≡ visited (kidsAt (now (work .entry))) (now (work .entry)) s ⌝ }
+{
+    let mark = work[MARKS + s];
+    if mark == 1 {
+        note_kids(work, s);
+    }
+}
+
+// A child is lower than its parent, so each symbol is marked before its turn if it is reached at all.
+fn visit(work: &mut [u32], root: usize)
+    requires { ⌜ Stored (now work) (suc root) ⌝ }
+    requires { ⌜ ((s : ℕ) → s < suc root → usesAt (now work) s ≡ 0) ⌝ }
+    ensures { λ _. ⌜ now (work .exit) ≡ visitedDown (kidsAt (now (work .entry))) (now (work .entry)) (suc root) ⌝ }
+{
+    let mut s = root + 1;
+    while 0 < s {
+        s -= 1;
+        visit_symbol(work, s);
+    }
+}
+
+// Marks the symbols that are reached from the root, and counts their uses (`flat_usage_reachable`), among n symbols.
+// Rules out: the slots of a symbol that nothing reaches counted; one use for a symbol that is a child twice.
+pub fn reach_and_count(work: &mut [u32], n: usize, root: usize)
+    requires { ⌜ Stored (now work) n ⌝ }
+    requires { ⌜ root < n ⌝ }
+    ensures { λ _. ⌜ Reached (now (work .entry)) (now (work .exit)) n root ⌝ }
+{
+    clear(work, n);
+    work[MARKS + root] = 1;
+    visit(work, root)
+}
+
+fn tally(work: &mut [u32], n: usize)
+    requires { ⌜ Stored (now work) n ⌝ }
+    requires { ⌜ ((s : ℕ) → s < n → usesAt (now work) s ≡ 0) ⌝ }
+    ensures { λ _. ⌜ now (work .exit) ≡ tallied (kidsAt (now (work .entry))) (now (work .entry)) n ⌝ }
+{
+    let mut s = 0;
+    while s < n {
+        note_kids(work, s);
+        s += 1;
+    }
+}
+
+// Counts the uses of each of n symbols by all of them (`flat_usage`), as the lister shows them.
+// Rules out: the slots of a symbol that nothing reaches left out; counts added to what the words held before.
+pub fn count_all(work: &mut [u32], n: usize)
+    requires { ⌜ Stored (now work) n ⌝ }
+    ensures { λ _. ⌜ Tallied (now (work .entry)) (now (work .exit)) n ⌝ }
+{
+    clear(work, n);
+    tally(work, n)
+}
+
+// Which symbols are context properties, by their records' opcodes.
+fn is_context_property(opcode: u8) -> bool
+    ensures { λ r. ⌜ ((y : Sym) → y .rec .opcode ≡ opcode → r ≡ isContextProperty y) ⌝ }
+{
+    if opcode == HEIGHT {
+        return true;
+    }
+    if opcode == INPUTS {
+        return true;
+    }
+    if opcode == OUTPUTS {
+        return true;
+    }
+    opcode == SELF_BOX
+}
+
+fn is_internal(opcode: u8) -> bool
+    ensures { λ r. ⌜ ((y : Sym) → y .rec .opcode ≡ opcode → r ≡ isInternal y) ⌝ }
+{
+    opcode == GLOBAL
+}
+
+// A projection's record has no aux.
+fn is_const(forest: &[u8], i: usize, field: u32) -> bool
+    requires { ⌜ Laid (now forest) ⌝ }
+    requires { ⌜ i < recordCount (now forest) ⌝ }
+    ensures { λ r. ⌜ ((y : Sym) → y .rec ≡ keyRec (now (forest .entry)) i field → r ≡ isConst y) ⌝ }
+{
+    if record::shape(forest, i) != 0 {
+        return false;
+    }
+    if field != 0 {
+        return true;
+    }
+    record::aux(forest, i) < 6
+}
+
+// The gate: whether symbol s, which is used `uses` times, becomes a definition.
+// Rules out: a symbol that is used once; HEIGHT, however often it is used.
+pub fn should_hoist(forest: &[u8], work: &[u32], s: usize, uses: u32) -> bool
+    requires { ⌜ Laid (now forest) ⌝ }
+    requires { ⌜ Sound (now forest) (now work) 2560 s ⌝ }
+    requires { ⌜ 5 * s + 5 ≤ length (now work) ⌝ }
+    ensures { λ r.
+        ⌜ ((n : ℕ) → s < n → r ≡ shouldHoist (symAt (symsOf (now (forest .entry)) (now (work .entry)) n) s) uses) ⌝ }
+{
+    if uses < 2 {
+        return false;
+    }
+    let y = key::load(work, s);
+    let node = y.node;
+    let p = key::parts_of(node);
+    let i = p.record as usize;
+    let opcode = record::opcode(forest, i);
+    if is_context_property(opcode) {
+        return false;
+    }
+    if is_internal(opcode) {
+        return false;
+    }
+    !is_const(forest, i, p.field)
+}
