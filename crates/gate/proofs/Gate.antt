@@ -85,13 +85,13 @@ module _ (y : Sym) (uses : ℕ) where
 -- the record of symbol s, by what is loaded
 module _ (bs ws : List ℕ) (s : ℕ) (x : Symbol) (p : Parts) (loads : x ≡ symbolAt ws s) (is : p ≡ partsOf (x .node))
   where
-    pub loaded-from : Sound bs ws 2560 s → p .«record» < recordCount bs
+    pub loaded-from : Sound bs ws 2560 s → p .source < recordCount bs
     loaded-from sound = rw (is, loads) (sound .from)
 
     module _ (n : ℕ) (lt : s < n) where
-      pub loaded-rec : symAt (symsOf bs ws n) s .rec ≡ keyRec bs (p .«record») (p .field)
+      pub loaded-rec : symAt (symsOf bs ws n) s .rec ≡ keyRec bs (p .source) (p .field)
       loaded-rec = rw (is, loads) (rec-at bs ws n s lt)
 
-      pub loaded-opcode : (o : ℕ) → o ≡ rowAt bs (p .«record») .rec .opcode → symAt (symsOf bs ws n) s .rec .opcode ≡ o
+      pub loaded-opcode : (o : ℕ) → o ≡ rowAt bs (p .source) .rec .opcode → symAt (symsOf bs ws n) s .rec .opcode ≡ o
       loaded-opcode o e =
-          ap (λ (r : Rec). r .opcode) loaded-rec ∙ (key-opcode bs (p .«record») (p .field) ∙ sym e)
+          ap (λ (r : Rec). r .opcode) loaded-rec ∙ (key-opcode bs (p .source) (p .field) ∙ sym e)

@@ -186,7 +186,7 @@ pub fn should_hoist(forest: &[u8], work: &[u32], s: usize, uses: u32) -> bool
     let y = key::load(work, s);
     let node = y.node;
     let p = key::parts_of(node);
-    let i = p.record as usize;
+    let i = p.source as usize;
     let opcode = record::opcode(forest, i);
     if is_context_property(opcode) {
         return false;

@@ -26,7 +26,7 @@ tag-small (Op o) = omega arith
 
 -- what `store` shows of the parts that it packs
 module _ (p : Parts) (y : Symbol) (is : p ≡ partsOf (y .node)) (fits : Fits y) where
-  pub head-fits : (p .tag < 8) × (p .«record» < 256) × (p .field < 4) × (y .count < 512)
+  pub head-fits : (p .tag < 8) × (p .source < 256) × (p .field < 4) × (y .count < 512)
   head-fits = rw is (tag-small (y .node), fits .from, fits .field, fits .count)
 
   pub middle-fits : (y .kids < 4096) × (p .second < 4096) × (p .branches < 4)
@@ -54,14 +54,14 @@ digit : (m x r k : ℕ) → x ≡ r + m * k → r < m → x % m ≡ r
 digit m x r k e lt = rw (e, add-mul-mod-self-left r m k) (mod-eq-of-lt lt)
 
 module _ (p : Parts) (count kids scope levels : ℕ) where
-  unpacked : (p .tag < 8) × (p .«record» < 256) × (p .field < 4) × (count < 512) →
+  unpacked : (p .tag < 8) × (p .source < 256) × (p .field < 4) × (count < 512) →
       (kids < 4096) × (p .second < 4096) × (p .branches < 4) → (scope < 4096) × (p .first < 4096) →
       symbolOf (head p count) (middle p kids) (tail p scope) (levels % 4294967296) (levels / 4294967296)
       ≡ record { node = nodeOf p; kids = kids; count = count; scope = scope; levels = levels }
   unpacked h m t =
       let a1 : head p count % 8 ≡ p .tag = omega arith in
-      let a : head p count / 8 ≡ p .«record» + 256 * (p .field + 4 * count) = omega arith in
-      let a2 : head p count / 8 % 256 ≡ p .«record» = digit 256 _ _ _ a (h .1) in
+      let a : head p count / 8 ≡ p .source + 256 * (p .field + 4 * count) = omega arith in
+      let a2 : head p count / 8 % 256 ≡ p .source = digit 256 _ _ _ a (h .1) in
       let a′ : head p count / 2048 ≡ p .field + 4 * count = omega arith in
       let a3 : head p count / 2048 % 4 ≡ p .field = digit 4 _ _ _ a′ (h .2) in
       let a4 : head p count / 8192 ≡ count = omega arith in

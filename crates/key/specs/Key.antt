@@ -14,17 +14,17 @@ use Rattle.key.specs.declared.Node.the-variants.{Const, Unparsed, Arg, L
 -- ---- a node's parts
 
 abbrev pub leafParts : ℕ → Leaf → Parts
-leafParts tag l = record { tag = tag; «record» = l .«record»; field = 0; branches = 0; first = 0; second = 0 }
+leafParts tag l = record { tag = tag; source = l .source; field = 0; branches = 0; first = 0; second = 0 }
 
 abbrev pub partsOf : Node → Parts
 partsOf (Const l) = leafParts 0 l
 partsOf (Unparsed l) = leafParts 1 l
 partsOf (Arg l) = leafParts 2 l
 partsOf (Lambda f) =
-    record { tag = 3; «record» = f .«record»; field = 0; branches = 0; first = f .first; second = f .body }
+    record { tag = 3; source = f .source; field = 0; branches = 0; first = f .first; second = f .body }
 partsOf (Op o) = record {
   tag = 4;
-  «record» = o .«record»;
+  source = o .source;
   field = o .field;
   branches = o .branches;
   first = o .first;
@@ -38,12 +38,12 @@ choose false a b = b
 -- the node of these parts
 abbrev pub nodeOf : Parts → Node
 nodeOf p =
-    choose (eqb (p .tag) 0) (Const (record { «record» = p .«record» }))
-    (choose (eqb (p .tag) 1) (Unparsed (record { «record» = p .«record» }))
-    (choose (eqb (p .tag) 2) (Arg (record { «record» = p .«record» }))
-    (choose (eqb (p .tag) 3) (Lambda (record { «record» = p .«record»; first = p .first; body = p .second }))
+    choose (eqb (p .tag) 0) (Const (record { source = p .source }))
+    (choose (eqb (p .tag) 1) (Unparsed (record { source = p .source }))
+    (choose (eqb (p .tag) 2) (Arg (record { source = p .source }))
+    (choose (eqb (p .tag) 3) (Lambda (record { source = p .source; first = p .first; body = p .second }))
     (Op (record {
-      «record» = p .«record»;
+      source = p .source;
       field = p .field;
       branches = p .branches;
       first = p .first;
@@ -54,7 +54,7 @@ nodeOf p =
 
 -- tag, record, field, count
 abbrev pub head : Parts → ℕ → ℕ
-head p count = p .tag + 8 * p .«record» + 2048 * p .field + 8192 * count
+head p count = p .tag + 8 * p .source + 2048 * p .field + 8192 * count
 
 -- first child slot, second scope, number of thunks
 abbrev pub middle : Parts → ℕ → ℕ
@@ -82,7 +82,7 @@ storeSymbol ws s y =
 abbrev pub partsIn : ℕ → ℕ → ℕ → Parts
 partsIn a b c = record {
   tag = a % 8;
-  «record» = a / 8 % 256;
+  source = a / 8 % 256;
   field = a / 2048 % 4;
   branches = b / 16777216;
   first = c / 4096;
@@ -108,7 +108,7 @@ symbolAt ws s =
 -- ---- which symbols fit their words
 
 pub record Fits (y : Symbol) : Type 0 where
-  pub from : partsOf (y .node) .«record» < 256
+  pub from : partsOf (y .node) .source < 256
   pub field : partsOf (y .node) .field < 4
   pub branches : partsOf (y .node) .branches < 4
   pub first : partsOf (y .node) .first < 4096

@@ -7,12 +7,12 @@ ghost use Rattle.key.specs.Key.{partsIn, put5, storeSymbol, symbolAt};
 
 // A constant, an unparsed node or an argument: the record that it was made for.
 pub struct Leaf {
-    pub record: u32,
+    pub source: u32,
 }
 
 // A lambda: its arguments are the symbols from `first` on, as many as the record's aux; the scope of its body.
 pub struct Func {
-    pub record: u32,
+    pub source: u32,
     pub first: u32,
     pub body: u32,
 }
@@ -20,7 +20,7 @@ pub struct Func {
 // Any other record. `field` is 1 or 2 for that field of the projections that one record makes, 0 for the record as it
 // stands; the scopes of its thunks, of which there are `branches`.
 pub struct Operation {
-    pub record: u32,
+    pub source: u32,
     pub field: u32,
     pub branches: u32,
     pub first: u32,
@@ -48,7 +48,7 @@ pub struct Symbol {
 // A node with all fields that any node has.
 pub struct Parts {
     pub tag: u32,
-    pub record: u32,
+    pub source: u32,
     pub field: u32,
     pub branches: u32,
     pub first: u32,
@@ -65,7 +65,7 @@ pub fn parts_of(node: Node) -> Parts
         Node::Arg(l) => leaf_parts(2, l),
         Node::Lambda(f) => Parts {
             tag: 3,
-            record: f.record,
+            source: f.source,
             field: 0,
             branches: 0,
             first: f.first,
@@ -73,7 +73,7 @@ pub fn parts_of(node: Node) -> Parts
         },
         Node::Op(o) => Parts {
             tag: 4,
-            record: o.record,
+            source: o.source,
             field: o.field,
             branches: o.branches,
             first: o.first,
@@ -87,7 +87,7 @@ fn leaf_parts(tag: u32, l: Leaf) -> Parts
 {
     Parts {
         tag,
-        record: l.record,
+        source: l.source,
         field: 0,
         branches: 0,
         first: 0,
@@ -100,16 +100,16 @@ fn node_of(p: Parts) -> Node
 {
     let tag = p.tag;
     match tag {
-        0 => Node::Const(Leaf { record: p.record }),
-        1 => Node::Unparsed(Leaf { record: p.record }),
-        2 => Node::Arg(Leaf { record: p.record }),
+        0 => Node::Const(Leaf { source: p.source }),
+        1 => Node::Unparsed(Leaf { source: p.source }),
+        2 => Node::Arg(Leaf { source: p.source }),
         3 => Node::Lambda(Func {
-            record: p.record,
+            source: p.source,
             first: p.first,
             body: p.second,
         }),
         _ => Node::Op(Operation {
-            record: p.record,
+            source: p.source,
             field: p.field,
             branches: p.branches,
             first: p.first,
@@ -119,10 +119,10 @@ fn node_of(p: Parts) -> Node
 }
 
 fn head_word(p: Parts, count: u32) -> u32
-    requires { ⌜ (p .tag < 8) × (p .«record» < 256) × (p .field < 4) × (count < 512) ⌝ }
+    requires { ⌜ (p .tag < 8) × (p .source < 256) × (p .field < 4) × (count < 512) ⌝ }
     ensures { λ r. ⌜ r ≡ head p count ⌝ }
 {
-    p.tag + 8 * p.record + 2048 * p.field + 8192 * count
+    p.tag + 8 * p.source + 2048 * p.field + 8192 * count
 }
 
 fn middle_word(p: Parts, kids: u32) -> u32
@@ -187,7 +187,7 @@ fn parts_in(a: u32, b: u32, c: u32) -> Parts
 {
     Parts {
         tag: a % 8,
-        record: a / 8 % 256,
+        source: a / 8 % 256,
         field: a / 2048 % 4,
         branches: b / 16777216,
         first: c / 4096,

@@ -179,7 +179,7 @@ module _ (ws : List ℕ) (n held : ℕ) (y : Symbol) (room : Room ws n held y) w
     unfolding push symOf
     push-made cur shared st e p = rw (p, e) (sym syms-made)
 
-    pub sound-made : partsOf (y .node) .«record» < recordCount bs →
+    pub sound-made : partsOf (y .node) .source < recordCount bs →
         ((k : ℕ) → k < y .count → getD ws (8200 + held + k) 0 < n) →
         AllSound bs (made ws n held y) (y .kids + y .count) (suc n)
     sound-made from lower i lt =

@@ -28,14 +28,14 @@ keyRec bs i field =
     let r = rowAt bs i .rec in elim (eqb field 0) [ true ↦ r | false ↦ rec (r .shape) (r .opcode) 0 (field ∷ []) ]
 
 abbrev pub recOf : List ℕ → Node → Rec
-recOf bs n = keyRec bs (partsOf n .«record») (partsOf n .field)
+recOf bs n = keyRec bs (partsOf n .source) (partsOf n .field)
 
 -- the argument symbols that a node binds
 abbrev pub ownOf : List ℕ → Node → List ℕ
 ownOf bs (Const l) = []
 ownOf bs (Unparsed l) = []
 ownOf bs (Arg l) = []
-ownOf bs (Lambda f) = range (f .first) (rowAt bs (f .«record») .rec .aux)
+ownOf bs (Lambda f) = range (f .first) (rowAt bs (f .source) .rec .aux)
 ownOf bs (Op o) = []
 
 abbrev pub nodeOf : List ℕ → Node → intern.Node
@@ -43,7 +43,7 @@ nodeOf bs (Const l) = constant
 nodeOf bs (Unparsed l) = unparsed
 nodeOf bs (Arg l) = argument
 nodeOf bs (Lambda f) =
-    let r = rowAt bs (f .«record») .rec in
+    let r = rowAt bs (f .source) .rec in
     func (withOpts (argsOf (r .aux) (r .lit)) (range (f .first) (r .aux))) (f .body)
 nodeOf bs (Op o) = operation (take (o .branches) (o .first ∷ o .second ∷ []))
 
@@ -96,7 +96,7 @@ pub record Room (ws : List ℕ) (n held : ℕ) (y : Symbol) : Type 0 where
 
 -- symbol i was made for a record of the forest, its slots end at `used` or before, and its children are lower symbols
 pub record Sound (bs ws : List ℕ) (used i : ℕ) : Type 0 where
-  pub from : partsOf (symbolAt ws i .node) .«record» < recordCount bs
+  pub from : partsOf (symbolAt ws i .node) .source < recordCount bs
   pub slots : symbolAt ws i .kids + symbolAt ws i .count ≤ used
   pub lower : (k : ℕ) → k < symbolAt ws i .count → getD ws (2560 + symbolAt ws i .kids + k) 0 < i
 

@@ -48,11 +48,11 @@ module _ (bs ws : List ℕ) (s : ℕ) {y : Symbol} (loads : y ≡ symbolAt ws s)
   loaded-slots sound = rw loads (sound .slots)
 
   module _ {p : Parts} (is : p ≡ partsOf (y .node)) where
-    pub loaded-from : Sound bs ws 2560 s → p .«record» < recordCount bs
+    pub loaded-from : Sound bs ws 2560 s → p .source < recordCount bs
     loaded-from sound = rw (is, loads) (sound .from)
 
     module _ (i field held count : ℕ) where
-      pub recs-differ : {u : Bool} → u ≡ sameRec (keyRec bs (p .«record») (p .field)) (keyRec bs i field) → u ≡ false →
+      pub recs-differ : {u : Bool} → u ≡ sameRec (keyRec bs (p .source) (p .field)) (keyRec bs i field) → u ≡ false →
           false ≡ sameKey bs ws i field held count s
       unfolding sameKey
       recs-differ h f =
@@ -60,7 +60,7 @@ module _ (bs ws : List ℕ) (s : ℕ) {y : Symbol} (loads : y ≡ symbolAt ws s)
           rw (is, loads) at (sym h ∙ f) in
           rw e
 
-      pub kids-decide : {t u : Bool} → u ≡ sameRec (keyRec bs (p .«record») (p .field)) (keyRec bs i field) → u ≡ true →
+      pub kids-decide : {t u : Bool} → u ≡ sameRec (keyRec bs (p .source) (p .field)) (keyRec bs i field) → u ≡ true →
           t ≡ same (slotsFrom ws (y .kids) (y .count)) (pendingFrom ws held count) →
           t ≡ sameKey bs ws i field held count s
       unfolding sameKey

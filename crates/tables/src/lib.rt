@@ -116,7 +116,7 @@ fn same_key(
     let y = key::load(work, s);
     let node = y.node;
     let p = key::parts_of(node);
-    let from = p.record as usize;
+    let from = p.source as usize;
     let kids = y.kids as usize;
     let n = y.count as usize;
     if symbols::same_rec(forest, from, p.field, i, field) {
