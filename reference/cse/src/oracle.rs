@@ -228,3 +228,23 @@ fn symbol_lines(interner: &Interner) -> String {
     }
     text
 }
+
+#[cfg(test)]
+mod tests {
+    use super::*;
+    use crate::trees::{alone, block, node, p, tuple, val_use, z};
+
+    /// docs/DIFFERENCES.md: the original takes Two and ByIndex under one opcode for one symbol.
+    #[test]
+    fn the_original_merges_two_shapes_of_one_opcode() {
+        let by_index = |a, b| node(24, 0x9A, 0, &[], vec![a, b]);
+        let forest = alone(tuple(vec![p(z(), z()), by_index(z(), z())]));
+        assert!(accept(&forest.to_bytes()).is_ok());
+        assert_eq!(count(&forest).expect("within the limits").symbols, 4);
+        assert_eq!(interned(&forest).0.syms.len(), 3);
+        let written = to_tree(&cse(to_expr(&forest.trees[0]), &[]));
+        let shared = p(val_use(1), val_use(1));
+        let result = tuple(vec![val_use(2), val_use(2)]);
+        assert_eq!(written, block(vec![(1, z()), (2, shared)], result));
+    }
+}
