@@ -1,0 +1,282 @@
+-- A lambda's arguments, as model's `allocArgs` makes them. In order: the definition in closed form; one argument more
+-- may be made; the loop.
+-- Assumes nothing.
+use Prim.Native.Nat.{ℕ, zero, suc, _+_, _-_, _<_, _≤_}
+use mathlib.Core.Path.{_≡_, refl, sym, ap, _∙_, subst}
+use mathlib.Core.Logic.{_⊎_, inl, inr, ⊎-elim}
+use mathlib.Core.Bool.{Bool, false, _||_, or-false}
+use mathlib.Core.Option.{some}
+use mathlib.Core.List.{List, [], _∷_}
+use native.Mathlib.Omega.{arith}
+use native.Mathlib.Decide.{decLt}
+use native.Mathlib.Nat.{eq-or-lt-of-le}
+use borrow.Author.Tests.{lt-ltb, le-ltb, ne-eqb}
+use lib.Dec.{eqb}
+use lib.ListN.{length, length-append}
+use Rattle.model.specs.Lists.{anyIn}
+use Rattle.model.specs.Answer.{refused, good, _>>=_, guard}
+use Rattle.model.specs.Tree.{Rec}
+use Rattle.model.specs.Forest.{recordCount}
+use Rattle.model.specs.Intern.{Scope, scopeAt, argument, Outs, push, alloc, allocArgs}
+use Rattle.model.specs.Intern as intern
+use Rattle.laws.proofs.Members.{In, in-one, apart-anyIn}
+use Rattle.record.specs.Record.{rowAt}
+use Rattle.key.specs.declared.Node.{Node}
+use Rattle.key.specs.declared.Node.the-variants.{Arg}
+use Rattle.symbols.specs.Words.{wordsFrom, range}
+use Rattle.symbols.specs.Symbols.{keyRec}
+use Rattle.symbols.proofs.Laws.{syms-length}
+use Rattle.levels.specs.Levels.{has}
+use Rattle.scopes.specs.Range as scopes
+use Rattle.scopes.specs.Scopes.{scopeWord, levelOf, scopesOf, outward}
+use Rattle.scopes.proofs.Laws.{scopes-length, scope-level, scope-args}
+use Rattle.scopes.proofs.Tracks.{Below, outward-below, EachArgs, tracks-apart}
+use Rattle.interner.specs.declared.State.{State}
+use Rattle.interner.specs.declared.Step.{Step}
+use Rattle.interner.specs.Levels.{AtLevel}
+use Rattle.interner.specs.State.{absOf, Rep}
+use Rattle.interner.specs.Step.{Fresh, Levels, Leaves, Pushed, given, overFull, outsOf, Bindings}
+use Rattle.interner.proofs.Levels.{anyHas-one}
+use Rattle.interner.proofs.Sharing.{leaves-none, leaves-then}
+
+-- ---- the definition in closed form
+
+-- one argument more
+abbrev oneArg : ℕ → Rec → intern.State → intern.State
+oneArg cur r s = push cur r [] (length (s .syms) ∷ []) false argument s
+
+-- the state after k arguments
+unfoldable pub pushArgs : ℕ → Rec → ℕ → intern.State → intern.State
+pushArgs cur r zero s = s
+pushArgs cur r (suc k) s = pushArgs cur r k (oneArg cur r s)
+
+module _ (at cur : ℕ) (r : Rec) where
+  one-length : (s : intern.State) → length (oneArg cur r s .syms) ≡ suc (length (s .syms))
+  unfolding push
+  one-length s = length-append (s .syms) _ ∙ omega arith
+
+  abbrev rest : List (ℕ × List ℕ) → ℕ × intern.State → Outs
+  rest xs o = do
+    os ← allocArgs at cur r xs (o .1)
+    good (o .0 ∷ os .0, [], os .2)
+
+  one-good : (s : intern.State) (a : ℕ × List ℕ) (xs : List (ℕ × List ℕ)) → length (s .syms) < 512 →
+      allocArgs at cur r (a ∷ xs) s ≡ rest xs (length (s .syms), oneArg cur r s)
+  unfolding allocArgs alloc guard _>>=_
+  one-good s a xs lt =
+      ap (λ (b : Bool). guard b 12 at (good (length (s .syms), oneArg cur r s)) >>= rest xs)
+      (lt-ltb (length (s .syms)) 512 lt)
+
+  pub args-good : (xs : List (ℕ × List ℕ)) (s : intern.State) → length (s .syms) + length xs ≤ 512 →
+      allocArgs at cur r xs s ≡ good (range (length (s .syms)) (length xs), [], pushArgs cur r (length xs) s)
+  unfolding allocArgs pushArgs range _>>=_
+  args-good [] s le = refl
+  args-good (a ∷ xs) s le =
+      let n : length (oneArg cur r s .syms) ≡ suc (length (s .syms)) = one-length s in
+      one-good s a xs (omega arith)
+      ∙ (ap (λ (m : Outs). m >>= λ os. good (length (s .syms) ∷ os .0, [], os .2))
+      (args-good xs (oneArg cur r s) (omega arith))
+      ∙ ap (λ (k : ℕ).
+      good (length (s .syms) ∷ range k (length xs), [], pushArgs cur r (length xs) (oneArg cur r s))) n)
+
+  pub args-full : (xs : List (ℕ × List ℕ)) (s : intern.State) → length (s .syms) ≤ 512 →
+      512 < length (s .syms) + length xs → allocArgs at cur r xs s ≡ refused 12 at
+  unfolding allocArgs alloc guard _>>=_
+  args-full [] s le lt = absurd (omega arith)
+  args-full (a ∷ xs) s le lt = elim (decLt (length (s .syms)) 512) [
+    | yes p ↦
+        let n : length (oneArg cur r s .syms) ≡ suc (length (s .syms)) = one-length s in
+        one-good s a xs p
+        ∙ ap (λ (m : Outs). m >>= λ os. good (length (s .syms) ∷ os .0, [], os .2))
+        (args-full xs (oneArg cur r s) (omega arith) (omega arith))
+    | no p ↦
+        ap (λ (b : Bool). guard b 12 at (good (length (s .syms), oneArg cur r s)) >>= rest xs)
+        (le-ltb (length (s .syms)) 512 (omega arith))
+  ]
+
+-- the same numbers, as the scopes have them
+pub range-same : (first n : ℕ) → range first n ≡ scopes.range first n
+unfolding range scopes.range
+range-same first zero = refl
+range-same first (suc n) = let e : first + 1 ≡ suc first = omega arith in rw (e, range-same (suc first) n)
+
+-- a set of one level
+pub one-level : (all r k d j : ℕ) → has all j ≡ false → has r j ≡ (eqb j (k + 1) || has all j) → k ≡ d →
+    has r j ≡ eqb j (d + 1)
+one-level all r k d j e f g = f ∙ rw (e, g) (or-false (eqb j (d + 1)))
+
+-- ---- one argument more may be made
+
+abbrev arg : ℕ → Node
+arg at = Arg (record { source = at })
+
+each-args : (scs : List Scope) (P : List ℕ → Type 0) (m : ℕ) (out : List ℕ) → Below m out →
+    ((s : ℕ) → s < m → (xs : List ℕ) → scopeAt scs s .args ≡ some xs → P xs) → EachArgs scs P out
+each-args scs P m [] b h = tt
+each-args scs P m (s ∷ out) b h = (h s (b .0), each-args scs P m out (b .1) h)
+
+module _ (bs ws : List ℕ) (st : State) (cur at levels : ℕ) (rep : Rep bs ws st) (from : at < recordCount bs)
+    (current : cur < st .scopes) where
+  pub arg-fresh : Fresh bs ws st cur (arg at) 0 0
+  arg-fresh = record {
+    from = from;
+    field = omega arith;
+    branches = omega arith;
+    first = omega arith;
+    second = omega arith;
+    current = current;
+    slots = omega (arith, rep .few-slots);
+    pending = omega arith;
+    lower = λ k lt. absurd (omega arith);
+  }
+
+  module _ (are : (j : ℕ) → has levels j ≡ eqb j (levelOf (scopeWord ws cur) + 1)) where
+    abbrev scs : List Scope
+    scs = scopesOf ws (st .scopes)
+
+    -- no scope around has the new argument
+    apart : EachArgs scs (λ xs. anyIn xs (st .symbols ∷ []) ≡ false) (outward scs cur)
+    apart =
+        each-args scs (λ xs. anyIn xs (st .symbols ∷ []) ≡ false) (st .scopes) (outward scs cur)
+        (subst (λ (z : ℕ). Below z (outward scs cur)) (scopes-length ws (st .scopes))
+        (outward-below ws (st .scopes) (rep .nested) cur current))
+        (λ s lt xs e. apart-anyIn xs (st .symbols ∷ []) (λ a i j.
+        let l = rep .arguments s lt xs (sym (scope-args ws (st .scopes) (st .scopes) s (rep .nested) lt lt) ∙ e) a i in
+        omega (arith, l .low, in-one j)))
+
+    pub arg-levels : Levels ws st cur (st .symbols ∷ []) levels
+    arg-levels = record {
+      low = λ a i. omega (arith, in-one i);
+      are = λ ws′ stored j.
+          sym (anyHas-one ws′ j (st .symbols) ∙ ap (λ (z : ℕ). has z j) (stored .own));
+      tracks =
+          let e = scope-level ws (st .scopes) (st .scopes) cur (rep .nested) current current in
+          tracks-apart scs levels (st .symbols ∷ []) (outward scs cur) (levelOf (scopeWord ws cur)) (omega (arith, e))
+          (λ j le. are j ∙ ne-eqb j (levelOf (scopeWord ws cur) + 1) (λ d. omega arith)) apart;
+    }
+
+-- ---- the loop: k arguments so far
+
+pub record SoFar (bs ws₀ : List ℕ) (st₀ : State) (cur at count k : ℕ) (ws : List ℕ) (s : State) : Type 0 where
+  pub few : k ≤ count
+  pub rep : Rep bs ws s
+  pub leaves : Leaves ws₀ ws st₀ s
+  pub symbols : s .symbols ≡ st₀ .symbols + k
+  pub left : pushArgs cur (rowAt bs at .rec) (count - k) (absOf bs ws s)
+      ≡ pushArgs cur (rowAt bs at .rec) count (absOf bs ws₀ st₀)
+  pub args : (i : ℕ) → i < k → AtLevel ws (s .symbols) (levelOf (scopeWord ws₀ cur) + 1) (st₀ .symbols + i)
+
+range-in : (first n x : ℕ) → In x (range first n) → (i : ℕ) × (i < n) × (x ≡ first + i)
+unfolding range
+range-in first zero x h = absurd h
+range-in first (suc n) x (inl e) = (0, omega arith, omega arith)
+range-in first (suc n) x (inr h) =
+    let w = range-in (suc first) n x h in (suc (w .0), omega (arith, w .1), omega (arith, w .2))
+
+module _ (bs ws₀ : List ℕ) (st₀ : State) (cur at count : ℕ) where
+  pub so-far-none : Rep bs ws₀ st₀ → SoFar bs ws₀ st₀ cur at count 0 ws₀ st₀
+  so-far-none rep = record {
+    few = omega arith;
+    rep = rep;
+    leaves = leaves-none ws₀ st₀;
+    symbols = omega arith;
+    left = let e : count - 0 ≡ count = omega arith in rw e;
+    args = λ i lt. absurd (omega arith);
+  }
+
+  -- the scope is as it was
+  pub cur-level : (k : ℕ) (ws : List ℕ) (s : State) → Rep bs ws₀ st₀ → cur < st₀ .scopes →
+      SoFar bs ws₀ st₀ cur at count k ws s → scopeWord ws cur ≡ scopeWord ws₀ cur
+  cur-level k ws s rep lt f = f .leaves .scope-words (5120 + cur) (omega arith) (omega (arith, rep .few-scopes))
+
+  pub next-levels : (k levels : ℕ) (ws : List ℕ) (s : State) → Rep bs ws₀ st₀ → at < recordCount bs →
+      cur < st₀ .scopes → ((j : ℕ) → has levels j ≡ eqb j (levelOf (scopeWord ws₀ cur) + 1)) →
+      SoFar bs ws₀ st₀ cur at count k ws s →
+      Fresh bs ws s cur (arg at) 0 0 × Levels ws s cur (s .symbols ∷ []) levels
+  next-levels k levels ws s rep from lt are f =
+      let e : scopeWord ws cur ≡ scopeWord ws₀ cur = cur-level k ws s rep lt f in
+      let l : cur < s .scopes = omega (arith, f .leaves .scopes) in (
+        arg-fresh bs ws s cur at levels (f .rep) from l,
+        arg-levels bs ws s cur at levels (f .rep) from l (λ j. rw e (are j)),
+      )
+
+  module _ (k levels : ℕ) (ws ws₁ : List ℕ) (s s₁ : State) (lt : k < count)
+      (are : (j : ℕ) → has levels j ≡ eqb j (levelOf (scopeWord ws₀ cur) + 1))
+      (f : SoFar bs ws₀ st₀ cur at count k ws s) (done : Pushed bs ws s cur (arg at) 0 0 levels ws₁ s₁) where
+    one-is : absOf bs ws₁ s₁ ≡ oneArg cur (rowAt bs at .rec) (absOf bs ws s)
+    unfolding keyRec wordsFrom
+    one-is = done .is ∙ rw (syms-length bs ws (s .symbols))
+
+    left-more : pushArgs cur (rowAt bs at .rec) (count - (k + 1)) (absOf bs ws₁ s₁)
+        ≡ pushArgs cur (rowAt bs at .rec) count (absOf bs ws₀ st₀)
+    unfolding pushArgs
+    left-more =
+        let e : count - k ≡ suc (count - (k + 1)) = omega (arith, lt) in
+        ap (pushArgs cur (rowAt bs at .rec) (count - (k + 1))) one-is
+        ∙ (ap (λ (z : ℕ). pushArgs cur (rowAt bs at .rec) z (absOf bs ws s)) (sym e) ∙ f .left)
+
+    new-level : AtLevel ws₁ (s₁ .symbols) (levelOf (scopeWord ws₀ cur) + 1) (s .symbols)
+    new-level = record {
+      low = omega (arith, done .symbols);
+      one = λ j. ap (λ (z : ℕ). has z j) (done .stored .own) ∙ are j;
+    }
+
+    args-more : (i : ℕ) → i < k + 1 → AtLevel ws₁ (s₁ .symbols) (levelOf (scopeWord ws₀ cur) + 1) (st₀ .symbols + i)
+    args-more i l =
+        let le : i ≤ k = omega arith in
+        ⊎-elim
+        (λ e. let d : s .symbols ≡ st₀ .symbols + i = omega (arith, f .symbols) in
+        subst (AtLevel ws₁ (s₁ .symbols) (levelOf (scopeWord ws₀ cur) + 1)) d new-level)
+        (λ r. let h = f .args i r in record {
+          low = omega (arith, h .low, done .symbols);
+          one = λ j. rw (done .stored .others (st₀ .symbols + i) (h .low)) (h .one j);
+        }) (eq-or-lt-of-le le)
+
+    pub so-far-more : SoFar bs ws₀ st₀ cur at count (k + 1) ws₁ s₁
+    so-far-more = record {
+      few = omega (arith, lt);
+      rep = done .rep;
+      leaves = leaves-then ws₀ ws ws₁ st₀ s s₁ (f .leaves) (done .leaves);
+      symbols = omega (arith, done .symbols, f .symbols);
+      left = left-more;
+      args = args-more;
+    }
+
+  module _ (rep : Rep bs ws₀ st₀) where
+    pub args-done : (ws : List ℕ) (s : State) (r : Step) → st₀ .symbols + count ≤ 512 →
+        SoFar bs ws₀ st₀ cur at count count ws s → r ≡ given s (st₀ .symbols) →
+        Bindings bs ws₀ st₀ cur at count ws r
+    unfolding outsOf pushArgs
+    args-done ws s r le f e = subst (Bindings bs ws₀ st₀ cur at count ws) (sym e) (record {
+      rep = f .rep;
+      leaves = f .leaves;
+      is = λ xs l. sym (good-args xs l);
+      first = λ z. (refl, f .symbols);
+      args = λ z x i. let w = range-in (st₀ .symbols) count x i in rw (w .2) (f .args (w .0) (w .1));
+    })
+      where
+        good-args : (xs : List (ℕ × List ℕ)) → length xs ≡ count →
+            allocArgs at cur (rowAt bs at .rec) xs (absOf bs ws₀ st₀) ≡ outsOf bs ws count (given s (st₀ .symbols))
+        good-args xs l =
+            let n = syms-length bs ws₀ (st₀ .symbols) in
+            let z : count - count ≡ 0 = omega arith in
+            args-good at cur (rowAt bs at .rec) xs (absOf bs ws₀ st₀) (omega (arith, n))
+            ∙ rw (n, l, ← f .left, z)
+
+    pub args-refused : (r : Step) → 512 < st₀ .symbols + count → r ≡ overFull st₀ (arg at) →
+        Bindings bs ws₀ st₀ cur at count ws₀ r
+    unfolding outsOf
+    args-refused r lt e = subst (Bindings bs ws₀ st₀ cur at count ws₀) (sym e) (record {
+      rep = rep;
+      leaves = leaves-none ws₀ st₀;
+      is = λ xs l. sym (full-args xs l);
+      first = λ z. absurd (omega arith);
+      args = λ z. absurd (omega arith);
+    })
+      where
+        full-args : (xs : List (ℕ × List ℕ)) → length xs ≡ count →
+            allocArgs at cur (rowAt bs at .rec) xs (absOf bs ws₀ st₀) ≡ outsOf bs ws₀ count (overFull st₀ (arg at))
+        full-args xs l =
+            let n = syms-length bs ws₀ (st₀ .symbols) in
+            args-full at cur (rowAt bs at .rec) xs (absOf bs ws₀ st₀) (omega (arith, n, rep .few-symbols))
+            (omega (arith, n))

@@ -1,0 +1,290 @@
+-- Projections, as model's `newProjections` and `pairProjection` have them. In order: fields 1 and 2; one
+-- projection; answers; the state between them; both.
+-- Assumes nothing.
+use Prim.Native.Nat.{ℕ, _+_, _<_}
+use mathlib.Core.Path.{_≡_, refl, sym, ap, _∙_, subst}
+use mathlib.Core.Bool.{Bool, true, false}
+use mathlib.Core.Option.{none, some}
+use mathlib.Core.List.{List, [], _∷_}
+use native.Mathlib.Omega.{arith}
+use borrow.Author.Tests.{eq-eqb, ne-eqb}
+use lib.Dec.{eqb}
+use lib.ListN.{getD}
+use Rattle.model.specs.Lists.{union}
+use Rattle.model.specs.Answer.{refused, good, _>>=_}
+use Rattle.model.specs.Tree.{Rec}
+use Rattle.model.specs.Intern.{Sym, Scope, symAt, Out, operation, unionDeps, finish, recall, remember, pick}
+use Rattle.model.specs.Intern.{newProjections, pairProjection}
+use Rattle.model.specs.Intern as intern
+use Rattle.laws.proofs.Holds.{Holds}
+use Rattle.record.specs.Record.{rowAt}
+use Rattle.key.specs.declared.Node.{Node}
+use Rattle.key.specs.declared.Node.the-variants.{Op}
+use Rattle.symbols.specs.Words.{wordsFrom}
+use Rattle.symbols.specs.Symbols.{symsOf, keyRec}
+use Rattle.symbols.proofs.Laws.{syms-length}
+use Rattle.scopes.specs.Scopes.{scopesOf}
+use Rattle.memo.specs.Memo.{memoOf, remembered}
+use Rattle.interner.specs.declared.State.{State}
+use Rattle.interner.specs.declared.Step.{Step}
+use Rattle.interner.specs.Levels.{InForce}
+use Rattle.interner.specs.State.{absOf, Rep}
+use Rattle.interner.specs.Step.{outOf, given, Answers, Ready, finishOf, Projects, fieldRec, fieldOf, withPair}
+use Rattle.interner.proofs.Sharing.{leaves-none, leaves-then, out-given}
+use Rattle.interner.proofs.Keeps.{Keeps, finish-keeps}
+use Rattle.interner.proofs.Memos.{recall-low, memo-room, abs-remembered, rep-remembered, leaves-remembered}
+
+-- ---- fields 1 and 2
+
+pub pick-first : (i a b : ℕ) → i ≡ 1 → pick i (a, b) ≡ a
+pick-first i a b e = rw (eq-eqb i 1 e, pick)
+
+pub pick-second : (i a b : ℕ) → (i ≡ 1 → ⊥) → pick i (a, b) ≡ b
+pick-second i a b n = rw (ne-eqb i 1 n, pick)
+
+pick-low : (i a b n : ℕ) → a < n → b < n → pick i (a, b) < n
+pick-low i a b n la lb = go (eqb i 1)
+  where
+    go : (t : Bool) → elim t [ true ↦ a | false ↦ b ] < n
+    go true = la
+    go false = lb
+
+-- ---- one of them
+
+abbrev field : ℕ → ℕ → Node
+field at i = Op (record { source = at; field = i; branches = 0; first = 0; second = 0 })
+
+key-field : (bs : List ℕ) (at i : ℕ) → 0 < i → keyRec bs at i ≡ fieldRec (rowAt bs at .rec) i
+unfolding keyRec
+key-field bs at i lt = rw (ne-eqb i 0 (λ e. omega arith), keyRec)
+
+module _ (bs ws : List ℕ) (st : State) (cur at i held : ℕ) where
+  pub field-ready : Rep bs ws st → Projects bs ws st cur at held 1 → i < 4 → Ready bs ws st cur (field at i) held 1
+  unfolding union unionDeps wordsFrom
+  field-ready rep h lt = record {
+    fresh = record {
+      from = h .from;
+      field = lt;
+      branches = omega arith;
+      first = omega arith;
+      second = omega arith;
+      current = h .current;
+      slots = h .slots;
+      pending = h .pending;
+      lower = λ k l. let e : 8200 + held + k ≡ 8200 + held = omega arith in rw e (h .low);
+    };
+    keyed = tt;
+    forced = h .forced;
+  }
+
+  pub field-is : 0 < i →
+      finishOf bs ws st cur (field at i) held 1
+      ≡ fieldOf at cur (rowAt bs at .rec) i (getD ws (8200 + held) 0) (absOf bs ws st)
+  unfolding wordsFrom
+  field-is lt =
+      ap (λ (r : Rec). finish at cur r (getD ws (8200 + held) 0 ∷ []) [] (operation []) (absOf bs ws st))
+      (key-field bs at i lt)
+
+  pub field-answers : (ws′ : List ℕ) (r : Step) → 0 < i →
+      Answers bs ws st (finishOf bs ws st cur (field at i) held 1) ws′ r →
+      Answers bs ws st (fieldOf at cur (rowAt bs at .rec) i (getD ws (8200 + held) 0) (absOf bs ws st)) ws′ r
+  field-answers ws′ r lt a =
+      record { rep = a .rep; leaves = a .leaves; low = a .low; is = a .is ∙ field-is lt }
+
+-- ---- answers
+
+module _ (bs ws : List ℕ) (r : Step) where
+  pub out-good : r .number ≡ 0 → outOf bs ws r ≡ good (r .symbol, absOf bs ws (r .st))
+  unfolding outOf
+  out-good e = rw (eq-eqb (r .number) 0 e, outOf)
+
+  out-number : (r .number ≡ 0 → ⊥) → outOf bs ws r ≡ refused (r .number) (r .place)
+  unfolding outOf
+  out-number n = rw (ne-eqb (r .number) 0 n, outOf)
+
+  -- a refusal is handed on
+  out-refused : (r .number ≡ 0 → ⊥) → (f : ℕ × intern.State → Out) → (outOf bs ws r >>= f) ≡ outOf bs ws r
+  unfolding _>>=_
+  out-refused n f = rw (out-number n)
+
+-- ---- the state between them
+
+module _ (bs ws : List ℕ) (st : State) (cur at held : ℕ) where
+  abbrev pend : List ℕ → ℕ
+  pend us = getD us (8200 + held) 0
+
+  abbrev own : Rec
+  own = rowAt bs at .rec
+
+  module _ (i : ℕ) (ws₁ : List ℕ) (a : Step)
+      (h : Answers bs ws st (fieldOf at cur own i (pend ws) (absOf bs ws st)) ws₁ a) (ok : a .number ≡ 0) where
+    pub field-good : fieldOf at cur own i (pend ws) (absOf bs ws st) ≡ good (a .symbol, absOf bs ws₁ (a .st))
+    field-good = sym (h .is) ∙ out-good bs ws₁ a ok
+
+    pub field-keeps : Keeps (absOf bs ws st) 1 (a .symbol, absOf bs ws₁ (a .st))
+    field-keeps =
+        subst (Holds (Keeps (absOf bs ws st) 1)) field-good
+        (finish-keeps at cur (fieldRec own i) (pend ws ∷ []) [] (operation []) (absOf bs ws st))
+
+    pub same-pending : pend ws₁ ≡ pend ws
+    same-pending = h .leaves .later (8200 + held) (omega arith)
+
+    pub projects-next : Rep bs ws st → Projects bs ws st cur at held 2 → Projects bs ws₁ (a .st) cur at held 1
+    projects-next rep p =
+        let k = field-keeps in
+        let deps : symAt (symsOf bs ws₁ (a .st .symbols)) (pend ws₁) .deps
+        ≡ symAt (symsOf bs ws (st .symbols)) (pend ws) .deps =
+        ap (λ (z : ℕ). symAt (symsOf bs ws₁ (a .st .symbols)) z .deps) same-pending
+        ∙ ap (λ (y : Sym). y .deps) (k .syms (pend ws) (omega (arith, syms-length bs ws (st .symbols), p .low))) in
+        record {
+          from = p .from;
+          current = omega (arith, p .current, h .leaves .scopes);
+          slots = omega (arith, p .slots, k .slots, rep .slots-used, h .rep .slots-used);
+          pending = p .pending;
+          low = omega (arith, p .low, same-pending, h .leaves .more);
+          forced =
+              subst (λ (z : List Scope). InForce z cur (symAt (symsOf bs ws₁ (a .st .symbols)) (pend ws₁) .deps))
+              (sym (k .scopes))
+              (subst (InForce (scopesOf ws (st .scopes)) cur) (sym deps) (p .forced));
+        }
+
+    pub keeps-memo : memoOf ws₁ (a .st .memo) ≡ memoOf ws (st .memo)
+    keeps-memo = field-keeps .memo
+
+-- ---- both
+
+module _ (bs ws : List ℕ) (st : State) (cur at held : ℕ) where
+  abbrev pend′ : List ℕ → ℕ
+  pend′ us = getD us (8200 + held) 0
+
+  abbrev own′ : Rec
+  own′ = rowAt bs at .rec
+
+  module _ (i : ℕ) where
+    abbrev second : ℕ × intern.State → Out
+    second a = do
+      b ← fieldOf at cur own′ 2 (pend′ ws) (a .1)
+      good (pick i (a .0, b .0), remember (pend′ ws) (a .0) (b .0) (b .1))
+
+    abbrev newOf : Out
+    newOf = newProjections at cur own′ i (pend′ ws) (absOf bs ws st)
+
+    abbrev pairOf : Out
+    pairOf = pairProjection at cur own′ i (pend′ ws) (absOf bs ws st)
+
+    new-is : newOf ≡ (fieldOf at cur own′ 1 (pend′ ws) (absOf bs ws st) >>= second)
+    unfolding newProjections
+    new-is = refl
+
+    pub first-refused : (ws₁ : List ℕ) (a : Step) →
+        Answers bs ws st (fieldOf at cur own′ 1 (pend′ ws) (absOf bs ws st)) ws₁ a → (a .number ≡ 0 → ⊥) →
+        Answers bs ws st newOf ws₁ a
+    first-refused ws₁ a h n = record {
+      rep = h .rep;
+      leaves = h .leaves;
+      low = h .low;
+      is = sym (out-refused bs ws₁ a n second) ∙ (ap (λ (m : Out). m >>= second) (h .is) ∙ sym new-is);
+    }
+
+    module _ (ws₁ : List ℕ) (a : Step) (h : Answers bs ws st (fieldOf at cur own′ 1 (pend′ ws) (absOf bs ws st)) ws₁ a)
+        (ok : a .number ≡ 0) (ws₂ : List ℕ) (b : Step)
+        (g : Answers bs ws₁ (a .st) (fieldOf at cur own′ 2 (pend′ ws₁) (absOf bs ws₁ (a .st))) ws₂ b) where
+      abbrev last : ℕ × intern.State → Out
+      last o = good (pick i (a .symbol, o .0), remember (pend′ ws) (a .symbol) (o .0) (o .1))
+
+      new-second : newOf ≡ (outOf bs ws₂ b >>= last)
+      unfolding _>>=_
+      new-second =
+          new-is
+          ∙ (ap (λ (m : Out). m >>= second) (field-good bs ws st cur at held 1 ws₁ a h ok)
+          ∙ ap (λ (m : Out). m >>= last)
+          (ap (λ (z : ℕ). fieldOf at cur own′ 2 z (absOf bs ws₁ (a .st)))
+          (sym (same-pending bs ws st cur at held 1 ws₁ a h ok))
+          ∙ sym (g .is)))
+
+      pub second-refused : (b .number ≡ 0 → ⊥) → Answers bs ws st newOf ws₂ b
+      second-refused n = record {
+        rep = g .rep;
+        leaves = leaves-then ws ws₁ ws₂ st (a .st) (b .st) (h .leaves) (g .leaves);
+        low = g .low;
+        is = out-number bs ws₂ b n
+            ∙ sym (new-second ∙ (out-refused bs ws₂ b n last ∙ out-number bs ws₂ b n));
+      }
+
+      module _ (fine : b .number ≡ 0) (rep : Rep bs ws st) (p : Projects bs ws st cur at held 2)
+          (new : recall (memoOf ws (st .memo)) (pend′ ws) ≡ none) where
+        memo-kept : memoOf ws₂ (b .st .memo) ≡ memoOf ws (st .memo)
+        memo-kept =
+            keeps-memo bs ws₁ (a .st) cur at held 2 ws₂ b g fine ∙ keeps-memo bs ws st cur at held 1 ws₁ a h ok
+
+        pub still-new : recall (memoOf ws₂ (b .st .memo)) (pend′ ws) ≡ none
+        still-new = ap (λ (ms : List (ℕ × ℕ × ℕ)). recall ms (pend′ ws)) memo-kept ∙ new
+
+        pub low-p : pend′ ws < b .st .symbols
+        low-p = omega (arith, p .low, h .leaves .more, g .leaves .more)
+
+        pub low-a : a .symbol < b .st .symbols
+        low-a = omega (arith, h .low, g .leaves .more)
+
+        pub room-memo : b .st .memo < 512
+        room-memo = memo-room bs ws₂ (b .st) (pend′ ws) (g .rep) low-p still-new
+
+        abbrev ws₃ : List ℕ
+        ws₃ = remembered ws₂ (b .st .memo) (pend′ ws) (a .symbol) (b .symbol)
+
+        abbrev result : Step
+        result = given (withPair (b .st)) (pick i (a .symbol, b .symbol))
+
+        new-both : newOf ≡ outOf bs ws₃ result
+        unfolding _>>=_
+        new-both =
+            new-second
+            ∙ (ap (λ (m : Out). m >>= last) (out-good bs ws₂ b fine)
+            ∙ (ap (λ (s : intern.State). good (pick i (a .symbol, b .symbol), s))
+            (sym (abs-remembered bs ws₂ (b .st) (pend′ ws) (g .rep) low-p still-new (a .symbol) (b .symbol) low-a
+            (g .low)))
+            ∙ sym (out-given bs ws₃ (withPair (b .st)) (pick i (a .symbol, b .symbol)))))
+
+        whole : Answers bs ws st newOf ws₃ result
+        whole = record {
+          rep = rep-remembered bs ws₂ (b .st) (pend′ ws) (g .rep) low-p still-new (a .symbol) (b .symbol) low-a
+              (g .low);
+          leaves = leaves-then ws ws₂ ws₃ st (b .st) (withPair (b .st))
+              (leaves-then ws ws₁ ws₂ st (a .st) (b .st) (h .leaves) (g .leaves))
+              (leaves-remembered bs ws₂ (b .st) (pend′ ws) (g .rep) low-p still-new (a .symbol) (b .symbol) low-a
+              (g .low));
+          low = pick-low i (a .symbol) (b .symbol) (b .st .symbols) low-a (g .low);
+          is = sym new-both;
+        }
+
+        pub both-made : (ws′ : List ℕ) (r : Step) → ws′ ≡ ws₃ → r ≡ result → Answers bs ws st newOf ws′ r
+        both-made ws′ r d e =
+            subst (λ (z : List ℕ). Answers bs ws st newOf z r) (sym d)
+            (subst (Answers bs ws st newOf ws₃) (sym e) whole)
+
+    -- ---- what is remembered, or both made
+
+    pair-some : (x y : ℕ) → recall (memoOf ws (st .memo)) (pend′ ws) ≡ some (x, y) →
+        pairOf ≡ good (pick i (x, y), absOf bs ws st)
+    unfolding pairProjection
+    pair-some x y e = rw (e, pairProjection)
+
+    pair-none : recall (memoOf ws (st .memo)) (pend′ ws) ≡ none → pairOf ≡ newOf
+    unfolding pairProjection
+    pair-none e = rw (e, pairProjection)
+
+    pub recalled : (x y : ℕ) (r : Step) → Rep bs ws st → recall (memoOf ws (st .memo)) (pend′ ws) ≡ some (x, y) →
+        r ≡ given st (pick i (x, y)) → Answers bs ws st pairOf ws r
+    recalled x y r rep f e =
+        let low = recall-low (st .symbols) (memoOf ws (st .memo)) (pend′ ws) x y (rep .remembered) f in
+        subst (Answers bs ws st pairOf ws) (sym e) (record {
+          rep = rep;
+          leaves = leaves-none ws st;
+          low = pick-low i x y (st .symbols) (low .0) (low .1);
+          is = out-given bs ws st (pick i (x, y)) ∙ sym (pair-some x y f);
+        })
+
+    pub not-recalled : (ws′ : List ℕ) (r : Step) → recall (memoOf ws (st .memo)) (pend′ ws) ≡ none →
+        Answers bs ws st newOf ws′ r → Answers bs ws st pairOf ws′ r
+    not-recalled ws′ r f h =
+        record { rep = h .rep; leaves = h .leaves; low = h .low; is = h .is ∙ sym (pair-none f) }

@@ -1,0 +1,155 @@
+-- The symbol of a key, found or made, as model's `finish` has it. In order: a symbol that is found is one of those that
+-- stand; `finish` by what is found.
+-- Assumes nothing.
+use Prim.Native.Nat.{ℕ, zero, suc, _+_, _-_, _<_, _≤_}
+use mathlib.Core.Path.{_≡_, refl, sym, ap, _∙_, subst}
+use mathlib.Core.Bool.{Bool, true, false}
+use mathlib.Core.Option.{Option, none, some}
+use mathlib.Core.List.{List, [], _∷_}
+use native.Mathlib.Omega.{arith}
+use lib.ListN.{getD}
+use Rattle.model.specs.Answer.{good}
+use Rattle.model.specs.Tree.{Rec}
+use Rattle.model.specs.Forest.{recordCount}
+use Rattle.model.specs.Lists.{without}
+use Rattle.model.specs.Intern.{Sym, isKey, lookupIn, lookup, unionDeps, alloc, finish}
+use Rattle.model.specs.Intern as intern
+use Rattle.laws.proofs.Apart.{none-some}
+use Rattle.key.specs.declared.Node.{Node}
+use Rattle.key.specs.declared.Node.the-variants.{Const, Unparsed, Arg, Lambda, Op}
+use Rattle.key.specs.declared.Parts.{Parts}
+use Rattle.key.specs.Key.{partsOf}
+use Rattle.symbols.specs.Words.{pendingFrom}
+use Rattle.symbols.specs.Symbols.{symsOf, keyRec, recOf, ownOf, nodeOf}
+use Rattle.tables.specs.declared.Found.{Found}
+use Rattle.tables.specs.Tables.{foundOf, entries, tables, tablesOf, Entries, Below}
+use Rattle.tables.proofs.Stack.{entries-sound}
+use Rattle.interner.specs.declared.State.{State}
+use Rattle.interner.specs.declared.Step.{Step}
+use Rattle.interner.specs.State.{absOf, Rep}
+use Rattle.interner.specs.Step.{given, Answers, allocOf, finishOf, newDeps, Keyed}
+use Rattle.interner.proofs.Sharing.{leaves-none, out-given}
+
+-- ---- what is found is below what all entries are
+
+abbrev EachBelow : ℕ → List ℕ → Type 0
+EachBelow n [] = Unit {0}
+EachBelow n (e ∷ es) = (e < n) × EachBelow n es
+
+abbrev AllBelow : ℕ → List (List ℕ) → Type 0
+AllBelow n [] = Unit {0}
+AllBelow n (t ∷ ts) = EachBelow n t × AllBelow n ts
+
+module _ (ss : List Sym) (r : Rec) (ks : List ℕ) (n : ℕ) where
+  in-low : (es : List ℕ) (i : ℕ) → EachBelow n es → lookupIn ss r ks es ≡ some i → i < n
+  unfolding lookupIn
+  in-low [] i b e = none-some e
+  in-low (x ∷ es) i b e = go (isKey ss r ks x) (in-low es i (b .1)) e
+    where
+      go : (t : Bool) → (lookupIn ss r ks es ≡ some i → i < n) →
+          elim t [ true ↦ some x | false ↦ lookupIn ss r ks es ] ≡ some i → i < n
+      go true rest e = let p : i ≡ x = cc in rw p (b .0)
+      go false rest e = rest e
+
+  lookup-low : (ts : List (List ℕ)) (i : ℕ) → AllBelow n ts → lookup ss r ks ts ≡ some i → i < n
+  unfolding lookup
+  lookup-low [] i b e = none-some e
+  lookup-low (t ∷ ts) i b e = go (lookupIn ss r ks t) refl (lookup-low ts i (b .1)) e
+    where
+      go : (o : Option ℕ) → lookupIn ss r ks t ≡ o → (lookup ss r ks ts ≡ some i → i < n) →
+          elim o [ some j ↦ some j | none ↦ lookup ss r ks ts ] ≡ some i → i < n
+      go (some j) f rest e = in-low t i (b .0) (f ∙ e)
+      go none f rest e = rest e
+
+module _ (ws : List ℕ) (top n : ℕ) (below : Below ws top n) where
+  entries-low : (start k : ℕ) → k ≤ top - start → EachBelow n (entries ws start k)
+  unfolding entries
+  entries-low start zero le = tt
+  entries-low start (suc k) le = (below (start + k) (omega arith), entries-low start k (omega arith))
+
+  tables-low : (base : List ℕ) (d end : ℕ) → ((e : ℕ) → e < d → getD base e 0 ≤ top) → end ≤ top →
+      AllBelow n (tables ws base d end)
+  unfolding tables
+  tables-low base zero end starts le = tt
+  tables-low base (suc d) end starts le = (
+    entries-low (getD base d 0) (end - getD base d 0) (omega arith),
+    tables-low base d (getD base d 0) (λ e lt. starts e (omega arith)) (starts d (omega arith)),
+  )
+
+-- ---- `finish`, by what is found
+
+finish-some : (at cur : ℕ) (r : Rec) (ks own : List ℕ) (nd : intern.Node) (s : intern.State) (i : ℕ) →
+    lookup (s .syms) r ks (s .tables) ≡ some i → finish at cur r ks own nd s ≡ good (i, s)
+unfolding finish
+finish-some at cur r ks own nd s i e = rw (e, finish)
+
+finish-none : (at cur : ℕ) (r : Rec) (ks own : List ℕ) (nd : intern.Node) (s : intern.State) →
+    lookup (s .syms) r ks (s .tables) ≡ none →
+    finish at cur r ks own nd s ≡ alloc at cur r ks (without (unionDeps (s .syms) ks) own) true nd s
+unfolding finish
+finish-none at cur r ks own nd s e = rw (e, finish)
+
+module _ (bs ws : List ℕ) (st : State) (cur : ℕ) (node : Node) (held count : ℕ) (rep : Rep bs ws st) where
+  abbrev sought : Option ℕ
+  sought = lookup (symsOf bs ws (st .symbols)) (recOf bs node) (pendingFrom ws held count)
+      (tablesOf ws (st .tables) (st .entries))
+
+  pub found-answers : (s : ℕ) (r : Step) → some s ≡ sought → r ≡ given st s →
+      Answers bs ws st (finishOf bs ws st cur node held count) ws r
+  found-answers s r f e =
+      subst (Answers bs ws st (finishOf bs ws st cur node held count) ws) (sym e) (record {
+        rep = rep;
+        leaves = leaves-none ws st;
+        low = lookup-low (symsOf bs ws (st .symbols)) (recOf bs node) (pendingFrom ws held count) (st .symbols)
+            (tablesOf ws (st .tables) (st .entries)) s
+            (tables-low ws (st .entries) (st .symbols) (rep .below) (st .tables .base) (st .tables .depth) (st .entries)
+            (rep .opened .starts) (omega arith))
+            (sym f);
+        is = out-given bs ws st s
+            ∙ sym (finish-some (partsOf node .source) cur (recOf bs node) (pendingFrom ws held count) (ownOf bs node)
+            (nodeOf bs node) (absOf bs ws st) s (sym f));
+      })
+
+  -- the deps of a node that has a key
+  key-deps : (nd : Node) → Keyed bs ws (st .scopes) cur nd →
+      newDeps bs ws st nd held count
+      ≡ without (unionDeps (symsOf bs ws (st .symbols)) (pendingFrom ws held count)) (ownOf bs nd)
+  key-deps (Const l) k = refl
+  key-deps (Unparsed l) k = refl
+  key-deps (Arg l) k = absurd k
+  key-deps (Lambda f) k = refl
+  key-deps (Op o) k = refl
+
+  pub made-answers : (ws′ : List ℕ) (r : Step) → Keyed bs ws (st .scopes) cur node → none ≡ sought →
+      Answers bs ws st (allocOf bs ws st cur node held count true) ws′ r →
+      Answers bs ws st (finishOf bs ws st cur node held count) ws′ r
+  made-answers ws′ r keyed f a = record {
+    rep = a .rep;
+    leaves = a .leaves;
+    low = a .low;
+    is = a .is
+        ∙ (ap (λ (z : List ℕ). alloc (partsOf node .source) cur (recOf bs node) (pendingFrom ws held count) z true
+        (nodeOf bs node) (absOf bs ws st)) (key-deps node keyed)
+        ∙ sym (finish-none (partsOf node .source) cur (recOf bs node) (pendingFrom ws held count) (ownOf bs node)
+        (nodeOf bs node) (absOf bs ws st) (sym f)));
+  }
+
+  -- what `find` answers, and what it may be asked
+
+  module _ (p : Parts) (is : p ≡ partsOf node) where
+    pub found-is : (f : Found) (o : Option ℕ) → ((n : ℕ) → Below ws (st .entries) n →
+        foundOf f ≡ lookup (symsOf bs ws n) (keyRec bs (p .source) (p .field)) (pendingFrom ws held count)
+        (tablesOf ws (st .tables) (st .entries))) →
+        foundOf f ≡ o → o ≡ sought
+    found-is f o h e =
+        sym e ∙ (h (st .symbols) (rep .below)
+        ∙ ap (λ (z : Parts). lookup (symsOf bs ws (st .symbols)) (keyRec bs (z .source) (z .field))
+        (pendingFrom ws held count) (tablesOf ws (st .tables) (st .entries))) is)
+
+    pub sought-from : partsOf node .source < recordCount bs → p .source < recordCount bs
+    sought-from h = rw is h
+
+  pub sought-entries : Entries bs ws (st .entries)
+  sought-entries =
+      entries-sound bs ws (st .slots) (st .symbols) (st .entries) (rep .sound) (rep .few-slots) (rep .few-symbols)
+      (omega (arith, rep .few-entries, rep .few-symbols)) (rep .below)

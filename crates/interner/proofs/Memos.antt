@@ -1,0 +1,194 @@
+-- Projections remembered. In order: what is recalled are symbols; numbers that stand once are few; one pair more, as
+-- model's `remember` has it.
+-- Assumes nothing.
+use Prim.Native.Nat.{ℕ, zero, suc, _+_, _<_, _≤_}
+use mathlib.Core.Path.{_≡_, refl, sym, ap, _∙_}
+use mathlib.Core.Logic.{inl, inr}
+use mathlib.Core.Bool.{Bool, true, false}
+use mathlib.Core.Option.{Option, none, some, Option·some-injective}
+use mathlib.Core.List.{List, [], _∷_}
+use native.Mathlib.Omega.{arith}
+use borrow.Author.Tests.{eq-eqb}
+use lib.Dec.{eqb}
+use lib.ListN.{length, getD, length-set}
+use lib.Seq.{getD-set-other}
+use Rattle.model.specs.Lists.{isIn, without}
+use Rattle.model.specs.Intern.{recall, remember}
+use Rattle.model.specs.Intern as intern
+use Rattle.laws.proofs.Apart.{none-some, some-none}
+use Rattle.laws.proofs.Members.{In, Every, isIn-true, in-one, without-cases}
+use Rattle.memo.specs.Memo.{memoOf, remembered}
+use Rattle.memo.proofs.Laws.{memo-remembered}
+use Rattle.interner.specs.declared.State.{State}
+use Rattle.interner.specs.State.{absOf, MemoBelow, keysIn, Once, Rep}
+use Rattle.interner.specs.Step.{Leaves, withPair}
+use Rattle.interner.proofs.Same.{Same, abs-same, rep-same}
+
+-- ---- what is recalled are symbols
+
+abbrev orRest : ℕ × ℕ × ℕ → List (ℕ × ℕ × ℕ) → ℕ → Bool → Option (ℕ × ℕ)
+orRest m ms p b = elim b [ true ↦ some (m .1, m .2) | false ↦ recall ms p ]
+
+pub recall-low : (n : ℕ) (ms : List (ℕ × ℕ × ℕ)) (p a b : ℕ) → MemoBelow n ms → recall ms p ≡ some (a, b) →
+    (a < n) × (b < n)
+unfolding recall
+recall-low n [] p a b h e = none-some e
+recall-low n (m ∷ ms) p a b h e = go (eqb (m .0) p) (recall-low n ms p a b (h .1)) e
+  where
+    go : (t : Bool) → (recall ms p ≡ some (a, b) → (a < n) × (b < n)) → orRest m ms p t ≡ some (a, b) →
+        (a < n) × (b < n)
+    go true rest e =
+        let q : _≡_ {A = ℕ × ℕ} (m .1, m .2) (a, b) = Option·some-injective _ _ e in
+        let d : m .1 ≡ a = ap (λ (x : ℕ × ℕ). x .0) q in
+        let f : m .2 ≡ b = ap (λ (x : ℕ × ℕ). x .1) q in
+        (omega (arith, h .0 .1, d), omega (arith, h .0 .2, f))
+    go false rest e = rest e
+
+-- what is not recalled is not among the keys
+recall-new : (ms : List (ℕ × ℕ × ℕ)) (p : ℕ) → recall ms p ≡ none → In p (keysIn ms) → ⊥
+unfolding recall
+recall-new [] p e i = i
+recall-new (m ∷ ms) p e (inl d) =
+    some-none (sym (ap (orRest m ms p) (eq-eqb (m .0) p (sym d))) ∙ e)
+recall-new (m ∷ ms) p e (inr i) = go (eqb (m .0) p) (λ f. recall-new ms p f i) e
+  where
+    go : (t : Bool) → (recall ms p ≡ none → ⊥) → orRest m ms p t ≡ none → ⊥
+    go true rest e = some-none e
+    go false rest e = rest e
+
+-- ---- numbers below n that stand once are at most n
+
+without-out : (n : ℕ) (xs : List ℕ) → (In n xs → ⊥) → length xs ≤ length (without xs (n ∷ []))
+unfolding without
+without-out n [] h = omega arith
+without-out n (x ∷ xs) h = go (isIn x (n ∷ [])) refl (without-out n xs (λ i. h (inr i)))
+  where
+    go : (b : Bool) → isIn x (n ∷ []) ≡ b → length xs ≤ length (without xs (n ∷ [])) →
+        suc (length xs) ≤ length {A = ℕ} (elim b [ true ↦ without xs (n ∷ []) | false ↦ x ∷ without xs (n ∷ []) ])
+    go true e rest = absurd (h (inl (sym (in-one (isIn-true x (n ∷ []) e)))))
+    go false e rest = omega (arith, rest)
+
+without-one : (n : ℕ) (xs : List ℕ) → Once xs → length xs ≤ suc (length (without xs (n ∷ [])))
+unfolding without
+without-one n [] o = omega arith
+without-one n (x ∷ xs) o = go (isIn x (n ∷ [])) refl (without-one n xs (o .1))
+  where
+    go : (b : Bool) → isIn x (n ∷ []) ≡ b → length xs ≤ suc (length (without xs (n ∷ []))) →
+        suc (length xs) ≤ suc (length {A = ℕ} (elim b [ true ↦ without xs (n ∷ []) | false ↦ x ∷ without xs (n ∷ []) ]))
+    go true e rest =
+        let d : x ≡ n = in-one (isIn-true x (n ∷ []) e) in
+        omega (arith, without-out n xs (λ i. o .0 (rw d i)))
+    go false e rest = omega (arith, rest)
+
+without-once : (own xs : List ℕ) → Once xs → Once (without xs own)
+unfolding without
+without-once own [] o = tt
+without-once own (x ∷ xs) o = go (isIn x own) (without-once own xs (o .1))
+  where
+    go : (b : Bool) → Once (without xs own) → Once (elim b [ true ↦ without xs own | false ↦ x ∷ without xs own ])
+    go true rest = rest
+    go false rest = ((λ i. o .0 (without-cases x xs own i .0)), rest)
+
+once-few : (n : ℕ) (xs : List ℕ) → Once xs → Every (λ x. x < n) xs → length xs ≤ n
+once-few zero [] o h = omega arith
+once-few zero (x ∷ xs) o h = absurd (omega (arith, h x (inl refl)))
+once-few (suc n) xs o h =
+    let rest = once-few n (without xs (n ∷ [])) (without-once (n ∷ []) xs o)
+    (λ x i. let w = without-cases x xs (n ∷ []) i in
+    let ne : x ≡ n → ⊥ = λ e. w .1 (inl e) in
+    omega (arith, h x (w .0), ne)) in
+    omega (arith, rest, without-one n xs o)
+
+keys-low : (n : ℕ) (ms : List (ℕ × ℕ × ℕ)) → MemoBelow n ms → Every (λ x. x < n) (keysIn ms)
+keys-low n [] h x i = absurd i
+keys-low n (m ∷ ms) h x (inl e) = omega (arith, h .0 .0)
+keys-low n (m ∷ ms) h x (inr i) = keys-low n ms (h .1) x i
+
+keys-length : (ws : List ℕ) (k : ℕ) → length (keysIn (memoOf ws k)) ≡ k
+unfolding memoOf
+keys-length ws zero = refl
+keys-length ws (suc k) = ap suc (keys-length ws k)
+
+-- ---- one pair more
+
+module _ (bs ws : List ℕ) (st : State) (p : ℕ) (rep : Rep bs ws st) (low : p < st .symbols)
+    (new : recall (memoOf ws (st .memo)) p ≡ none) where
+  pub memo-room : st .memo < 512
+  memo-room =
+      let ms = memoOf ws (st .memo) in
+      let f = once-few (st .symbols) (p ∷ keysIn ms) (recall-new ms p new, rep .once) (λ x i. each x i) in
+      omega (arith, f, keys-length ws (st .memo), rep .few-symbols)
+    where
+      each : (x : ℕ) → In x (p ∷ keysIn (memoOf ws (st .memo))) → x < st .symbols
+      each x (inl e) = omega (arith, low)
+      each x (inr i) = keys-low (st .symbols) (memoOf ws (st .memo)) (rep .remembered) x i
+
+  module _ (a b : ℕ) (la : a < st .symbols) (lb : b < st .symbols) where
+    abbrev ws₁ : List ℕ
+    ws₁ = remembered ws (st .memo) p a b
+
+    other : (k : ℕ) → (k ≡ 7688 + st .memo → ⊥) → getD ws₁ k 0 ≡ getD ws k 0
+    other k h = getD-set-other ws (7688 + st .memo) k _ 0 h
+
+    same : Same ws ws₁ st
+    same = record {
+      long = length-set ws (7688 + st .memo) _;
+      symbols = λ k l r. other k (λ e. omega (arith, rep .few-symbols));
+      slots = λ k l r. other k (λ e. omega (arith, rep .few-slots));
+      scopes = λ k l r. other k (λ e. omega (arith, rep .few-scopes));
+      entries = λ k l r. other k (λ e. omega (arith, rep .few-entries, rep .few-symbols));
+      memo = λ k l r. other k (λ e. omega arith);
+    }
+
+    memo-is : memoOf ws₁ (st .memo + 1) ≡ (p, a, b) ∷ memoOf ws (st .memo)
+    memo-is =
+        memo-remembered ws (st .memo) p a b (omega (arith, rep .words, memo-room))
+        (omega (arith, low, rep .few-symbols)) (omega (arith, la, rep .few-symbols))
+
+    pub abs-remembered : absOf bs ws₁ (withPair st) ≡ remember p a b (absOf bs ws st)
+    abs-remembered =
+        ap (λ (ms : List (ℕ × ℕ × ℕ)). withMemo (absOf bs ws₁ st) ms) memo-is
+        ∙ ap (λ (s : intern.State). withMemo s ((p, a, b) ∷ memoOf ws (st .memo))) (abs-same bs ws ws₁ st rep same)
+      where
+        withMemo : intern.State → List (ℕ × ℕ × ℕ) → intern.State
+        withMemo s ms = record {
+          syms = s .syms;
+          tables = s .tables;
+          scopes = s .scopes;
+          memo = ms;
+          readings = s .readings;
+        }
+
+    pub rep-remembered : Rep bs ws₁ (withPair st)
+    rep-remembered =
+        let old = rep-same bs ws ws₁ st rep same in
+        record {
+          words = old .words;
+          few-symbols = old .few-symbols;
+          slots-used = old .slots-used;
+          few-slots = old .few-slots;
+          some-scope = old .some-scope;
+          few-scopes = old .few-scopes;
+          few-entries = old .few-entries;
+          few-memo = omega (arith, memo-room);
+          few-readings = old .few-readings;
+          opened = old .opened;
+          below = old .below;
+          sound = old .sound;
+          nested = old .nested;
+          levelled = old .levelled;
+          arguments = old .arguments;
+          remembered = rw memo-is ((low, la, lb), rep .remembered);
+          once = rw memo-is (recall-new (memoOf ws (st .memo)) p new, rep .once);
+        }
+
+    pub leaves-remembered : Leaves ws ws₁ st (withPair st)
+    leaves-remembered = record {
+      long = length-set ws (7688 + st .memo) _;
+      scope-words = λ k l r. other k (λ e. omega arith);
+      later = λ k l. other k (λ e. omega (arith, memo-room));
+      scopes = refl;
+      tables = refl;
+      readings = refl;
+      more = omega arith;
+    }

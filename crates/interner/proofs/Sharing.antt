@@ -1,0 +1,198 @@
+-- A new symbol in the newest table, and the answers of model's `alloc`. In order: entering; answers; the steps of
+-- `alloc`.
+-- Assumes nothing.
+use Prim.Native.Nat.{ℕ, _+_, _<_, _≤_}
+use mathlib.Core.Path.{_≡_, refl, sym, ap, _∙_, subst}
+use mathlib.Core.Bool.{Bool, true, false}
+use mathlib.Core.List.{List}
+use native.Mathlib.Omega.{arith}
+use borrow.Author.Tests.{lt-ltb, le-ltb}
+use lib.ListN.{length, getD, set, length-set}
+use lib.Seq.{getD-set-other}
+use Rattle.model.specs.Answer.{refused, good, guard}
+use Rattle.model.specs.Intern.{push, alloc, enter}
+use Rattle.model.specs.Intern as intern
+use Rattle.key.specs.declared.Node.{Node}
+use Rattle.key.specs.Key.{partsOf}
+use Rattle.symbols.specs.Words.{pendingFrom}
+use Rattle.symbols.specs.Symbols.{recOf, nodeOf}
+use Rattle.symbols.proofs.Laws.{syms-length}
+use Rattle.tables.specs.Tables.{tablesOf}
+use Rattle.tables.proofs.Stack.{open-later, entered-tables, entered-below}
+use Rattle.interner.specs.declared.State.{State}
+use Rattle.interner.specs.declared.Step.{Step}
+use Rattle.interner.specs.State.{absOf, Rep}
+use Rattle.interner.specs.Step.{outOf, given, overFull, entered, Leaves, newDeps, Pushed, allocOf, Answers}
+use Rattle.interner.proofs.Same.{Same, abs-same, rep-same}
+
+-- ---- entering
+
+abbrev withTables : intern.State → List (List ℕ) → intern.State
+withTables s ts = record {
+  syms = s .syms;
+  tables = ts;
+  scopes = s .scopes;
+  memo = s .memo;
+  readings = s .readings;
+}
+
+module _ (bs ws : List ℕ) (st : State) (s : ℕ) (rep : Rep bs ws st) (few : st .entries < 512) where
+  abbrev ws₁ : List ℕ
+  ws₁ = set ws (7176 + st .entries) s
+
+  other : (k : ℕ) → (k ≡ 7176 + st .entries → ⊥) → getD ws₁ k 0 ≡ getD ws k 0
+  other k h = getD-set-other ws (7176 + st .entries) k s 0 h
+
+  same-entered : Same ws ws₁ st
+  same-entered = record {
+    long = length-set ws (7176 + st .entries) s;
+    symbols = λ k l r. other k (λ e. omega (arith, rep .few-symbols));
+    slots = λ k l r. other k (λ e. omega (arith, rep .few-slots));
+    scopes = λ k l r. other k (λ e. omega (arith, rep .few-scopes));
+    entries = λ k l r. other k (λ e. omega arith);
+    memo = λ k l r. other k (λ e. omega arith);
+  }
+
+  room : 7176 + st .entries < length ws
+  room = omega (arith, rep .words)
+
+  abs-entered : absOf bs ws₁ (entered st)
+      ≡ withTables (absOf bs ws st) (enter s (tablesOf ws (st .tables) (st .entries)))
+  abs-entered =
+      ap (λ (z : List (List ℕ)). withTables (absOf bs ws₁ st) z)
+      (entered-tables (st .tables) (st .entries) (rep .opened) ws s room)
+      ∙ ap (λ (z : intern.State). withTables z (enter s (tablesOf ws (st .tables) (st .entries))))
+      (abs-same bs ws ws₁ st rep same-entered)
+
+  rep-entered : s < st .symbols → st .entries < st .symbols → Rep bs ws₁ (entered st)
+  rep-entered low more =
+      let old = rep-same bs ws ws₁ st rep same-entered in
+      record {
+        words = old .words;
+        few-symbols = old .few-symbols;
+        slots-used = old .slots-used;
+        few-slots = old .few-slots;
+        some-scope = old .some-scope;
+        few-scopes = old .few-scopes;
+        few-entries = omega arith;
+        few-memo = old .few-memo;
+        few-readings = old .few-readings;
+        opened = open-later (st .tables) (st .entries) (rep .opened) (st .entries + 1) (omega arith);
+        below = entered-below (st .tables) (st .entries) (rep .opened) ws s room (st .symbols) (rep .below) low;
+        sound = old .sound;
+        nested = old .nested;
+        levelled = old .levelled;
+        arguments = old .arguments;
+        remembered = old .remembered;
+        once = old .once;
+      }
+
+  leaves-entered : Leaves ws ws₁ st (entered st)
+  leaves-entered = record {
+    long = length-set ws (7176 + st .entries) s;
+    scope-words = λ k l r. other k (λ e. omega arith);
+    later = λ k l. other k (λ e. omega arith);
+    scopes = refl;
+    tables = refl;
+    readings = refl;
+    more = omega arith;
+  }
+
+pub leaves-then : (us ws xs : List ℕ) (a b c : State) → Leaves us ws a b → Leaves ws xs b c → Leaves us xs a c
+leaves-then us ws xs a b c g h = record {
+  long = h .long ∙ g .long;
+  scope-words = λ k l r. h .scope-words k l r ∙ g .scope-words k l r;
+  later = λ k l. h .later k l ∙ g .later k l;
+  scopes = h .scopes ∙ g .scopes;
+  tables = h .tables ∙ g .tables;
+  readings = h .readings ∙ g .readings;
+  more = omega (arith, g .more, h .more);
+}
+
+pub leaves-none : (ws : List ℕ) (st : State) → Leaves ws ws st st
+leaves-none ws st = record {
+  long = refl;
+  scope-words = λ k l r. refl;
+  later = λ k l. refl;
+  scopes = refl;
+  tables = refl;
+  readings = refl;
+  more = omega arith;
+}
+
+-- ---- answers
+
+pub out-given : (bs ws : List ℕ) (st : State) (s : ℕ) → outOf bs ws (given st s) ≡ good (s, absOf bs ws st)
+unfolding outOf
+out-given bs ws st s = refl
+
+pub out-full : (bs ws : List ℕ) (st : State) (node : Node) →
+    outOf bs ws (overFull st node) ≡ refused 12 (partsOf node .source)
+unfolding outOf
+out-full bs ws st node = refl
+
+module _ (bs ws : List ℕ) (st : State) (cur : ℕ) (node : Node) (held count : ℕ) where
+  abbrev pushOf : Bool → intern.State
+  pushOf shared =
+      push cur (recOf bs node) (pendingFrom ws held count) (newDeps bs ws st node held count) shared (nodeOf bs node)
+      (absOf bs ws st)
+
+  alloc-good : (shared : Bool) → st .symbols < 512 →
+      allocOf bs ws st cur node held count shared ≡ good (st .symbols, pushOf shared)
+  unfolding alloc guard
+  alloc-good shared few =
+      rw (syms-length bs ws (st .symbols), lt-ltb (st .symbols) 512 few)
+
+  alloc-full : (shared : Bool) → 512 ≤ st .symbols →
+      allocOf bs ws st cur node held count shared ≡ refused 12 (partsOf node .source)
+  unfolding alloc guard
+  alloc-full shared full = rw (syms-length bs ws (st .symbols), le-ltb (st .symbols) 512 full)
+
+  pub full-answers : (shared : Bool) (r : Step) → Rep bs ws st → 512 ≤ st .symbols → r ≡ overFull st node →
+      Answers bs ws st (allocOf bs ws st cur node held count shared) ws r
+  full-answers shared r rep full e =
+      subst (Answers bs ws st (allocOf bs ws st cur node held count shared) ws) (sym e) (record {
+        rep = rep;
+        leaves = leaves-none ws st;
+        low = omega arith;
+        is = out-full bs ws st node ∙ sym (alloc-full shared full);
+      })
+
+  module _ (ws₁ : List ℕ) (st₁ : State) (levels : ℕ) (few : st .symbols < 512) (rep : Rep bs ws st)
+      (done : Pushed bs ws st cur node held count levels ws₁ st₁) where
+    push-shared : pushOf true ≡ withTables (pushOf false) (enter (st .symbols) (tablesOf ws (st .tables) (st .entries)))
+    unfolding push
+    push-shared = rw (syms-length bs ws (st .symbols))
+
+    tables-kept : tablesOf ws₁ (st₁ .tables) (st₁ .entries) ≡ tablesOf ws (st .tables) (st .entries)
+    unfolding push
+    tables-kept = ap (λ (z : intern.State). z .tables) (done .is)
+
+    room-entry : st₁ .entries < 512
+    room-entry = omega (arith, done .entries, rep .few-entries)
+
+    abbrev ws₂ : List ℕ
+    ws₂ = set ws₁ (7176 + st₁ .entries) (st .symbols)
+
+    abs-shared : absOf bs ws₂ (entered st₁) ≡ pushOf true
+    abs-shared =
+        abs-entered bs ws₁ st₁ (st .symbols) (done .rep) room-entry
+        ∙ ap (λ (z : List (List ℕ)). withTables (absOf bs ws₁ st₁) (enter (st .symbols) z)) tables-kept
+        ∙ ap (λ (z : intern.State). withTables z (enter (st .symbols) (tablesOf ws (st .tables) (st .entries))))
+        (done .is)
+        ∙ sym push-shared
+
+    pub shared-answers : (ws′ : List ℕ) (r : Step) → ws′ ≡ ws₂ → r ≡ given (entered st₁) (st .symbols) →
+        Answers bs ws st (allocOf bs ws st cur node held count true) ws′ r
+    shared-answers ws′ r d e =
+        subst (λ (z : List ℕ). Answers bs ws st (allocOf bs ws st cur node held count true) z r) (sym d)
+        (subst (Answers bs ws st (allocOf bs ws st cur node held count true) ws₂) (sym e) (record {
+          rep = rep-entered bs ws₁ st₁ (st .symbols) (done .rep) room-entry (omega (arith, done .symbols))
+              (omega (arith, done .symbols, done .entries, rep .few-entries));
+          leaves = leaves-then ws ws₁ ws₂ st st₁ (entered st₁) (done .leaves)
+              (leaves-entered bs ws₁ st₁ (st .symbols) (done .rep) room-entry);
+          low = omega (arith, done .symbols);
+          is = out-given bs ws₂ (entered st₁) (st .symbols)
+              ∙ ap (λ (z : intern.State). good (st .symbols, z)) abs-shared
+              ∙ sym (alloc-good true few);
+        }))

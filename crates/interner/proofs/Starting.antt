@@ -1,0 +1,71 @@
+-- The state before any record is read, as model's `start` has it.
+-- Assumes nothing.
+use Prim.Native.Nat.{ℕ, _≤_}
+use mathlib.Core.Path.{_≡_, refl, sym, ap, _∙_, subst}
+use mathlib.Core.List.{List}
+use native.Mathlib.Omega.{arith}
+use lib.ListN.{length, set, length-set}
+use lib.Seq.{getD-set-same, getD-set-other}
+use Rattle.model.specs.Intern.{start}
+use Rattle.laws.proofs.Apart.{none-some}
+use Rattle.symbols.specs.Symbols.{symsOf}
+use Rattle.tables.specs.declared.Tables.{Tables}
+use Rattle.tables.specs.Tables.{first}
+use Rattle.tables.proofs.Stack.{first-open, first-tables}
+use Rattle.scopes.specs.Scopes.{scopeWord, argsIn}
+use Rattle.scopes.proofs.Open.{scopes-outermost, nested-outermost}
+use Rattle.memo.specs.Memo.{memoOf}
+use Rattle.interner.specs.declared.State.{State}
+use Rattle.interner.specs.Levels.{ArgLevels}
+use Rattle.interner.specs.State.{absOf, Rep, Started}
+
+abbrev pub startWith : Tables → State
+startWith t = record { tables = t; entries = 0; symbols = 0; slots = 0; scopes = 1; memo = 0; readings = 0 }
+
+abbrev firstState : State
+firstState = startWith first
+
+module _ (ws : List ℕ) (words : 10856 ≤ length ws) where
+  abbrev ws₁ : List ℕ
+  ws₁ = set ws 5120 0
+
+  no-args : ArgLevels ws₁ 0 1
+  no-args c lt xs e =
+      let z : c ≡ 0 = omega arith in
+      let w : scopeWord ws₁ c ≡ 0 = rw z (getD-set-same ws 5120 0 0 (omega arith)) in
+      none-some (sym (ap argsIn w) ∙ e)
+
+  rep-start : (bs : List ℕ) → Rep bs ws₁ firstState
+  unfolding symsOf memoOf
+  rep-start bs = record {
+    words = omega (arith, length-set ws 5120 0);
+    few-symbols = omega arith;
+    slots-used = refl;
+    few-slots = omega arith;
+    some-scope = omega arith;
+    few-scopes = omega arith;
+    few-entries = omega arith;
+    few-memo = omega arith;
+    few-readings = omega arith;
+    opened = first-open;
+    below = λ k lt. absurd (omega arith);
+    sound = λ i lt. absurd (omega arith);
+    nested = nested-outermost ws (omega arith);
+    levelled = λ s lt. absurd (omega arith);
+    arguments = no-args;
+    remembered = tt;
+    once = tt;
+  }
+
+  abs-start : (bs : List ℕ) → absOf bs ws₁ firstState ≡ start
+  unfolding start symsOf memoOf
+  abs-start bs = rw (first-tables ws₁, scopes-outermost ws₁)
+
+  pub started : (ws′ : List ℕ) (t : Tables) → ws′ ≡ ws₁ → t ≡ first → Started ws ws′ (startWith t)
+  started ws′ t e f =
+      subst (λ (z : List ℕ). Started ws z (startWith t)) (sym e)
+      (subst (λ (z : Tables). Started ws ws₁ (startWith z)) (sym f) (record {
+        rep = rep-start;
+        is = abs-start;
+        later = λ k l. getD-set-other ws 5120 k 0 0 (λ d. omega arith);
+      }))

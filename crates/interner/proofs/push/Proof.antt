@@ -1,0 +1,51 @@
+-- `interner::push` meets its contract. Assumes nothing.
+use Prim.Native.Nat.{_+_}
+use native.Mathlib.Omega.{arith}
+use borrow.Author.Needs.{needs}
+use denote.Ref.{now}
+use Rattle.scopes.proofs.Open.{nested-less}
+use Rattle.interner.proofs.Pushing.{records-few, scope-low, room, pushed-by}
+use Rattle.interner.proofs.push.Statement.{statement}
+use Rattle.interner.proofs.push.Tie as tie
+
+placement-requires : tie.Need-placement-requires
+placement-requires c κs =
+    let s = c .before .before .before in
+    let rep = s .pre .1 .0 in
+    let fresh = s .pre .1 .1 .1 .0 in (
+      omega (arith, rep .words, rep .few-scopes, fresh .current),
+      nested-less _ (s .args .st .scopes) (s .args .cur + 1) (omega (arith, fresh .current)) (rep .nested),
+    )
+
+cast-scope : tie.Need-cast-t19
+cast-scope c =
+    let s = c .before .before .before .before in
+    let p = s .pre .1 in
+    let low = scope-low (now (s .args .forest)) (now (s .args .work)) (s .args .st) (s .args .cur) (s .args .node)
+    (s .args .held) (s .args .count) (s .args .levels) (c .placement .result) (p .0) (p .1 .1 .0) (p .1 .1 .1)
+    (c .placement .ensures) in
+    omega (arith, low, p .0 .few-scopes)
+
+make-requires : tie.Need-make-requires
+make-requires c κs =
+    let s = c .before .before .before .before .before in
+    let p = s .pre .1 in
+    room (now (s .args .forest)) (now (s .args .work)) (s .args .st) (s .args .cur) (s .args .node) (s .args .held)
+    (s .args .count) (s .args .levels) (c .before .placement .result) (p .0) (p .1 .1 .0) (p .1 .1 .1)
+    (c .before .placement .ensures) (records-few _ (s .pre .0)) (p .1 .0)
+
+returns : tie.Need-returns
+returns c =
+    let m = c .before .before .before in
+    let q = m .before .before in
+    let s = q .before .before .before .before in
+    let p = s .pre .1 in
+    pushed-by (now (s .args .forest)) (now (s .args .work)) (s .args .st) (s .args .cur) (s .args .node) (s .args .held)
+    (s .args .count) (s .args .levels) (q .placement .result) (p .0) (p .1 .1 .0) (p .1 .1 .1) (q .placement .ensures)
+    (records-few _ (s .pre .0)) (p .1 .0) _ (m .make .ensures)
+
+pub push-spec : {M : Type 1} → statement M
+push-spec =
+    tie.close
+    (tie.spec placement-requires (λ c. search needs) (λ c. search needs) cast-scope make-requires
+    (λ c. search needs) (λ c. search needs) (λ c. search needs) returns)

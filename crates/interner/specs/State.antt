@@ -1,0 +1,70 @@
+-- The state of interning, by value and in work words, as model has it: what it stands for (`absOf`), and what holds of
+-- it (`Rep`). bs are the forest's bytes, ws the words.
+-- Assumes nothing.
+use Prim.Native.Nat.{ℕ, _+_, _<_, _≤_}
+use mathlib.Core.Path.{_≡_}
+use mathlib.Core.List.{List, [], _∷_}
+use lib.ListN.{length, getD}
+use Rattle.model.specs.Intern.{Sym}
+use Rattle.model.specs.Intern as intern
+use Rattle.laws.proofs.Members.{In}
+use Rattle.symbols.specs.Symbols.{symsOf, AllSound}
+use Rattle.tables.specs.Tables.{tablesOf, Open, Below}
+use Rattle.scopes.specs.Scopes.{scopesOf, Nested}
+use Rattle.memo.specs.Memo.{memoOf}
+use Rattle.interner.specs.declared.State.{State}
+use Rattle.interner.specs.Levels.{Levelled, ArgLevels}
+
+abbrev pub absOf : List ℕ → List ℕ → State → intern.State
+absOf bs ws st = record {
+  syms = symsOf bs ws (st .symbols);
+  tables = tablesOf ws (st .tables) (st .entries);
+  scopes = scopesOf ws (st .scopes);
+  memo = memoOf ws (st .memo);
+  readings = st .readings;
+}
+
+-- the child slots of some symbols
+abbrev pub slotsIn : List Sym → ℕ
+slotsIn [] = 0
+slotsIn (y ∷ ys) = length (y .kids) + slotsIn ys
+
+-- what is remembered are symbols below n
+abbrev pub MemoBelow : ℕ → List (ℕ × ℕ × ℕ) → Type 0
+MemoBelow n [] = Unit {0}
+MemoBelow n (t ∷ ts) = ((t .0 < n) × (t .1 < n) × (t .2 < n)) × MemoBelow n ts
+
+-- the symbols whose projections are remembered
+abbrev pub keysIn : List (ℕ × ℕ × ℕ) → List ℕ
+keysIn [] = []
+keysIn (t ∷ ts) = t .0 ∷ keysIn ts
+
+-- no number stands twice
+abbrev pub Once : List ℕ → Type 0
+Once [] = Unit {0}
+Once (x ∷ xs) = (In x xs → ⊥) × Once xs
+
+pub record Rep (bs ws : List ℕ) (st : State) : Type 0 where
+  pub words : 10856 ≤ length ws
+  pub few-symbols : st .symbols ≤ 512
+  pub slots-used : slotsIn (symsOf bs ws (st .symbols)) ≡ st .slots
+  pub few-slots : st .slots ≤ 2560
+  pub some-scope : 0 < st .scopes
+  pub few-scopes : st .scopes ≤ 2049
+  pub few-entries : st .entries ≤ st .symbols
+  pub few-memo : st .memo ≤ 512
+  pub few-readings : st .readings ≤ 2048
+  pub opened : Open (st .tables) (st .entries)
+  pub below : Below ws (st .entries) (st .symbols)
+  pub sound : AllSound bs ws (st .slots) (st .symbols)
+  pub nested : Nested ws (st .scopes)
+  pub levelled : (s : ℕ) → s < st .symbols → Levelled bs ws s
+  pub arguments : ArgLevels ws (st .symbols) (st .scopes)
+  pub remembered : MemoBelow (st .symbols) (memoOf ws (st .memo))
+  pub once : Once (keysIn (memoOf ws (st .memo)))
+
+-- the state before any record is read, whatever the forest; pending symbols and later words are as they were
+pub record Started (ws ws′ : List ℕ) (st : State) : Type 0 where
+  pub rep : (bs : List ℕ) → Rep bs ws′ st
+  pub is : (bs : List ℕ) → absOf bs ws′ st ≡ intern.start
+  pub later : (k : ℕ) → 8200 ≤ k → getD ws′ k 0 ≡ getD ws k 0

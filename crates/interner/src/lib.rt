@@ -1,0 +1,416 @@
+// Interning's state, and its symbols, new or found (interner.rs).
+use key::Leaf;
+use key::Node;
+use key::Operation;
+use key::Symbol;
+use memo::Projections;
+use symbols::PENDING;
+use tables::Found;
+use tables::Tables;
+ghost use mathlib.Core.Path.{_≡_};
+ghost use mathlib.Core.Bool.{true, false};
+ghost use Prim.Native.Nat.{ℕ, _+_, _<_, _≤_};
+ghost use lib.Dec.{eqb};
+ghost use lib.ListN.{length, getD, set};
+ghost use Rattle.levels.specs.Levels.{has};
+ghost use Rattle.scopes.specs.Scopes.{scopeWord, levelOf};
+ghost use Rattle.symbols.specs.Words.{pendingFrom};
+ghost use mathlib.Core.Option.{none};
+ghost use Rattle.model.specs.Intern.{recall, pick, newProjections, pairProjection};
+ghost use Rattle.record.specs.Record.{Laid, rowAt};
+ghost use Rattle.memo.specs.Memo.{memoOf, remembered};
+ghost use Rattle.key.specs.Key.{partsOf};
+ghost use Rattle.interner.specs.State.{absOf, Rep, Started};
+ghost use Rattle.interner.specs.Step.{Fresh, Levels, Pushed, Answers, Ready, Binds, Bindings};
+ghost use Rattle.interner.specs.Step.{Projects, fieldOf, withPair};
+ghost use Rattle.interner.specs.Step.{newDeps, given, overFull, entered, allocOf, keyLevels, finishOf};
+ghost use Rattle.interner.specs.Levels.{anyHas};
+
+// The open tables and how many entries they have; how many symbols, child slots, scopes and projections there are; the
+// readings so far.
+pub struct State {
+    pub tables: Tables,
+    pub entries: usize,
+    pub symbols: usize,
+    pub slots: usize,
+    pub scopes: usize,
+    pub memo: usize,
+    pub readings: u32,
+}
+
+// A symbol and the state after it; or, where `number` is not 0, a refusal with that number, at record `place`.
+pub struct Step {
+    pub st: State,
+    pub symbol: u32,
+    pub number: u32,
+    pub place: u32,
+}
+
+// Nothing is read yet: one table and the outermost scope are open. Rules out: a scope's word left as it was; no table.
+pub fn start(work: &mut [u32]) -> State
+    requires { ⌜ 10856 ≤ length (now work) ⌝ }
+    ensures { λ r. ⌜ Started (now (work .entry)) (now (work .exit)) r ⌝ }
+{
+    scopes::open_outermost(work);
+    let tables = Tables::new();
+    State {
+        tables,
+        entries: 0,
+        symbols: 0,
+        slots: 0,
+        scopes: 1,
+        memo: 0,
+        readings: 0,
+    }
+}
+
+// One symbol more, placed from scope `cur` outwards; in no table.
+fn push(
+    forest: &[u8],
+    work: &mut [u32],
+    st: State,
+    cur: usize,
+    node: Node,
+    held: usize,
+    count: usize,
+    levels: u64,
+) -> State
+    requires { ⌜ Laid (now forest) ⌝ }
+    requires { ⌜ Rep (now forest) (now work) st ⌝ }
+    requires { ⌜ st .symbols < 512 ⌝ }
+    requires { ⌜ Fresh (now forest) (now work) st cur node held count ⌝ }
+    requires { ⌜ Levels (now work) st cur (newDeps (now forest) (now work) st node held count) levels ⌝ }
+    ensures { λ r.
+        ⌜ Pushed (now (forest .entry)) (now (work .entry)) st cur node held count levels (now (work .exit)) r ⌝ }
+{
+    let n = st.symbols;
+    let slots = st.slots;
+    let scope = scopes::placement(work, cur, levels);
+    let y = Symbol {
+        node,
+        kids: slots as u32,
+        count: count as u32,
+        scope: scope as u32,
+        levels,
+    };
+    symbols::make(work, n, held, y);
+    let tables = st.tables;
+    let entries = st.entries;
+    State {
+        tables,
+        entries,
+        symbols: n + 1,
+        slots: slots + count,
+        scopes: st.scopes,
+        memo: st.memo,
+        readings: st.readings,
+    }
+}
+
+fn given(st: State, symbol: u32) -> Step
+    ensures { λ r. ⌜ r ≡ given st symbol ⌝ }
+{
+    Step {
+        st,
+        symbol,
+        number: 0,
+        place: 0,
+    }
+}
+
+// Refusal 12, at the record of a node.
+fn over_full(st: State, node: Node) -> Step
+    ensures { λ r. ⌜ r ≡ overFull st node ⌝ }
+{
+    let p = key::parts_of(node);
+    Step {
+        st,
+        symbol: 0,
+        number: 12,
+        place: p.source,
+    }
+}
+
+// The newest symbol, entered in the newest table.
+fn enter(work: &mut [u32], st: State, symbol: u32) -> Step
+    requires { ⌜ (st .entries < 512) × (7688 ≤ length (now work)) ⌝ }
+    ensures { λ r.
+        ⌜ (now (work .exit) ≡ set (now (work .entry)) (7176 + st .entries) symbol) × (r ≡ given (entered st) symbol) ⌝ }
+{
+    let top = st.entries;
+    tables::enter(work, top, symbol);
+    let tables = st.tables;
+    let next = State {
+        tables,
+        entries: top + 1,
+        symbols: st.symbols,
+        slots: st.slots,
+        scopes: st.scopes,
+        memo: st.memo,
+        readings: st.readings,
+    };
+    given(next, symbol)
+}
+
+// A new symbol that can be found again. Rules out: one that is in no table, or in the oldest; a 513th symbol.
+pub fn alloc(
+    forest: &[u8],
+    work: &mut [u32],
+    st: State,
+    cur: usize,
+    node: Node,
+    held: usize,
+    count: usize,
+    levels: u64,
+) -> Step
+    requires { ⌜ Laid (now forest) ⌝ }
+    requires { ⌜ Rep (now forest) (now work) st ⌝ }
+    requires { ⌜ Fresh (now forest) (now work) st cur node held count ⌝ }
+    requires { ⌜ Levels (now work) st cur (newDeps (now forest) (now work) st node held count) levels ⌝ }
+    ensures { λ r.
+        ⌜ Answers (now (forest .entry)) (now (work .entry)) st
+        (allocOf (now (forest .entry)) (now (work .entry)) st cur node held count true) (now (work .exit)) r ⌝ }
+{
+    let n = st.symbols;
+    if n < 512 {
+        let next = push(forest, work, st, cur, node, held, count, levels);
+        return enter(work, next, n as u32);
+    }
+    over_full(st, node)
+}
+
+// The levels of the pending children from `held` on.
+fn levels_of(work: &[u32], held: usize, count: usize) -> u64
+    requires { ⌜ (held + count ≤ 256) × (10856 ≤ length (now work)) ⌝ }
+    requires { ⌜ ((k : ℕ) → k < count → getD (now work) (8200 + held + k) 0 < 512) ⌝ }
+    ensures { λ r.
+        ⌜ ((j : ℕ) → has r j ≡ anyHas (now (work .entry)) j (pendingFrom (now (work .entry)) held count)) ⌝ }
+{
+    let mut all = levels::empty();
+    let mut k = 0;
+    while k < count {
+        let s = work[PENDING + held + k];
+        let y = key::load(work, s as usize);
+        all = levels::join(all, y.levels);
+        k += 1;
+    }
+    all
+}
+
+// The levels of the symbol of a key: a lambda's own is taken out.
+fn key_levels(work: &[u32], node: Node, held: usize, count: usize) -> u64
+    requires { ⌜ (held + count ≤ 256) × (10856 ≤ length (now work)) ⌝ }
+    requires { ⌜ ((k : ℕ) → k < count → getD (now work) (8200 + held + k) 0 < 512) ⌝ }
+    requires { ⌜ partsOf node .second < 4096 ⌝ }
+    ensures { λ r. ⌜ ((j : ℕ) → has r j ≡ keyLevels (now (work .entry)) node held count j) ⌝ }
+{
+    let all = levels_of(work, held, count);
+    let p = key::parts_of(node);
+    if p.tag != 3 {
+        return all;
+    }
+    let body = p.second as usize;
+    let w = work[5120 + body];
+    levels::without(all, w / 67108864)
+}
+
+// The symbol of a node over the pending children from `held` on: the one that has its key, or a new one. Rules out: a
+// second symbol for a key that an open table has; a symbol placed inside a lambda that it does not depend on.
+pub fn finish(
+    forest: &[u8],
+    work: &mut [u32],
+    st: State,
+    cur: usize,
+    node: Node,
+    held: usize,
+    count: usize,
+) -> Step
+    requires { ⌜ Laid (now forest) ⌝ }
+    requires { ⌜ Rep (now forest) (now work) st ⌝ }
+    requires { ⌜ Ready (now forest) (now work) st cur node held count ⌝ }
+    ensures { λ r.
+        ⌜ Answers (now (forest .entry)) (now (work .entry)) st
+        (finishOf (now (forest .entry)) (now (work .entry)) st cur node held count) (now (work .exit)) r ⌝ }
+{
+    let p = key::parts_of(node);
+    let t = st.tables;
+    let top = st.entries;
+    match tables::find(
+        forest,
+        work,
+        t,
+        top,
+        p.source as usize,
+        p.field,
+        held,
+        count,
+    ) {
+        Found::At(s) => given(st, s),
+        Found::Nothing => {
+            let levels = key_levels(work, node, held, count);
+            alloc(forest, work, st, cur, node, held, count, levels)
+        }
+    }
+}
+
+// The level of the arguments of a lambda in scope `cur`, alone.
+fn level_inside(work: &[u32], cur: usize) -> u64
+    requires { ⌜ 5120 + cur < length (now work) ⌝ }
+    requires { ⌜ levelOf (scopeWord (now work) cur) < 63 ⌝ }
+    ensures { λ r. ⌜ ((j : ℕ) → has r j ≡ eqb j (levelOf (scopeWord (now (work .entry)) cur) + 1)) ⌝ }
+{
+    let depth = scopes::level(work, cur);
+    levels::with(levels::empty(), depth + 1)
+}
+
+// `count` argument symbols for the lambda of record `at`, made in scope `cur`. Rules out: an argument in a table, where
+// it could be found again; arguments that count as those of the lambda around.
+pub fn alloc_args(
+    forest: &[u8],
+    work: &mut [u32],
+    st: State,
+    cur: usize,
+    at: u32,
+    count: usize,
+) -> Step
+    requires { ⌜ Laid (now forest) ⌝ }
+    requires { ⌜ Rep (now forest) (now work) st ⌝ }
+    requires { ⌜ Binds (now forest) (now work) st cur at count ⌝ }
+    ensures { λ r.
+        ⌜ Bindings (now (forest .entry)) (now (work .entry)) st cur at count (now (work .exit)) r ⌝ }
+{
+    let n = st.symbols;
+    let node = Node::Arg(Leaf { source: at });
+    if 512 < n + count {
+        return over_full(st, node);
+    }
+    let levels = level_inside(work, cur);
+    let mut s = st;
+    let mut k = 0;
+    while k < count {
+        s = push(forest, work, s, cur, node, 0, 0, levels);
+        k += 1;
+    }
+    given(s, n as u32)
+}
+
+// Field `field` of the pending symbol at `held`, a projection made for record `at`.
+fn projection(
+    forest: &[u8],
+    work: &mut [u32],
+    st: State,
+    cur: usize,
+    at: u32,
+    field: u32,
+    held: usize,
+) -> Step
+    requires { ⌜ Laid (now forest) ⌝ }
+    requires { ⌜ Rep (now forest) (now work) st ⌝ }
+    requires { ⌜ Projects (now forest) (now work) st cur at held 1 ⌝ }
+    requires { ⌜ (0 < field) × (field < 4) ⌝ }
+    ensures { λ r.
+        ⌜ Answers (now (forest .entry)) (now (work .entry)) st
+        (fieldOf at cur (rowAt (now (forest .entry)) at .rec) field (getD (now (work .entry)) (8200 + held) 0)
+        (absOf (now (forest .entry)) (now (work .entry)) st)) (now (work .exit)) r ⌝ }
+{
+    let node = Node::Op(Operation {
+        source: at,
+        field,
+        branches: 0,
+        first: 0,
+        second: 0,
+    });
+    finish(forest, work, st, cur, node, held, 1)
+}
+
+// Field 1 or 2, of which the symbols are a and b.
+fn picked(st: State, field: u32, a: u32, b: u32) -> Step
+    ensures { λ r. ⌜ r ≡ given st (pick field (a, b)) ⌝ }
+{
+    if field == 1 {
+        return given(st, a);
+    }
+    given(st, b)
+}
+
+// The projections a and b of p are remembered, and `field` is picked.
+fn remember(work: &mut [u32], st: State, p: u32, a: u32, b: u32, field: u32) -> Step
+    requires { ⌜ (st .memo < 512) × (8200 ≤ length (now work)) ⌝ }
+    requires { ⌜ (p < 512) × (a < 512) × (b < 512) ⌝ }
+    ensures { λ r.
+        ⌜ (now (work .exit) ≡ remembered (now (work .entry)) (st .memo) p a b)
+        × (r ≡ given (withPair st) (pick field (a, b))) ⌝ }
+{
+    let k = st.memo;
+    memo::remember(work, k, p, a, b);
+    let tables = st.tables;
+    let next = State {
+        tables,
+        entries: st.entries,
+        symbols: st.symbols,
+        slots: st.slots,
+        scopes: st.scopes,
+        memo: k + 1,
+        readings: st.readings,
+    };
+    picked(next, field, a, b)
+}
+
+// Both projections of the pending symbol at `held`, made or found, and remembered.
+fn new_projections(
+    forest: &[u8],
+    work: &mut [u32],
+    st: State,
+    cur: usize,
+    at: u32,
+    field: u32,
+    held: usize,
+) -> Step
+    requires { ⌜ Laid (now forest) ⌝ }
+    requires { ⌜ Rep (now forest) (now work) st ⌝ }
+    requires { ⌜ Projects (now forest) (now work) st cur at held 2 ⌝ }
+    requires { ⌜ recall (memoOf (now work) (st .memo)) (getD (now work) (8200 + held) 0) ≡ none ⌝ }
+    ensures { λ r.
+        ⌜ Answers (now (forest .entry)) (now (work .entry)) st
+        (newProjections at cur (rowAt (now (forest .entry)) at .rec) field (getD (now (work .entry)) (8200 + held) 0)
+        (absOf (now (forest .entry)) (now (work .entry)) st)) (now (work .exit)) r ⌝ }
+{
+    let p = work[PENDING + held];
+    let a = projection(forest, work, st, cur, at, 1, held);
+    if a.number != 0 {
+        return a;
+    }
+    let between = a.st;
+    let b = projection(forest, work, between, cur, at, 2, held);
+    if b.number != 0 {
+        return b;
+    }
+    let after = b.st;
+    remember(work, after, p, a.symbol, b.symbol, field)
+}
+
+// Field `field` of the pending symbol at `held`, for record `at`. Rules out: the other field; a projection that is not
+// remembered, and would be made again after its thunk.
+pub fn pair_projection(
+    forest: &[u8],
+    work: &mut [u32],
+    st: State,
+    cur: usize,
+    at: u32,
+    field: u32,
+    held: usize,
+) -> Step
+    requires { ⌜ Laid (now forest) ⌝ }
+    requires { ⌜ Rep (now forest) (now work) st ⌝ }
+    requires { ⌜ Projects (now forest) (now work) st cur at held 2 ⌝ }
+    ensures { λ r.
+        ⌜ Answers (now (forest .entry)) (now (work .entry)) st
+        (pairProjection at cur (rowAt (now (forest .entry)) at .rec) field (getD (now (work .entry)) (8200 + held) 0)
+        (absOf (now (forest .entry)) (now (work .entry)) st)) (now (work .exit)) r ⌝ }
+{
+    let p = work[PENDING + held];
+    match memo::recall(work, st.memo, p) {
+        Projections::Pair(a, b) => picked(st, field, a, b),
+        Projections::Nothing => new_projections(forest, work, st, cur, at, field, held),
+    }
+}
