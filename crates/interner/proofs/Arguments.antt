@@ -23,11 +23,11 @@ use Rattle.laws.proofs.Members.{In, in-one, apart-anyIn}
 use Rattle.record.specs.Record.{rowAt}
 use Rattle.key.specs.declared.Node.{Node}
 use Rattle.key.specs.declared.Node.the-variants.{Arg}
-use Rattle.symbols.specs.Words.{wordsFrom, range}
+use Rattle.symbols.specs.Words.{wordsFrom}
+use Rattle.laws.specs.Range.{range}
 use Rattle.symbols.specs.Symbols.{keyRec}
 use Rattle.symbols.proofs.Laws.{syms-length}
 use Rattle.levels.specs.Levels.{has}
-use Rattle.scopes.specs.Range as scopes
 use Rattle.scopes.specs.Scopes.{scopeWord, levelOf, scopesOf, outward}
 use Rattle.scopes.proofs.Laws.{scopes-length, scope-level, scope-args}
 use Rattle.scopes.proofs.Tracks.{Below, outward-below, EachArgs, tracks-apart}
@@ -93,12 +93,6 @@ module _ (at cur : ℕ) (r : Rec) where
         ap (λ (b : Bool). guard b 12 at (good (length (s .syms), oneArg cur r s)) >>= rest xs)
         (le-ltb (length (s .syms)) 512 (omega arith))
   ]
-
--- the same numbers, as the scopes have them
-pub range-same : (first n : ℕ) → range first n ≡ scopes.range first n
-unfolding range scopes.range
-range-same first zero = refl
-range-same first (suc n) = let e : first + 1 ≡ suc first = omega arith in rw (e, range-same (suc first) n)
 
 -- a set of one level
 pub one-level : (all r k d j : ℕ) → has all j ≡ false → has r j ≡ (eqb j (k + 1) || has all j) → k ≡ d →

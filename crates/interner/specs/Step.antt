@@ -19,7 +19,8 @@ use Rattle.key.proofs.Runs.{Agree}
 use Rattle.key.specs.declared.Node.{Node}
 use Rattle.key.specs.declared.Node.the-variants.{Const, Unparsed, Arg, Lambda, Op}
 use Rattle.key.specs.Key.{partsOf, symbolAt}
-use Rattle.symbols.specs.Words.{pendingFrom, range}
+use Rattle.symbols.specs.Words.{pendingFrom}
+use Rattle.laws.specs.Range.{range}
 use Rattle.symbols.specs.Symbols.{symsOf, recOf, nodeOf, ownOf, depsOf}
 use Rattle.levels.specs.Levels.{has}
 use Rattle.scopes.specs.Scopes.{scopesOf, scopeWord, parentOf, levelOf, argsIn, outward, Tracks}

@@ -11,10 +11,9 @@ use mathlib.Core.Option.{Option, none, some}
 use mathlib.Core.List.{List, [], _∷_, _++_, map}
 use Prim.Native.Nat.{ℕ, zero, suc, _+_, _-_, _≤_}
 use native.Mathlib.Omega.{arith}
-use native.Mathlib.Nat.{zero-add, suc-add}
 use lib.Dec.{eqb, leb, ltb}
 use lib.ListN.{length, drop, take, length-append, length-take, take-append-drop}
-use lib.Seq.{drop-at, take-append-seam, drop-append-seam, drop-nil}
+use lib.Seq.{drop-at, take-append-seam, drop-append-seam, drop-drop}
 use borrow.Author.Tests.{leb-true, le-leb}
 use Rattle.model.specs.Tree.{Rec}
 use Rattle.model.specs.Shape.{Reader, aId, aType, aOpt, _then_, times, whole}
@@ -91,18 +90,13 @@ opt-read o rest h = rw (h rest, optOf) (ap (λ (z : ℕ). take z (o ++ rest)) (l
 
 -- ---- the arguments of a literal
 
-drop-plus : (m k : ℕ) (bs : List ℕ) → drop (m + k) bs ≡ drop k (drop m bs)
-drop-plus zero k bs = rw (zero-add k) refl
-drop-plus (suc m) k [] = drop-nil (suc m + k) ∙ sym (drop-nil k)
-drop-plus (suc m) k (b ∷ bs) = rw (suc-add m k) (drop-plus m k bs)
-
 -- past an id and an opt
 pub next-arg : (bs o rest : List ℕ) → drop 4 bs ≡ o ++ rest → IsOpt o →
     (optOf (drop 4 bs) ≡ o) × (drop (4 + length (optOf (drop 4 bs))) bs ≡ rest)
 next-arg bs o rest p h =
     let q : optOf (drop 4 bs) ≡ o = ap optOf p ∙ opt-read o rest h in
     let d : drop (length o) (drop 4 bs) ≡ rest = ap (drop (length o)) p ∙ drop-append-seam o rest in
-    (q, rw q (drop-plus 4 (length o) bs ∙ d))
+    (q, rw q (sym (drop-drop (length o) 4 bs) ∙ d))
 
 -- check 4 reads n ids and opts off a lambda's literal, so the opts read back
 pub args-opts : (n : ℕ) (bs : List ℕ) → whole (times n (aId then aOpt)) bs ≡ true → AllOpts (optsIn (argsOf n bs))

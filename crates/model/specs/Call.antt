@@ -6,27 +6,21 @@ use mathlib.Core.Option.{Option}
 use mathlib.Core.List.{List, [], _∷_, _++_}
 use lib.Dec.{ltb}
 use lib.ListN.{length, drop, replicate}
-use Rattle.model.specs.Lists.{last}
 use Rattle.model.specs.Answer.{Answer, refused, good, _>>=_, unless, checked, at0}
 use Rattle.model.specs.Tree.{Tree, nil, cons, size, depth, serialise}
 use Rattle.model.specs.Accept.{accept}
-use Rattle.model.specs.Intern.{State, Out, Outs, internForest}
+use Rattle.model.specs.Intern.{State, Out, internLast, internForest}
 use Rattle.model.specs.Materialize.{materialize}
 
 -- 1: under 16,384 work words
 unfoldable pub check1 : ℕ → Option ℕ
 check1 words = at0 (ltb words 16384)
 
--- the root's symbol, and the state that interning leaves
-unfoldable pub rootOf : Outs → Out
-rootOf m = do
-  os ← m
-  good (last (os .0), os .2)
-
+-- the root's symbol, and the state that interning leaves: the root is the last tree
 unfoldable pub interned : List ℕ → Out
 interned bs = do
   ts ← accept bs
-  rootOf (internForest ts)
+  internLast (internForest ts)
 
 -- "the tree document 01 defines", and its bytes: a forest of one tree
 unfoldable pub treeOf : ℕ × State → Tree

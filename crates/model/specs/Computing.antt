@@ -29,7 +29,7 @@ use Rattle.model.specs.Schedule.{bodyNeighbours, outsiders, collect, fre
 use Rattle.model.specs.Materialize.{valUseOf, valDefOf, renames, wrapBlock, idGiven, member, define}
 use Rattle.model.specs.Materialize.{processScope}
 use Rattle.model.specs.Materialize.{buildOp, argLit, buildNode, buildStep, buildValue, materialize}
-use Rattle.model.specs.Call.{check1, rootOf, interned, treeOf, bytesOf, check13, check14, writtenOf, written}
+use Rattle.model.specs.Call.{check1, interned, treeOf, bytesOf, check13, check14, writtenOf, written}
 use Rattle.model.specs.Call.{run}
 use Rattle.model.specs.Call.{numbersOf, numbers, outWith, outAfter, workAfter}
 use Rattle.model.specs.Text.{text}
@@ -67,7 +67,7 @@ unfolding reach slotsOf reachable usage isContextProperty isInternal isConst sho
 materializing = tt
 
 unfoldable pub calling : Unit {0}
-unfolding check1 rootOf interned treeOf bytesOf check13 check14 writtenOf written run numbersOf numbers outWith
+unfolding check1 interned treeOf bytesOf check13 check14 writtenOf written run numbersOf numbers outWith
     outAfter workAfter
 calling = tt
 

@@ -241,7 +241,7 @@ pairProjection at cur r i p st =
 abbrev pub Kids : Type 0
 Kids = ℕ → Env → State → Outs
 
--- "they give that of the result, the value": the last child's symbol
+-- the last symbol. Of a block and a definition: "they give that of the result, the value"
 unfoldable pub internLast : Outs → Out
 internLast m = do
   os ← m

@@ -14,7 +14,7 @@ use Rattle.model.specs.Gate.{Graph}
 use Rattle.model.specs.Schedule.{local, deeper, outside, classify}
 use Rattle.laws.proofs.Apart.{true-false, some-none}
 use Rattle.levels.specs.Levels.{has}
-use Rattle.scopes.specs.Range.{range}
+use Rattle.laws.specs.Range.{range}
 use Rattle.scopes.specs.Scopes.{
   scopeWord,
   parentOf,

@@ -10,7 +10,7 @@ use native.Mathlib.Decide.{decLt}
 use lib.ListN.{length, set}
 use lib.Seq.{getD-set-same, getD-set-other}
 use Rattle.model.specs.Intern.{Scope, rootScope}
-use Rattle.scopes.specs.Range.{range}
+use Rattle.laws.specs.Range.{range}
 use Rattle.scopes.specs.Scopes.{
   scopeWord,
   packedOf,

@@ -1,4 +1,3 @@
 -- What the contracts of scopes cite. Assumes nothing.
-pub mod Range
 pub mod Scopes
 pub mod Relation

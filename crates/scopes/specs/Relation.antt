@@ -5,7 +5,7 @@ use mathlib.Core.Option.{Option, none, some}
 use mathlib.Core.List.{List}
 use Rattle.model.specs.Gate.{Graph}
 use Rattle.model.specs.Schedule as model
-use Rattle.scopes.specs.Range.{range}
+use Rattle.laws.specs.Range.{range}
 use Rattle.scopes.specs.Scopes.{scopesOf}
 use Rattle.scopes.specs.declared.Arguments.{Arguments}
 use Rattle.scopes.specs.declared.Arguments.the-variants.{From, Nothing}

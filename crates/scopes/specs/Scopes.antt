@@ -11,7 +11,7 @@ use lib.ListN.{getD, set}
 use Rattle.model.specs.Lists.{anyIn}
 use Rattle.model.specs.Intern.{Scope, rootScope, scopeAt, climb}
 use Rattle.levels.specs.Levels.{has}
-use Rattle.scopes.specs.Range.{range}
+use Rattle.laws.specs.Range.{range}
 
 -- ---- a scope's word
 

@@ -18,7 +18,8 @@ use Rattle.key.specs.declared.Symbol.{Symbol}
 use Rattle.key.specs.declared.Node.{Node}
 use Rattle.key.specs.declared.Node.the-variants.{Const, Unparsed, Arg, Lambda, Op}
 use Rattle.key.specs.Key.{Fits, partsOf, symbolAt, storeSymbol}
-use Rattle.symbols.specs.Words.{slotsFrom, pendingFrom, range}
+use Rattle.symbols.specs.Words.{slotsFrom, pendingFrom}
+use Rattle.laws.specs.Range.{range}
 
 -- ---- a symbol's record and node
 

@@ -14,8 +14,3 @@ slotsFrom ws at n = wordsFrom ws (2560 + at) n
 
 abbrev pub pendingFrom : List ℕ → ℕ → ℕ → List ℕ
 pendingFrom ws held n = wordsFrom ws (8200 + held) n
-
--- n numbers from `first` on
-unfoldable pub range : ℕ → ℕ → List ℕ
-range first zero = []
-range first (suc n) = first ∷ range (suc first) n

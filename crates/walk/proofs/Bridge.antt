@@ -10,7 +10,7 @@ use native.Mathlib.Omega.{arith}
 use native.Mathlib.Decide.{decLt}
 use native.Mathlib.Numerals.{add-one}
 use borrow.Author.Tests.{not-false}
-use lib.ListN.{length, getD, drop}
+use lib.ListN.{length, getD, drop, drop-of-length-le}
 use lib.Seq.{drop-cons}
 use Rattle.model.specs.Tree.{Row, Trees, nil, cons, many, dropT, grow}
 use Rattle.model.specs.Shape.{fits}
@@ -34,13 +34,7 @@ rows-at bs i l =
     drop-cons (rowsIn bs) i noRow m ∙ rw (add-one i)
 
 pub rows-end : (bs : List ℕ) (i : ℕ) → recordCount bs ≤ i → drop i (rowsIn bs) ≡ []
-rows-end bs i l = drop-past (rowsIn bs) i (omega (arith, row-count bs))
-  where
-    drop-past : (rs : List Row) (i : ℕ) → length rs ≤ i → drop i rs ≡ []
-    drop-past [] zero l = refl
-    drop-past [] (suc i) l = refl
-    drop-past (r ∷ rs) zero l = absurd (omega arith)
-    drop-past (r ∷ rs) (suc i) l = drop-past rs i (omega arith)
+rows-end bs i l = drop-of-length-le (rowsIn bs) {i = i} (omega (arith, row-count bs))
 
 -- ---- trees by number
 

@@ -10,8 +10,8 @@ use native.Mathlib.Omega.{arith}
 use Rattle.model.specs.Answer.{refused, good, _>>=_}
 use Rattle.model.specs.Tree.{Tree, Trees, node, nil, cons, many}
 use Rattle.model.specs.Accept.{accept}
-use Rattle.model.specs.Intern.{State, Outs, start, internForest}
-use Rattle.model.specs.Call.{rootOf, interned}
+use Rattle.model.specs.Intern.{State, Outs, start, internForest, internLast}
+use Rattle.model.specs.Call.{interned}
 use Rattle.laws.proofs.Apart.{good-inj, refused-good}
 use Rattle.laws.proofs.Holds.{Holds}
 use Rattle.laws.proofs.Members.{In}
@@ -51,14 +51,14 @@ pub record Leaves (B : ℕ → Type 0) (o : ℕ × State) : Type 0 where
 pub forest-leaves : (B : ℕ → Type 0) → B 0 → B 1 → B 2 → (forest : List ℕ) (ts : Trees) → accept forest ≡ good ts →
     TreesHave B ts →
     (o : ℕ × State) → interned forest ≡ good o → Leaves B o
-unfolding interned _>>=_ rootOf
+unfolding interned _>>=_ internLast
 forest-leaves B b0 b1 b2 forest ts e has o is =
     go (internForest ts) (forest-keeps B b0 b1 b2 ts has (accepted forest ts e .0)) (rw (e, _>>=_) at is)
   where
     some-tree : 1 ≤ many ts
     some-tree = accepted forest ts e .1
 
-    go : (m : Outs) → Holds (KeepsAll B start (many ts) (plainKids 0 0 ts) (many ts) 0 0) m → rootOf m ≡ good o →
+    go : (m : Outs) → Holds (KeepsAll B start (many ts) (plainKids 0 0 ts) (many ts) 0 0) m → internLast m ≡ good o →
         Leaves B o
     go (refused n p) h is = refused-good is
     go (good os) h is = subst (Leaves B) (good-inj is) (record {

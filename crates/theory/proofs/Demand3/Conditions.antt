@@ -15,8 +15,8 @@ use Rattle.model.specs.Tree.{rec, Row, size, depth}
 use Rattle.model.specs.Shape.{fits, agrees}
 use Rattle.model.specs.Forest.{treeCount, recordCount, pairsOf, rowsIn, treesOf, deeps}
 use Rattle.model.specs.Binding.{misplacedIn, reboundIn, unboundIn}
-use Rattle.model.specs.Intern.{State, Out, internForest}
-use Rattle.model.specs.Call.{rootOf, treeOf, bytesOf, numbers}
+use Rattle.model.specs.Intern.{State, Out, internForest, internLast}
+use Rattle.model.specs.Call.{treeOf, bytesOf, numbers}
 
 -- ---- places
 
@@ -103,7 +103,7 @@ TreesOffend forest p =
 
 -- the root's symbol and the symbols and scopes of the forest, or the refusal that interning meets
 abbrev pub interning : List ℕ → Out
-interning forest = rootOf (internForest (treesOf forest))
+interning forest = internLast (internForest (treesOf forest))
 
 -- document 01 defines a tree for the forest: o is the root's symbol, with the symbols and scopes
 abbrev pub Defined : List ℕ → ℕ × State → Type 0

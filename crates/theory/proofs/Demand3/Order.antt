@@ -18,8 +18,8 @@ use Rattle.model.specs.Tree.{size, depth}
 use Rattle.model.specs.Forest.{treesOf}
 use Rattle.model.specs.Binding.{check8, check9, check10}
 use Rattle.model.specs.Accept.{checks, accept}
-use Rattle.model.specs.Intern.{State, Out, Outs, internForest}
-use Rattle.model.specs.Call.{check1, rootOf, interned, treeOf, bytesOf, check13, check14, Written, writtenOf, written}
+use Rattle.model.specs.Intern.{State, Out, Outs, internForest, internLast}
+use Rattle.model.specs.Call.{check1, interned, treeOf, bytesOf, check13, check14, Written, writtenOf, written}
 use Rattle.model.specs.Call.{run}
 use Rattle.laws.proofs.Apart.{none-some, refused-good, good-inj, refused-parts}
 use Rattle.laws.proofs.Checks.{Check, Passes, FirstAt, passes-or-first, Rising, Fails, Says, passes-split, first-split}
@@ -173,10 +173,10 @@ rest : ℕ → Out → Answer Written
 rest room m = m >>= λ o. checked ((13, check13 room o) ∷ (14, check14 o) ∷ []) (writtenOf o)
 
 root-limited : (forest : List ℕ) → Limited (interning forest)
-unfolding rootOf _>>=_
+unfolding internLast _>>=_
 root-limited forest = go (internForest (treesOf forest)) (forest-limited (treesOf forest))
   where
-    go : (m : Outs) → Limited m → Limited (rootOf m)
+    go : (m : Outs) → Limited m → Limited (internLast m)
     go (refused n p) h = h
     go (good os) h = tt
 

@@ -16,8 +16,8 @@ use Rattle.model.specs.Answer.{refused, good, _>>=_}
 use Rattle.model.specs.Tree.{Tree, Trees, nil, cons, many, root}
 use Rattle.model.specs.Accept.{accept}
 use Rattle.model.specs.Unfold.{unfoldAt, unfoldAll}
-use Rattle.model.specs.Intern.{Sym, Scope, State, Outs, rootScope, start, recall, internForest}
-use Rattle.model.specs.Call.{rootOf, interned}
+use Rattle.model.specs.Intern.{Sym, Scope, State, Outs, rootScope, start, recall, internForest, internLast}
+use Rattle.model.specs.Call.{interned}
 use Rattle.laws.proofs.Holds.{Holds, holds-map}
 use Rattle.laws.proofs.Members.{In}
 use Rattle.theory.proofs.Meaning.Mean.{Val, meanAll, mean}
@@ -116,10 +116,10 @@ forest-ready ts c l =
 
 pub interned-ready : (bs : List ℕ) (ts : Trees) → accept bs ≡ good ts →
     Holds (λ o. Ready (o .1) (o .0) (root ts)) (interned bs)
-unfolding interned _>>=_ rootOf
+unfolding interned _>>=_ internLast
 interned-ready bs ts e = rw e (go (internForest ts) (forest-ready ts (accepted bs ts e .0) (accepted bs ts e .1)))
   where
     go : (m : Outs) → Holds (λ os. Ready (os .2) (last (os .0)) (root ts)) m →
-        Holds (λ o. Ready (o .1) (o .0) (root ts)) (rootOf m)
+        Holds (λ o. Ready (o .1) (o .0) (root ts)) (internLast m)
     go (refused n p) h = tt
     go (good os) h = h

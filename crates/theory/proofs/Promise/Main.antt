@@ -15,10 +15,10 @@ use Rattle.model.specs.Tree.{Tree, nil, cons, size, depth, root}
 use Rattle.model.specs.Forest.{treesOf}
 use Rattle.model.specs.Accept.{checks, accept}
 use Rattle.model.specs.Unfold.{arg, unfolded}
-use Rattle.model.specs.Intern.{State, Out, internForest}
+use Rattle.model.specs.Intern.{State, Out, internForest, internLast}
 use Rattle.model.specs.Gate.{reachable}
 use Rattle.model.specs.Materialize.{materialize}
-use Rattle.model.specs.Call.{rootOf, interned, treeOf, bytesOf}
+use Rattle.model.specs.Call.{interned, treeOf, bytesOf}
 use Rattle.laws.proofs.Checks.{Passes, passes-checked}
 use Rattle.laws.proofs.Holds.{Holds}
 use Rattle.laws.proofs.Members.{In}
@@ -70,7 +70,7 @@ module _ (o : ℕ × State) (t : Tree) (h : Ready (o .1) (o .0) t) where
 
 -- for an accepted forest, interned to the root's symbol and a state
 module _ (forest : List ℕ) (pass : Passes (checks forest)) (o : ℕ × State)
-    (is : rootOf (internForest (treesOf forest)) ≡ good o) where
+    (is : internLast (internForest (treesOf forest)) ≡ good o) where
   forest-accepted : accept forest ≡ good (treesOf forest)
   unfolding accept
   forest-accepted = passes-checked (checks forest) (treesOf forest) pass

@@ -1,0 +1,2 @@
+-- Notions that several crates share and document 01 has no word for. Assumes nothing.
+pub mod Range
