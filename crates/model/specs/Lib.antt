@@ -14,6 +14,8 @@ pub mod Gate
 pub mod Schedule
 pub mod Materialize
 pub mod Call
+pub mod Conditions
+pub mod Demand3
 pub mod Text
 pub mod Lister
 pub mod Computing

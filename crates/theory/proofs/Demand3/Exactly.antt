@@ -11,7 +11,7 @@ use Rattle.model.specs.Answer.{Answer}
 use Rattle.model.specs.Call.{Written, Numbers, numbersOf, numbers}
 use Rattle.laws.proofs.Checks.{Check, Passes, FirstAt, passes-or-first, first-least, first-fails, fails-from}
 use Rattle.laws.proofs.Checks.{passes-none-fails}
-use Rattle.theory.proofs.Demand3.Conditions.{number, place, Applies, NoneApplies, LowestApplies}
+use Rattle.model.specs.Conditions.{number, place, Applies, NoneApplies, LowestApplies}
 use Rattle.theory.proofs.Demand3.Order.{callChecks, checks-rise, applies-fails, fails-applies, call-first}
 use Rattle.theory.proofs.Demand3.Order.{call-passes}
 

@@ -26,9 +26,9 @@ use Rattle.laws.proofs.Checks.{Check, Passes, FirstAt, passes-or-first, Rising,
 use Rattle.laws.proofs.Checks.{fails-from, fails-before, passes-none-fails, _also_, first-fails, fails-left}
 use Rattle.laws.proofs.Checks.{fails-split, fails-past, fails-says, passes-checked, checked-good, first-checked}
 use Rattle.theory.proofs.Promise.Refusals.{Limited, forest-limited}
-use Rattle.theory.proofs.Demand3.Conditions.{Defined, Accepted, at-5, interning, TooLarge, Applies, at-1, at-2}
-use Rattle.theory.proofs.Demand3.Conditions.{at-3, at-4, at-6, at-7, at-8, at-9, at-10, at-11, at-12, at-13}
-use Rattle.theory.proofs.Demand3.Conditions.{at-14}
+use Rattle.model.specs.Conditions.{Defined, Accepted, at-5, interning, TooLarge, Applies, at-1, at-2}
+use Rattle.model.specs.Conditions.{at-3, at-4, at-6, at-7, at-8, at-9, at-10, at-11, at-12, at-13}
+use Rattle.model.specs.Conditions.{at-14}
 use Rattle.theory.proofs.Demand3.Places.{or-true, less, at-0, first-place, check-2, check-3, check-4, check-5}
 use Rattle.theory.proofs.Demand3.Places.{check-6, check-7}
 

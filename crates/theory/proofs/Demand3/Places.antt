@@ -22,9 +22,9 @@ use Rattle.model.specs.Forest.{check4, check5, unclosed, check6, deeps, check7}
 use Rattle.laws.proofs.Apart.{none-some}
 use Rattle.laws.proofs.Members.{clash, and-both, both-and}
 use Rattle.laws.proofs.Header.{pair-count, row-count}
-use Rattle.theory.proofs.Demand3.Conditions.{DirectoryOffends, noRecord, First, Marked, InRange, HeaderOffends}
-use Rattle.theory.proofs.Demand3.Conditions.{startOf, PairOffends, ShapeOffends, OpcodeOffends, children}
-use Rattle.theory.proofs.Demand3.Conditions.{TreesOffend, directoryEnd}
+use Rattle.model.specs.Conditions.{DirectoryOffends, noRecord, First, Marked, InRange, HeaderOffends}
+use Rattle.model.specs.Conditions.{startOf, PairOffends, ShapeOffends, OpcodeOffends, children}
+use Rattle.model.specs.Conditions.{TreesOffend, directoryEnd}
 
 -- ---- tests
 

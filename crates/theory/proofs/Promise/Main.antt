@@ -28,7 +28,8 @@ use Rattle.theory.proofs.Interning.Good.{symCount}
 use Rattle.theory.proofs.Interning.Interned.{Ready, interned-ready}
 use Rattle.theory.proofs.Building.Given.{Built, none-given}
 use Rattle.theory.proofs.Building.Built.{root-built}
-use Rattle.theory.proofs.Promise.Uses.{NoUse, use-absent}
+use Rattle.model.specs.Demand3.{NoUse}
+use Rattle.theory.proofs.Promise.Uses.{use-absent}
 
 -- ---- the tree of an interned forest
 

@@ -12,17 +12,9 @@ use borrow.Author.Tests.{eq-eqb, not-false}
 use Rattle.model.specs.Lists.{isIn, twice}
 use Rattle.model.specs.Tree.{Tree, Trees, node, nil, cons}
 use Rattle.model.specs.Binding.{idOf, inside, after, rebound, reboundIn, unbound, unboundIn}
+use Rattle.model.specs.Demand3.{NoUse, NoUses}
 use Rattle.laws.proofs.Clear.{Clear, clear-left, clear-right}
 use Rattle.laws.proofs.Members.{In, clash, isIn-true, in-left, in-right, in-either, or-neither, anyIn-false}
-
--- no record of a tree is a use of id i
-abbrev mutual
-  pub NoUse : ℕ → Tree → Type 0
-  NoUse i (node r ts) = (r .shape ≡ 7 → idOf r ≡ i → ⊥) × NoUses i ts
-
-  pub NoUses : ℕ → Trees → Type 0
-  NoUses i nil = Unit {0}
-  NoUses i (cons t ts) = NoUse i t × NoUses i ts
 
 -- ids in force, and the same with i among them
 pub record Apart (i : ℕ) (ids more : List ℕ) : Type 0 where
