@@ -122,6 +122,7 @@ module _ (bs ws : List ℕ) (st : State) (cur at levels : ℕ) (rep : Rep bs ws 
     slots = omega (arith, rep .few-slots);
     pending = omega arith;
     lower = λ k lt. absurd (omega arith);
+    sourced = refl;
   }
 
   module _ (are : (j : ℕ) → has levels j ≡ eqb j (levelOf (scopeWord ws cur) + 1)) where

@@ -59,9 +59,10 @@ unfolding keyRec
 key-field bs at i lt = rw (ne-eqb i 0 (λ e. omega arith), keyRec)
 
 module _ (bs ws : List ℕ) (st : State) (cur at i held : ℕ) where
-  pub field-ready : Rep bs ws st → Projects bs ws st cur at held 1 → i < 4 → Ready bs ws st cur (field at i) held 1
+  pub field-ready : Rep bs ws st → Projects bs ws st cur at held 1 → 0 < i → i < 4 →
+      Ready bs ws st cur (field at i) held 1
   unfolding union unionDeps wordsFrom
-  field-ready rep h lt = record {
+  field-ready rep h pos lt = record {
     fresh = record {
       from = h .from;
       field = lt;
@@ -72,6 +73,10 @@ module _ (bs ws : List ℕ) (st : State) (cur at i held : ℕ) where
       slots = h .slots;
       pending = h .pending;
       lower = λ k l. let e : 8200 + held + k ≡ 8200 + held = omega arith in rw e (h .low);
+      sourced = record {
+        plain = λ e. absurd (omega arith);
+        made = λ n. record { shape = h .shape; opcode = h .opcode; one = refl };
+      };
     };
     keyed = tt;
     forced = h .forced;
@@ -138,6 +143,8 @@ module _ (bs ws : List ℕ) (st : State) (cur at held : ℕ) where
         ∙ ap (λ (y : Sym). y .deps) (k .syms (pend ws) (omega (arith, syms-length bs ws (st .symbols), p .low))) in
         record {
           from = p .from;
+          shape = p .shape;
+          opcode = p .opcode;
           current = omega (arith, p .current, h .leaves .scopes);
           slots = omega (arith, p .slots, k .slots, rep .slots-used, h .rep .slots-used);
           pending = p .pending;

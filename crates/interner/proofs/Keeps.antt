@@ -13,9 +13,9 @@ use Rattle.model.specs.Lists.{without}
 use Rattle.model.specs.Tree.{Rec}
 use Rattle.model.specs.Intern.{Node, Sym, noSym, symAt, placement, push, alloc, lookup, unionDeps, finish}
 use Rattle.model.specs.Intern as intern
+use Rattle.laws.specs.Slots.{slotsIn}
+use Rattle.laws.proofs.Slots.{slots-more}
 use Rattle.laws.proofs.Holds.{Holds, holds-guard}
-use Rattle.interner.specs.State.{slotsIn}
-use Rattle.interner.proofs.Pushing.{slots-more}
 
 -- ---- what is kept of state s, with at most n slots more
 

@@ -175,6 +175,7 @@ module _ (bs ws : List ℕ) (st : State) (p : ℕ) (rep : Rep bs ws st) (low : p
           opened = old .opened;
           below = old .below;
           sound = old .sound;
+          sourced = old .sourced;
           nested = old .nested;
           levelled = old .levelled;
           arguments = old .arguments;

@@ -9,14 +9,17 @@ use mathlib.Core.List.{List, [], _∷_, _++_}
 use native.Mathlib.Omega.{arith}
 use native.Mathlib.Nat.{eq-or-lt-of-le}
 use native.Mathlib.Numerals.{add-one}
-use lib.ListN.{length, getD}
+use lib.ListN.{getD}
 use lib.Seq.{getD-at}
 use Rattle.model.specs.Forest.{recordCount}
 use Rattle.model.specs.Intern.{Sym, noSym, symAt, placement, push}
+use Rattle.laws.specs.Slots.{slotsIn}
+use Rattle.laws.proofs.Slots.{slots-more}
 use Rattle.laws.proofs.Header.{header-of}
 use Rattle.record.specs.Record.{Laid}
 use Rattle.key.specs.declared.Node.{Node}
 use Rattle.key.specs.declared.Symbol.{Symbol}
+use Rattle.key.specs.Key.{symbolAt}
 use Rattle.symbols.specs.Words.{pendingFrom}
 use Rattle.symbols.specs.Symbols.{symsOf, symOf, recOf, nodeOf, made, Room}
 use Rattle.symbols.proofs.Laws.{syms-length, made-length, made-before, made-between, made-after, made-symbol, syms-made}
@@ -32,14 +35,10 @@ use Rattle.memo.specs.Memo.{memoOf}
 use Rattle.memo.proofs.Laws as memo
 use Rattle.interner.specs.declared.State.{State}
 use Rattle.interner.specs.Levels.{depsAt, Levelled, ArgLevels}
-use Rattle.interner.specs.State.{absOf, slotsIn, MemoBelow, Rep}
+use Rattle.interner.specs.State.{absOf, MemoBelow, Sourced, Rep}
 use Rattle.interner.specs.Step.{Fresh, Stored, Levels, Pushed, newDeps}
 use Rattle.interner.proofs.Tracks.{climb-low}
 use Rattle.interner.proofs.Same.{Same, symbol-same, rep-same}
-
-pub slots-more : (ys : List Sym) (y : Sym) → slotsIn (ys ++ (y ∷ [])) ≡ slotsIn ys + length (y .kids)
-slots-more [] y = omega arith
-slots-more (z ∷ ys) y = omega (arith, slots-more ys y)
 
 pub memo-more : (n m : ℕ) (ts : List (ℕ × ℕ × ℕ)) → n ≤ m → MemoBelow n ts → MemoBelow m ts
 memo-more n m [] le b = tt
@@ -174,6 +173,14 @@ module _ (bs ws : List ℕ) (st : State) (cur : ℕ) (node : Node) (held count l
       is = λ j. rw (deps-new, stored .own) (lv .are ws₁ stored j);
     }
 
+    sourced-new : Sourced bs (symbolAt ws₁ (st .symbols) .node) (symbolAt ws₁ (st .symbols) .count)
+    sourced-new = rw (made-symbol ws (st .symbols) held y room) (fresh .sourced)
+
+    sourced-pushed : (s : ℕ) → s < st .symbols + 1 → Sourced bs (symbolAt ws₁ s .node) (symbolAt ws₁ s .count)
+    sourced-pushed s lt =
+        let le : s ≤ st .symbols = omega arith in
+        ⊎-elim (λ e. rw e sourced-new) (λ l. old .sourced s l) (eq-or-lt-of-le le)
+
     levelled-pushed : (s : ℕ) → s < st .symbols + 1 → Levelled bs ws₁ s
     levelled-pushed s lt =
         let le : s ≤ st .symbols = omega arith in
@@ -206,6 +213,7 @@ module _ (bs ws : List ℕ) (st : State) (cur : ℕ) (node : Node) (held count l
       sound = rw (add-one (st .symbols))
           (sound-made ws (st .symbols) held y room bs (st .slots) (omega arith) (rep .sound) (fresh .from)
           (fresh .lower));
+      sourced = sourced-pushed;
       nested = old .nested;
       levelled = levelled-pushed;
       arguments = args-pushed;

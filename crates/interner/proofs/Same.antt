@@ -21,7 +21,7 @@ use Rattle.memo.specs.Memo.{memoOf}
 use Rattle.memo.proofs.Laws as memo
 use Rattle.interner.specs.declared.State.{State}
 use Rattle.interner.specs.Levels.{depsAt, Levelled, AtLevel, ArgLevels}
-use Rattle.interner.specs.State.{absOf, Rep}
+use Rattle.interner.specs.State.{absOf, Sourced, Rep}
 use Rattle.interner.proofs.Levels.{anyHas-same}
 
 -- ---- words kept: those that are in use
@@ -82,6 +82,9 @@ module _ (bs ws ws′ : List ℕ) (st : State) (rep : Rep bs ws st) (same : Same
       let h : AtLevel ws (st .symbols) (levelOf (scopeWord ws c)) x = rep .arguments c lt xs (rw w at e) x i in
       record { low = h .low; one = λ j. rw (w, symbol-same x (h .low)) (h .one j) }
 
+  sourced-same : (s : ℕ) → s < st .symbols → Sourced bs (symbolAt ws′ s .node) (symbolAt ws′ s .count)
+  sourced-same s lt = rw (symbol-same s lt) (rep .sourced s lt)
+
   memos-same : memoOf ws′ (st .memo) ≡ memoOf ws (st .memo)
   memos-same = memo.memo-kept ws′ ws (st .memo) memo-same
 
@@ -101,6 +104,7 @@ module _ (bs ws ws′ : List ℕ) (st : State) (rep : Rep bs ws st) (same : Same
     sound = λ i lt.
         sound-agree bs ws ws′ (st .slots) (same .slots) i (λ k l r. same .symbols k (omega arith) (omega arith))
         (rep .sound i lt);
+    sourced = sourced-same;
     nested = open′.nested-kept ws′ ws (st .scopes) (rep .some-scope) scopes-same (rep .nested);
     levelled = levelled-same;
     arguments = args-same;

@@ -80,6 +80,7 @@ module _ (bs ws : List ℕ) (st : State) (s : ℕ) (rep : Rep bs ws st) (few : s
         opened = open-later (st .tables) (st .entries) (rep .opened) (st .entries + 1) (omega arith);
         below = entered-below (st .tables) (st .entries) (rep .opened) ws s room (st .symbols) (rep .below) low;
         sound = old .sound;
+        sourced = old .sourced;
         nested = old .nested;
         levelled = old .levelled;
         arguments = old .arguments;

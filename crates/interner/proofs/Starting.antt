@@ -50,6 +50,7 @@ module _ (ws : List ℕ) (words : 10856 ≤ length ws) where
     opened = first-open;
     below = λ k lt. absurd (omega arith);
     sound = λ i lt. absurd (omega arith);
+    sourced = λ s lt. absurd (omega arith);
     nested = nested-outermost ws (omega arith);
     levelled = λ s lt. absurd (omega arith);
     arguments = no-args;

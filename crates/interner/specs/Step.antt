@@ -27,7 +27,7 @@ use Rattle.scopes.specs.Scopes.{scopesOf, scopeWord, parentOf, levelOf, argsIn,
 use Rattle.interner.specs.declared.State.{State}
 use Rattle.interner.specs.declared.Step.{Step}
 use Rattle.interner.specs.Levels.{anyHas, AtLevel, InForce}
-use Rattle.interner.specs.State.{absOf, Rep}
+use Rattle.interner.specs.State.{absOf, Sourced, Rep}
 
 -- ---- answers
 
@@ -83,6 +83,7 @@ pub record Fresh (bs ws : List ℕ) (st : State) (cur : ℕ) (node : Node) (held
   pub slots : st .slots + count ≤ 2560
   pub pending : held + count ≤ 256
   pub lower : (k : ℕ) → k < count → getD ws (8200 + held + k) 0 < st .symbols
+  pub sourced : Sourced bs node count
 
 -- what a new symbol depends on
 abbrev pub newDeps : List ℕ → List ℕ → State → Node → ℕ → ℕ → List ℕ
@@ -200,9 +201,11 @@ pub record Bindings (bs ws : List ℕ) (st : State) (cur at count : ℕ) (ws′ 
 
 -- ---- projections
 
--- n projections of the pending symbol at `held` can be made for record `at`
+-- n projections of the pending symbol at `held` can be made for record `at`, a SelectField
 pub record Projects (bs ws : List ℕ) (st : State) (cur at held n : ℕ) : Type 0 where
   pub from : at < recordCount bs
+  pub shape : rowAt bs at .rec .shape ≡ 17
+  pub opcode : rowAt bs at .rec .opcode ≡ 0x8C
   pub current : cur < st .scopes
   pub slots : st .slots + n ≤ 2560
   pub pending : held + 1 ≤ 256

@@ -1,8 +1,9 @@
 -- A lambda's arguments, in a literal an id and an opt each, in a node a symbol and an opt each; and how a literal's
 -- are read.
 --
--- In order: the list and its parts; what an opt is (`IsOpt`: it reads as itself, whatever follows), and an opt that is
--- read off a list; the next argument of a literal (`next-arg`), and all of them (`args-opts`).
+-- In order: the list and its parts; arguments with other symbols (`withOpts`); what an opt is (`IsOpt`: it reads as
+-- itself, whatever follows), and an opt that is read off a list; the next argument of a literal (`next-arg`), and all
+-- of them (`args-opts`).
 -- Acceptance uses `args-opts`: a lambda's opts read back. Building uses `next-arg` to read a written lambda's literal.
 -- Assumes nothing.
 use mathlib.Core.Path.{_≡_, refl, ap, sym, _∙_}
@@ -12,12 +13,13 @@ use mathlib.Core.List.{List, [], _∷_, _++_, map}
 use Prim.Native.Nat.{ℕ, zero, suc, _+_, _-_, _≤_}
 use native.Mathlib.Omega.{arith}
 use lib.Dec.{eqb, leb, ltb}
-use lib.ListN.{length, drop, take, length-append, length-take, take-append-drop}
+use lib.ListN.{length, drop, take, length-append, length-take, length-map, take-append-drop}
 use lib.Seq.{drop-at, take-append-seam, drop-append-seam, drop-drop}
 use borrow.Author.Tests.{leb-true, le-leb}
 use Rattle.model.specs.Tree.{Rec}
 use Rattle.model.specs.Shape.{Reader, aId, aType, aOpt, _then_, times, whole}
 use Rattle.model.specs.Binding.{optOf, argsOf}
+use Rattle.model.specs.Intern.{withOpts}
 use Rattle.laws.proofs.Apart.{none-some, false-true}
 use Rattle.laws.proofs.Members.{and-both}
 
@@ -41,6 +43,23 @@ pub args-length : (n : ℕ) (bs : List ℕ) → length (argsOf n bs) ≡ n
 unfolding argsOf
 args-length zero bs = refl
 args-length (suc n) bs = ap suc (args-length n _)
+
+-- ---- arguments with other symbols
+
+pub withOpts-syms : (xs : ArgList) (ss : List ℕ) → length ss ≡ length xs → symsIn (withOpts xs ss) ≡ ss
+withOpts-syms [] [] e = refl
+withOpts-syms [] (a ∷ ss) e = absurd (omega arith)
+withOpts-syms (x ∷ xs) [] e = absurd (omega arith)
+withOpts-syms (x ∷ xs) (a ∷ ss) e = ap (λ (l : List ℕ). a ∷ l) (withOpts-syms xs ss (omega arith))
+
+pub withOpts-opts : (xs : ArgList) (ss : List ℕ) → length ss ≡ length xs → optsIn (withOpts xs ss) ≡ optsIn xs
+withOpts-opts [] [] e = refl
+withOpts-opts [] (a ∷ ss) e = absurd (omega arith)
+withOpts-opts (x ∷ xs) [] e = absurd (omega arith)
+withOpts-opts (x ∷ xs) (a ∷ ss) e = ap (λ (l : List (List ℕ)). x .1 ∷ l) (withOpts-opts xs ss (omega arith))
+
+pub withOpts-length : (xs : ArgList) (ss : List ℕ) → length ss ≡ length xs → length (withOpts xs ss) ≡ length xs
+withOpts-length xs ss e = sym (length-map (withOpts xs ss) (λ x. x .0)) ∙ (ap length (withOpts-syms xs ss e) ∙ e)
 
 -- ---- opts
 

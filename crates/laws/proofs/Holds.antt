@@ -26,3 +26,6 @@ holds-guard P false n p a h = tt
 pub holds-map : {A : Type 0} (P Q : A → Type 0) (m : Answer A) → Holds P m → ((a : A) → P a → Q a) → Holds Q m
 holds-map P Q (refused n p) h k = tt
 holds-map P Q (good a) h k = k a h
+
+pub holds-good : {A : Type 0} (P : A → Type 0) {m : Answer A} {a : A} → m ≡ good a → Holds P m → P a
+holds-good P e h = rw e at h

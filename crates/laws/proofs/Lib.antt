@@ -8,6 +8,14 @@ pub mod Down
 pub mod Members
 pub mod Once
 pub mod Walks
+pub mod Falls
+pub mod Symbols
 pub mod ArgLists
 pub mod Header
+pub mod Trees
 pub mod Rows
+pub mod Slots
+pub mod Defining
+pub mod Blocks
+pub mod Building
+pub mod Numbering

@@ -1,7 +1,7 @@
 -- Rows of trees: a tree has as many rows as records, growing the rows gives the tree back, and what later rows grow to.
 --
--- In order: `sizes-rows`; trees that follow trees (`join`); `grow-rows`; the rows after the first k trees (`next-row`);
--- check 6, whose rows are those of the trees that grow from them (`closed-rows`, `closed-trees`).
+-- In order: `size-rows`, `sizes-rows`; trees that follow trees (`joinT`); `grow-rows`; the rows after the first k trees
+-- (`next-row`); check 6, whose rows are those of the trees that grow from them (`closed-rows`, `closed-trees`).
 -- Reading back what was written takes `sizes-rows` and `grow-rows`; acceptance takes `closed-trees`; code that goes by
 -- record numbers takes `next-row`.
 -- Assumes nothing.
@@ -14,14 +14,16 @@ use native.Mathlib.Nat.{zero-add, suc-add, add-assoc}
 use lib.ListN.{length, length-append, drop}
 use Rattle.model.specs.Tree.{Row, Tree, Trees, node, nil, cons, many, takeT, dropT, size, sizes, rows, rowsOf, grow}
 use Rattle.model.specs.Forest.{treeCount, rowsIn, treesOf, unclosed, check6}
+use Rattle.laws.specs.Defining.{joinT}
 use Rattle.laws.proofs.Apart.{some-none}
+use Rattle.laws.proofs.Trees.{join-nil}
 
 -- ---- as many rows as records
 
 mutual
   unfolding size rows
 
-  size-rows : (t : Tree) → length (rows t) ≡ size t
+  pub size-rows : (t : Tree) → length (rows t) ≡ size t
   size-rows (node r ts) = ap suc (sizes-rows ts)
 
   pub sizes-rows : (ts : Trees) → length (rowsOf ts) ≡ sizes ts
@@ -36,35 +38,26 @@ many-sizes (cons (node r us) ts) = omega (arith, many-sizes ts)
 
 -- ---- trees, and then trees
 
-join : Trees → Trees → Trees
-join nil us = us
-join (cons t ts) us = cons t (join ts us)
-
-join-take : (ts us : Trees) → takeT (many ts) (join ts us) ≡ ts
-unfolding takeT many join
+join-take : (ts us : Trees) → takeT (many ts) (joinT ts us) ≡ ts
+unfolding takeT many joinT
 join-take nil us = refl
 join-take (cons t ts) us = ap (cons t) (join-take ts us)
 
-join-drop : (ts us : Trees) → dropT (many ts) (join ts us) ≡ us
-unfolding dropT many join
+join-drop : (ts us : Trees) → dropT (many ts) (joinT ts us) ≡ us
+unfolding dropT many joinT
 join-drop nil us = refl
 join-drop (cons t ts) us = join-drop ts us
-
-join-nil : (ts : Trees) → join ts nil ≡ ts
-unfolding join
-join-nil nil = refl
-join-nil (cons t ts) = ap (cons t) (join-nil ts)
 
 -- ---- growing rows gives the trees back
 
 -- whatever rows follow
 mutual
-  unfolding rows grow join
+  unfolding rows grow joinT
 
   grow-tree : (t : Tree) (rest : List Row) → grow (rows t ++ rest) ≡ cons t (grow rest)
   grow-tree (node r ts) rest = rw (grow-trees ts rest, join-take ts (grow rest), join-drop ts (grow rest))
 
-  grow-trees : (ts : Trees) (rest : List Row) → grow (rowsOf ts ++ rest) ≡ join ts (grow rest)
+  grow-trees : (ts : Trees) (rest : List Row) → grow (rowsOf ts ++ rest) ≡ joinT ts (grow rest)
   grow-trees nil rest = refl
   grow-trees (cons t ts) rest =
       rw (append-assoc (rows t) (rowsOf ts) rest, grow-tree t (rowsOf ts ++ rest), grow-trees ts rest)

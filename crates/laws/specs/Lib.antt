@@ -1,2 +1,4 @@
 -- Notions that several crates share and document 01 has no word for. Assumes nothing.
 pub mod Range
+pub mod Slots
+pub mod Defining

@@ -1,5 +1,5 @@
 -- Planned rows in words. In order: a row's three words; a row stored is loaded again, and words elsewhere are kept; the
--- words that a plan hangs on; one row more at a plan's end.
+-- words that a plan hangs on; one row more at a plan's end; what joined plans stand for.
 -- Assumes nothing.
 use Prim.Native.Nat.{ℕ, zero, suc, _+_, _*_, _≤_, _<_}
 use mathlib.Core.Path.{_≡_, refl, ap, ap₂, _∙_}
@@ -7,7 +7,8 @@ use mathlib.Core.List.{List, [], _∷_, _++_}
 use native.Mathlib.Omega.{arith}
 use lib.ListN.{length, getD, set, length-set}
 use lib.Seq.{getD-set-same, getD-set-other}
-use Rattle.plan.specs.Plan.{put3, storePlanned, plannedOf, plannedAt, planFrom}
+use Rattle.model.specs.Tree.{Row}
+use Rattle.plan.specs.Plan.{put3, storePlanned, plannedOf, plannedAt, planFrom, rowFor, rowsFor}
 use Rattle.plan.specs.declared.Planned.{Planned}
 use Rattle.plan.specs.declared.Planned.the-variants.{Copy, Field, ValUse, ValDef, Block, Lambda}
 
@@ -109,3 +110,10 @@ plan-more ws at n p h =
     (plan-last (storePlanned ws (at + 3 * n) p) at n
     ∙ ap₂ (λ (ps : List Planned) (q : Planned). ps ++ (q ∷ []))
     (plan-kept ws at n (at + 3 * n) p (omega arith)) (stored-loaded ws (at + 3 * n) p h))
+
+-- ---- what joined plans stand for
+
+pub rows-append : (bs : List ℕ) (ps qs : List Planned) → rowsFor bs (ps ++ qs) ≡ rowsFor bs ps ++ rowsFor bs qs
+unfolding rowsFor
+rows-append bs [] qs = refl
+rows-append bs (p ∷ ps) qs = ap (λ (rs : List Row). rowFor bs p ∷ rs) (rows-append bs ps qs)

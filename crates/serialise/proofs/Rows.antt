@@ -1,5 +1,5 @@
--- Planned rows written one by one. In order: a lambda's row and a field's; lengths; what is left of a plan from row i
--- on; one turn of the loops that write the records and the directory; the whole tree from its parts.
+-- Planned rows written one by one. In order: a lambda's row and a field's; lengths; plans joined; what is left of a
+-- plan from row i on; one turn of the loops that write the records and the directory; the whole tree from its parts.
 -- Assumes nothing.
 use Prim.Native.Nat.{ℕ, zero, suc, _+_, _*_, _-_, _%_, _<_, _≤_}
 use mathlib.Core.Path.{_≡_, refl, sym, ap, ap₂, _∙_, subst}
@@ -81,6 +81,13 @@ planned-length bs ws at (suc n) = ap suc (planned-length bs ws (at + 3) n)
 
 pub tree-length : (bs ws : List ℕ) (at n : ℕ) → length (treeOf bs ws at n) ≡ 4 + 4 * n + total (plannedRows bs ws at n)
 tree-length bs ws at n = omega (arith, forest-length 1 (plannedRows bs ws at n), planned-length bs ws at n)
+
+-- ---- plans joined
+
+pub writable-append : (bs : List ℕ) (ps qs : List Planned) → AllWritable bs ps → AllWritable bs qs →
+    AllWritable bs (ps ++ qs)
+writable-append bs [] qs h k = k
+writable-append bs (p ∷ ps) qs h k = (h .0, writable-append bs ps qs (h .1) k)
 
 -- ---- what is left of a plan
 

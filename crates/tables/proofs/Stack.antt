@@ -1,5 +1,5 @@
--- What callers cite of the open tables. In order: the words that they hang on; the first table; opening one; closing
--- it; one entry more; entries that are sound.
+-- What callers cite of the open tables. In order: how many; the words that they hang on; the first table; opening one;
+-- closing it; one entry more; entries that are sound.
 -- Assumes nothing.
 use Prim.Native.Nat.{ℕ, zero, suc, _+_, _-_, _<_, _≤_}
 use mathlib.Core.Path.{_≡_, refl, ap, _∙_}
@@ -15,6 +15,16 @@ use Rattle.key.proofs.Runs.{Agree}
 use Rattle.symbols.specs.Symbols.{AllSound}
 use Rattle.tables.specs.declared.Tables.{Tables}
 use Rattle.tables.specs.Tables.{entries, tables, tablesOf, first, opened, closed, newest, Open, Entries, Below}
+
+-- ---- how many
+
+runs-length : (ws base : List ℕ) (d end : ℕ) → length (tables ws base d end) ≡ d
+unfolding tables
+runs-length ws base zero end = refl
+runs-length ws base (suc d) end = ap suc (runs-length ws base d (getD base d 0))
+
+pub tables-length : (ws : List ℕ) (t : Tables) (top : ℕ) → length (tablesOf ws t top) ≡ t .depth
+tables-length ws t top = runs-length ws (t .base) (t .depth) top
 
 -- ---- the words that tables hang on: their entries; and the starts below d
 

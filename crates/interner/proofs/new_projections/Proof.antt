@@ -15,6 +15,8 @@ one-of : (bs ws : List ℕ) (st : State) (cur at held : ℕ) → Projects bs ws 
     Projects bs ws st cur at held 1
 one-of bs ws st cur at held p = record {
   from = p .from;
+  shape = p .shape;
+  opcode = p .opcode;
   current = p .current;
   slots = omega (arith, p .slots);
   pending = p .pending;

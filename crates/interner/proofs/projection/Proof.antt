@@ -14,7 +14,7 @@ finish-requires c κs =
       (
         p .0,
         field-ready (now (a .forest)) (now (a .work)) (a .st) (a .cur) (a .at) (a .field) (a .held) (p .0) (p .1 .0)
-            (p .1 .1 .1),
+            (p .1 .1 .0) (p .1 .1 .1),
       ),
     )
 

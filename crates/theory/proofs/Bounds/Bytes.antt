@@ -25,11 +25,12 @@ use Rattle.model.specs.Call.{interned, treeOf, bytesOf}
 use Rattle.laws.proofs.Checks.{checked-good}
 use Rattle.laws.proofs.Members.{Every}
 use Rattle.laws.proofs.Walks.{every-join}
+use Rattle.laws.proofs.Falls.{Under}
 use Rattle.laws.proofs.ArgLists.{symsIn}
 use Rattle.laws.proofs.Rows.{many-sizes}
 use Rattle.theory.proofs.Acceptance.Bytes.{total, laid-length}
 use Rattle.theory.proofs.Interning.Good.{symCount, scopeCount}
-use Rattle.theory.proofs.Bounds.Sound.{every-drop, RecHas, Under, TreeHas, TreesHave, NodeSound, Sound}
+use Rattle.theory.proofs.Bounds.Sound.{every-drop, RecHas, TreeHas, TreesHave, NodeSound, Sound}
 use Rattle.theory.proofs.Bounds.Limits.{forest-leaves}
 use Rattle.theory.proofs.Bounds.Reading.{getD-has, trees-have}
 use Rattle.theory.proofs.Bounds.Writing.{Byte, NodeHas, scope-has}

@@ -24,14 +24,14 @@ use Rattle.model.specs.Intern.{nodeOf, internLast, internGeneral, internField, 
 use Rattle.laws.proofs.Clear.{Clear}
 use Rattle.laws.proofs.Holds.{Holds, holds-bind, holds-map}
 use Rattle.laws.proofs.Members.{In, clash, isIn-true, Every}
-use Rattle.laws.proofs.ArgLists.{args-length, symsIn, optsIn, boundBy}
+use Rattle.laws.proofs.Falls.{Under}
+use Rattle.laws.proofs.ArgLists.{args-length, symsIn, optsIn, boundBy, withOpts-syms, withOpts-opts, withOpts-length}
 use Rattle.theory.proofs.Acceptance.Checked.{Fine}
 use Rattle.theory.proofs.Acceptance.Records.{kind-shape, def-child, fits-at, field-child, lam-child, op-field}
 use Rattle.theory.proofs.Acceptance.Records.{op-lambda, lam-rec}
 use Rattle.theory.proofs.Interning.Good.{symCount, scopeCount}
 use Rattle.theory.proofs.Interning.Inv.{keys}
-use Rattle.theory.proofs.Interning.Fresh.{withOpts-syms, withOpts-opts, withOpts-length}
-use Rattle.theory.proofs.Bounds.Sound.{every-take, every-drop, RecHas, OptsHave, Under, NodeSound, Sound, Room}
+use Rattle.theory.proofs.Bounds.Sound.{every-take, every-drop, RecHas, OptsHave, NodeSound, Sound, Room}
 use Rattle.theory.proofs.Bounds.Sound.{room-less, under-more, thunks, Keeps, keeps-none, keeps-then, keeps-less}
 use Rattle.theory.proofs.Bounds.Sound.{KeepsOne, KeepsArgs, KeepsAll}
 use Rattle.theory.proofs.Bounds.Steps.{finish-keeps, allocArgs-keeps, projections-keep, field-thunks, open-sound}
@@ -142,7 +142,7 @@ args-have B (suc n) bs h =
 
 -- ---- a record, by its kind
 
-inside-of : (r : Rec) (k : Kind) → kind (r .shape) ≡ k →
+pub inside-of : (r : Rec) (k : Kind) → kind (r .shape) ≡ k →
     inside r ≡ elim k [ valUse ↦ [] | valDef ↦ [] | block ↦ [] | lambda ↦ argIds r | field ↦ [] | other ↦ [] ]
 unfolding inside
 inside-of r k e =
@@ -155,7 +155,7 @@ inside-of r k e =
       | other ↦ []
     ]) e
 
-lambda-plain : (op : ℕ) → op ≡ 0xD9 → (j : ℕ) → thunked op j ≡ false
+pub lambda-plain : (op : ℕ) → op ≡ 0xD9 → (j : ℕ) → thunked op j ≡ false
 unfolding thunked
 lambda-plain op e j = rw e refl
 

@@ -12,12 +12,13 @@ use Rattle.model.specs.Tree.{Tree, Trees, node, nil, cons, many}
 use Rattle.model.specs.Accept.{accept}
 use Rattle.model.specs.Intern.{State, Outs, start, internForest, internLast}
 use Rattle.model.specs.Call.{interned}
+use Rattle.laws.specs.Slots.{slotsIn}
 use Rattle.laws.proofs.Apart.{good-inj, refused-good}
 use Rattle.laws.proofs.Holds.{Holds}
 use Rattle.laws.proofs.Members.{In}
 use Rattle.theory.proofs.Acceptance.Accept.{accepted}
 use Rattle.theory.proofs.Interning.Good.{symCount, scopeCount, kidsAt}
-use Rattle.theory.proofs.Bounds.Sound.{TreeHas, TreesHave, Sound, slotsIn, Room, room-less, KeepsAll}
+use Rattle.theory.proofs.Bounds.Sound.{TreeHas, TreesHave, Sound, Room, room-less, KeepsAll}
 use Rattle.theory.proofs.Bounds.Sound.{slots-limit, scopes-limit}
 use Rattle.theory.proofs.Bounds.Kinds.{plainKids, last-under}
 use Rattle.theory.proofs.Bounds.Trees.{forest-keeps}
@@ -72,11 +73,11 @@ abbrev pub Any : ℕ → Type 0
 Any n = Unit {0}
 
 mutual
-  any-tree : (t : Tree) → TreeHas Any t
+  pub any-tree : (t : Tree) → TreeHas Any t
   any-tree (node r ts) =
       (record { shape-has = tt; opcode-has = tt; aux-has = tt; lit-has = λ x i. tt }, any-trees ts)
 
-  any-trees : (ts : Trees) → TreesHave Any ts
+  pub any-trees : (ts : Trees) → TreesHave Any ts
   any-trees nil = tt
   any-trees (cons t ts) = (any-tree t, any-trees ts)
 

@@ -17,10 +17,11 @@ use Rattle.model.specs.Intern.{Sym, symAt}
 use Rattle.model.specs.Gate.{Graph, symOf, reach, slotsOf}
 use Rattle.model.specs.Schedule.{isArg, isOutside, relOf, each, visitStep, visit, bodyNeighbours, outsiders, collect}
 use Rattle.model.specs.Schedule.{freeStep, freeVars, neighbours, schedule}
+use Rattle.laws.specs.Slots.{slotsIn}
 use Rattle.laws.proofs.Members.{In, isIn-false, in-either, union-cases}
 use Rattle.laws.proofs.Once.{Once, snoc-once, add-once, reach-once}
-use Rattle.theory.proofs.Bounds.Sound.{Under, slotsIn, under-more}
-use Rattle.theory.proofs.Bounds.Falls.{Falls, visit-low, body-falls, free-falls, neighbours-fall}
+use Rattle.laws.proofs.Falls.{Under, Falls, visit-low, body-falls, free-falls, neighbours-fall}
+use Rattle.theory.proofs.Bounds.Sound.{under-more}
 
 -- ---- each number once
 

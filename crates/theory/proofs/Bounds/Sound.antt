@@ -14,7 +14,9 @@ use lib.ListN.{length, getD, take, drop, take-append-drop}
 use Rattle.model.specs.Tree.{Rec, Tree, Trees, node, nil, cons}
 use Rattle.model.specs.Intern.{Node, constant, unparsed, argument, func, operation, Sym, Scope, State, symAt, rootScope}
 use Rattle.model.specs.Intern.{recall, thunked}
+use Rattle.laws.specs.Slots.{slotsIn}
 use Rattle.laws.proofs.Members.{in-left, in-right, Every}
+use Rattle.laws.proofs.Falls.{Under}
 use Rattle.laws.proofs.ArgLists.{symsIn, optsIn}
 use Rattle.theory.proofs.Interning.Good.{argsIn, symCount, scopeCount}
 use Rattle.theory.proofs.Interning.Inv.{InAny}
@@ -47,9 +49,6 @@ OptsHave B [] = Unit {0}
 OptsHave B (o ∷ os) = Every B o × OptsHave B os
 
 -- ---- the invariant
-
-abbrev pub Under : ℕ → List ℕ → Type 0
-Under n xs = Every (λ x. x < n) xs
 
 -- how many of the operands from operand j on are thunks
 abbrev pub thunks : ℕ → ℕ → List ℕ → ℕ
@@ -88,11 +87,6 @@ pub record Sound (B : ℕ → Type 0) (st : State) : Type 0 where
   pub args-low : (b : ℕ) → b < scopeCount st → Under (symCount st) (argsIn (scopeOf st b .args))
 
 -- ---- what readings pay for
-
--- the child slots of all symbols
-abbrev pub slotsIn : List Sym → ℕ
-slotsIn [] = 0
-slotsIn (y ∷ ys) = length (y .kids) + slotsIn ys
 
 -- a child slot is paid for by the child's reading, or by its symbol; a scope by the reading of the child that it holds.
 -- k slots and c scopes are paid for that have not been taken

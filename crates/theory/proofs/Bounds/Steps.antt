@@ -18,21 +18,19 @@ use Rattle.model.specs.Tree.{Rec, rec}
 use Rattle.model.specs.Intern.{Node, argument, operation, Sym, Scope, State, Out, symAt, noSym, rootScope, climb}
 use Rattle.model.specs.Intern.{placement, unionDeps, enter, push, alloc, lookup, finish, allocArgs, openScope, recall}
 use Rattle.model.specs.Intern.{remember, pick, newProjections, pairProjection, thunked, read}
+use Rattle.laws.proofs.Slots.{slots-more}
 use Rattle.laws.proofs.Holds.{Holds, holds-guard, holds-bind, holds-map}
 use Rattle.laws.proofs.Members.{without-cases, Every}
+use Rattle.laws.proofs.Falls.{Under}
 use Rattle.theory.proofs.Interning.Good.{argsIn, symCount, scopeCount}
 use Rattle.theory.proofs.Interning.Inv.{InAny, lt-or}
 use Rattle.theory.proofs.Interning.Push.{unionDeps-from, one-more}
 use Rattle.theory.proofs.Interning.Finish.{lookup-found}
-use Rattle.theory.proofs.Bounds.Sound.{RecHas, Under, thunks, NodeSound, SymSound, scopeOf, Sound, slotsIn, Room}
+use Rattle.theory.proofs.Bounds.Sound.{RecHas, thunks, NodeSound, SymSound, scopeOf, Sound, Room}
 use Rattle.theory.proofs.Bounds.Sound.{room-less, keeps-none, keeps-then, keeps-less, KeepsOne, KeepsArgs}
 use Rattle.theory.proofs.Bounds.Sound.{sym-more}
 
 -- ---- a new symbol
-
-slots-more : (ys : List Sym) (y : Sym) → slotsIn (ys ++ (y ∷ [])) ≡ slotsIn ys + length (y .kids)
-slots-more [] y = omega arith
-slots-more (z ∷ ys) y = omega (arith, slots-more ys y)
 
 climb-low : (scs : List Scope) (deps l : List ℕ) (m : ℕ) → 0 < m → Under m l → climb scs deps l < m
 unfolding climb

@@ -1,5 +1,6 @@
--- Interning a checked tree keeps a state sound, from any state: `intern-keeps`, `all-keep`; and `forest-keeps`, of a
--- forest from the start, whose limits are 512 symbols, 2,048 readings, 2,049 scopes and 2,560 child slots.
+-- Interning a checked tree keeps a state sound, from any state: `intern-keeps`, `all-keep`, and `child-keeps` of an
+-- operand; and `forest-keeps`, of a forest from the start, whose limits are 512 symbols, 2,048 readings, 2,049 scopes
+-- and 2,560 child slots.
 -- In order: thunks; trees; forests.
 -- Assumes nothing.
 use mathlib.Core.Path.{_≡_, refl, ap}
@@ -20,10 +21,11 @@ use Rattle.laws.proofs.Apart.{none-some}
 use Rattle.laws.proofs.Clear.{Clear, clear-left, clear-right}
 use Rattle.laws.proofs.Holds.{Holds, holds-bind, holds-guard, holds-map}
 use Rattle.laws.proofs.Members.{clash}
+use Rattle.laws.proofs.Falls.{Under}
 use Rattle.theory.proofs.Acceptance.Checked.{Fine, Fines, CheckedIn}
 use Rattle.theory.proofs.Interning.Good.{argsIn, symCount, scopeCount}
 use Rattle.theory.proofs.Interning.Inv.{InAny}
-use Rattle.theory.proofs.Bounds.Sound.{TreeHas, TreesHave, Under, scopeOf, Sound, Room, room-less, keeps-none}
+use Rattle.theory.proofs.Bounds.Sound.{TreeHas, TreesHave, scopeOf, Sound, Room, room-less, keeps-none}
 use Rattle.theory.proofs.Bounds.Sound.{keeps-then, keeps-less, KeepsOne, KeepsAll, thunks}
 use Rattle.theory.proofs.Bounds.Steps.{open-sound, open-room, open-more, read-sound, read-room}
 use Rattle.theory.proofs.Bounds.Kinds.{EnvLow, env-more, env-def, plainKids, Pays, kind-keeps}
@@ -64,13 +66,22 @@ close-keeps B cur st k c o some w = record {
     dropped = drop-one (length (st .tables)) (o .1 .tables) (w .keeps .tables-kept)
 
 -- a child in its own thunk takes the scope that its reading pays for
-abbrev scopeFree : Bool → ℕ → ℕ
+abbrev pub scopeFree : Bool → ℕ → ℕ
 scopeFree true c = c
 scopeFree false c = suc c
 
-record Scoped (B : ℕ → Type 0) (t : Bool) (st : State) (k c : ℕ) (o : ℕ × State) : Type 0 where
-  one : KeepsOne B st k (scopeFree t c) o
-  opened : t ≡ true → scopeCount st < scopeCount (o .1)
+pub record Scoped (B : ℕ → Type 0) (t : Bool) (st : State) (k c : ℕ) (o : ℕ × State) : Type 0 where
+  pub one : KeepsOne B st k (scopeFree t c) o
+  pub opened : t ≡ true → scopeCount st < scopeCount (o .1)
+
+pub thunk-sound : (B : ℕ → Type 0) (cur : ℕ) (st : State) → Sound B st → cur < scopeCount st →
+    Sound B (openThunk cur st)
+thunk-sound B cur st h l =
+    open-sound B cur none ([] ∷ st .tables) st h l (λ x i. absurd i) (omega arith) no-more
+  where
+    no-more : (i : ℕ) → InAny i ([] ∷ st .tables) → InAny i (st .tables)
+    no-more i (inl h) = absurd h
+    no-more i (inr h) = h
 
 scoped-keeps : (B : ℕ → Type 0) (t : Bool) (cur : ℕ) (child : ℕ → State → Out) (st : State) (k c : ℕ) → Sound B st →
     cur < scopeCount st → Room st k c → (t ≡ true → 1 ≤ c) →
@@ -85,22 +96,17 @@ scoped-keeps B false cur child st k c h l rm p ch =
 scoped-keeps B true cur child st k zero h l rm p ch = absurd (omega (arith, p refl))
 scoped-keeps B true cur child st k (suc c) h l rm p ch =
     holds-bind (KeepsOne B (openThunk cur st) (suc k) (suc c)) (Scoped B true st (suc k) (suc c)) _ _
-    (ch (scopeCount st) (openThunk cur st) c (open-sound B cur none ([] ∷ st .tables) st h l (λ x i. absurd i)
-    (omega arith) no-more)
+    (ch (scopeCount st) (openThunk cur st) c (thunk-sound B cur st h l)
     (omega (arith, open-more cur none ([] ∷ st .tables) st)) refl (open-room cur none ([] ∷ st .tables) st k c rm))
     λ o w.
     record {
       one = close-keeps B cur st (suc k) (suc c) o (h .tables-open) w;
       opened = λ e. omega (arith, open-more cur none ([] ∷ st .tables) st, w .keeps .more-scopes);
     }
-  where
-    no-more : (i : ℕ) → InAny i ([] ∷ st .tables) → InAny i (st .tables)
-    no-more i (inl h) = absurd h
-    no-more i (inr h) = h
 
 -- ---- trees
 
-free-more : {c : ℕ} (b : Bool) → 1 ≤ c → 1 ≤ scopeFree b c
+pub free-more : {c : ℕ} (b : Bool) → 1 ≤ c → 1 ≤ scopeFree b c
 free-more true l = l
 free-more false l = omega arith
 
@@ -205,9 +211,21 @@ mutual
       (w .one .keeps .room) (λ i e. free-more (thunked op j) (ps i e))) λ os v.
       cons-keeps B op j ts st (o .1) k c (o .0) os (thunked op j) w refl v
 
+-- a tree as an operand, in its own thunk or not
+pub child-keeps : (B : ℕ → Type 0) → B 0 → B 1 → B 2 → (t : Tree) (ids : List ℕ) → TreeHas B t → Fine t →
+    Clear (unbound t ids) →
+    (op j at cur : ℕ) (env : Env) (st : State) (k c : ℕ) → Sound B st → cur < scopeCount st →
+    EnvLow ids env (symCount st) →
+    Room st k c → Pays op c →
+    Holds (Scoped B (thunked op j) st (suc k) c) (internScoped (thunked op j) cur (λ d s. intern t at d env s) st)
+child-keeps B b0 b1 b2 t ids has fine known op j at cur env st k c h l en rm ps =
+    scoped-keeps B (thunked op j) cur (λ d s. intern t at d env s) st k c h l rm (λ e. ps j e) λ d s e hs ls ss rs.
+    intern-keeps B b0 b1 b2 t ids has fine known at d env s k e hs ls
+    (env-more ids env (symCount st) (symCount s) (omega arith) en) rs
+
 -- ---- forests
 
-start-sound : (B : ℕ → Type 0) → Sound B start
+pub start-sound : (B : ℕ → Type 0) → Sound B start
 unfolding start recall
 start-sound B = record {
   few-symbols = omega arith;
@@ -230,7 +248,7 @@ start-sound B = record {
     no-args : (b : ℕ) → b ≡ 0 → Under 0 (argsIn (scopeOf start b .args))
     no-args b e = rw e (λ x i. absurd i)
 
-start-room : Room start 0 0
+pub start-room : Room start 0 0
 unfolding start
 start-room = record { slots-paid = omega arith; scopes-paid = omega arith }
 

@@ -24,7 +24,7 @@ use Rattle.laws.proofs.Apart.{none-some}
 use Rattle.laws.proofs.Members.{Every}
 use Rattle.laws.proofs.Walks.{every-join}
 use Rattle.laws.proofs.ArgLists.{optsIn}
-use Rattle.theory.proofs.Building.Written.{def-size}
+use Rattle.laws.proofs.Trees.{def-size}
 use Rattle.theory.proofs.Bounds.Sound.{RecHas, TreeHas, TreesHave, OptsHave}
 
 abbrev pub Byte : ℕ → Type 0

@@ -1,9 +1,9 @@
 -- A block of definitions and a result: what it unfolds to, and that it is checked if its parts are, one after the
 -- other.
 --
--- In order: definitions, what they bind and the ids they put in force; one more definition; sizes, since a block's
--- child count has to fit 16 bits; what a block unfolds to (`wrap-unfold`), also where `wrapBlock` drops a definition
--- that only renames; that it is checked (`wrap-checked`).
+-- In order: definitions, what they bind and the ids they put in force; one more definition; small definitions, since a
+-- block's child count has to fit 16 bits; what a block unfolds to (`wrap-unfold`), also where `wrapBlock` drops a
+-- definition that only renames; that it is checked (`wrap-checked`).
 -- Scopes uses the laws of one more definition and the two of `wrapBlock`.
 -- Assumes nothing.
 use mathlib.Core.Path.{_≡_, refl, ap, sym, _∙_, subst}
@@ -21,8 +21,9 @@ use Rattle.model.specs.Unfold.{Meaning, meaning, unfoldKind, unfoldItem, unfold
 use Rattle.model.specs.Materialize.{valDefOf, renames, wrapBlock}
 use Rattle.laws.proofs.Members.{and-both}
 use Rattle.laws.proofs.Rows.{many-sizes}
+use Rattle.laws.proofs.Trees.{size-some, many-snoc, sizes-snoc, def-size}
 use Rattle.theory.proofs.Acceptance.Checked.{FitsWith, Checked, CheckedIn, checked-join, nil-checked}
-use Rattle.theory.proofs.Building.Written.{def-size, def-unfold, def-value}
+use Rattle.theory.proofs.Building.Written.{def-unfold, def-value}
 
 -- ---- definitions, one after the other
 
@@ -87,22 +88,7 @@ unfolding snoc
 snoc-some nil r = refl
 snoc-some (cons d ds) r = refl
 
--- ---- sizes
-
-many-snoc : (ds : Trees) (r : Tree) → many (snoc ds r) ≡ suc (many ds)
-unfolding many snoc
-many-snoc nil r = refl
-many-snoc (cons d ds) r = ap suc (many-snoc ds r)
-
-sizes-snoc : (ds : Trees) (r : Tree) → sizes (snoc ds r) ≡ sizes ds + size r
-unfolding snoc sizes
-sizes-snoc nil r = omega arith
-sizes-snoc (cons d ds) r = omega (arith, sizes-snoc ds r)
-
-size-some : (t : Tree) → 1 ≤ size t
-unfolding size
-size-some (node r ts) = omega arith
-
+-- definitions of a small block are small
 small-defs : (ds : Trees) → sizes ds ≤ 65535 → SmallDefs ds
 unfolding sizes
 small-defs nil l = tt

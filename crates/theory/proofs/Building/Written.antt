@@ -12,7 +12,7 @@ use lib.Dec.{eqb}
 use borrow.Author.Tests.{eqb-true}
 use Rattle.model.specs.Lists.{isIn, anyIn, twice}
 use Rattle.model.specs.Bytes.{u32, put32}
-use Rattle.model.specs.Tree.{Rec, rec, Tree, Trees, node, nil, cons, many, top, size}
+use Rattle.model.specs.Tree.{Rec, rec, Tree, Trees, node, nil, cons, many, top}
 use Rattle.model.specs.Shape.{fits, agrees, shapes, shapeOf, bothWays, oneWay, aId, aOpt, _then_, whole}
 use Rattle.model.specs.Binding.{Kind, kind, valUse, valDef, block, lambda, field, other, idOf, inside, after, argIds}
 use Rattle.model.specs.Binding.{argsOf, misplaced, rebound, unbound}
@@ -63,10 +63,6 @@ def-id i v = read-id i (0 ∷ [])
 pub def-after : (i : ℕ) (v : Tree) → after (valDefOf i v) ≡ i ∷ []
 unfolding after valDefOf
 def-after i v = ap (λ (z : ℕ). z ∷ []) (def-id i v)
-
-pub def-size : (i : ℕ) (v : Tree) → size (valDefOf i v) ≡ suc (size v)
-unfolding valDefOf size
-def-size i v = omega arith
 
 pub def-unfold : (i : ℕ) (v : Tree) (ms : Meaning) (d : ℕ) → unfoldAt (valDefOf i v) ms d ≡ unfoldAt v ms d
 unfolding valDefOf unfoldAt unfoldKind unfoldItem kind

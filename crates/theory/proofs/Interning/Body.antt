@@ -21,14 +21,14 @@ use Rattle.model.specs.Unfold.{Unfolded, Unfoldeds, Meaning, bindFrom, unfoldAl
 use Rattle.model.specs.Intern.{func, Sym, Scope, State, Env, Kids, resolve, openScope, finish, allocArgs, internFunc}
 use Rattle.laws.proofs.Holds.{Holds, holds-bind, holds-map}
 use Rattle.laws.proofs.Members.{In, clash}
-use Rattle.laws.proofs.ArgLists.{symsIn, optsIn, boundBy}
+use Rattle.laws.proofs.ArgLists.{symsIn, optsIn, boundBy, withOpts-syms}
 use Rattle.theory.proofs.Meaning.Mean.{Val, bindSyms, meanAll, mean}
 use Rattle.theory.proofs.Meaning.Coincide.{coincide, bindSyms-other}
 use Rattle.theory.proofs.Acceptance.Records.{LamRec}
 use Rattle.theory.proofs.Interning.Good.{noArg, argsAt, arg-of, depsAt, nodeAt, scopeCount, symCount}
 use Rattle.theory.proofs.Interning.Inv.{Args, has-arg, keys, Inv, EnvOk, env-later, Fits, grow-then, fits-back}
 use Rattle.theory.proofs.Interning.Finish.{Step}
-use Rattle.theory.proofs.Interning.Fresh.{ArgsMade, allocArgs-keeps, bindArgs-keys, withOpts-syms}
+use Rattle.theory.proofs.Interning.Fresh.{ArgsMade, allocArgs-keeps, bindArgs-keys}
 use Rattle.theory.proofs.Interning.Fresh.{bindArgs-cases, env-bind, EnvSem, Binds, bindSyms-binds, sem-bind}
 use Rattle.theory.proofs.Interning.Scopes.{open-grows, open-is, open-inv}
 use Rattle.theory.proofs.Interning.Lambda.{lamOf, argsWith, withArgs, BodyRead, LamDone, finish-lambda}
@@ -37,14 +37,20 @@ use Rattle.theory.proofs.Interning.Keep.{Symbols, Unfolding, AllStand, 
 -- ---- the arguments and the body's scope
 
 -- from state st, the arguments of a lambda of record r have been made
-record ArgsDone (st : State) (A : Args) (cur : ℕ) (r : Rec) (md : Symbols) : Type 0 where
+pub record ArgsDone (st : State) (A : Args) (cur : ℕ) (r : Rec) (md : Symbols) : Type 0 where
   pub step : Step st (md .2) A cur (λ fin scs. Unit {0})
       (λ fin scs. ArgsMade fin (symCount st) (symCount (md .2)) (md .0))
   pub many-args : length (md .0) ≡ length (boundBy r)
   pub same-scopes : md .2 .scopes ≡ st .scopes
 
+pub args-done : (at cur : ℕ) (r : Rec) (st : State) (A : Args) →
+    Holds (ArgsDone st A cur r) (allocArgs at cur r (boundBy r) st)
+args-done at cur r st A =
+    holds-map _ (ArgsDone st A cur r) (allocArgs at cur r (boundBy r) st) (allocArgs-keeps at cur r (boundBy r) st A)
+    λ md h. record { step = h .0; many-args = h .1; same-scopes = h .2 }
+
 -- the state in which the body is read
-abbrev opened : ℕ → Symbols → State
+abbrev pub opened : ℕ → Symbols → State
 opened cur md = openScope cur (some (md .0)) (md .2 .tables) (md .2)
 
 module _
@@ -68,14 +74,14 @@ module _
   old-scopes : (b a : ℕ) → b < scopeCount (md .2) → In a (argsAt scs b) → a < symCount st
   old-scopes b a l h = inv .args-low b a (omega (arith, ap length (made .same-scopes))) h
 
-  opened-inv : Inv fin scs (opened cur md) (withArgs r (md .0) A) (scopeCount (md .2))
+  pub opened-inv : Inv fin scs (opened cur md) (withArgs r (md .0) A) (scopeCount (md .2))
   opened-inv =
       open-inv fin scs cur (some (md .0)) (md .2 .tables) (md .2) A (withArgs r (md .0) A) (symCount st) f
       (after-args .0) (λ i h. h) (λ a h. (after-args .1 .fresh a h, after-args .1 .low a h)) old-symbols old-scopes
       (λ i a h. bindArgs-cases i a (boundBy r) (md .0) A h)
 
   module _ {env : Env} (ok : EnvOk fin (symCount st) env A) where
-    opened-env : EnvOk fin (symCount (md .2)) (withArgs r (md .0) env) (withArgs r (md .0) A)
+    pub opened-env : EnvOk fin (symCount (md .2)) (withArgs r (md .0) env) (withArgs r (md .0) A)
     opened-env =
         env-bind fin (symCount (md .2)) (boundBy r) (md .0) env A arg
         (env-later fin (symCount st) (symCount (md .2)) env A (made .step .grows .more-syms) ok)
@@ -194,8 +200,7 @@ module _
   pub internFunc-keeps : (st : State) → Holds (Kept st A cur env (lambdaOf r ts)) (internFunc at cur r env kids st)
   unfolding internFunc argIds
   internFunc-keeps st =
-      holds-bind _ P (allocArgs at cur r (boundBy r) st) _ (allocArgs-keeps at cur r (boundBy r) st A) λ md h.
-      after-made md (record { step = h .0; many-args = h .1; same-scopes = h .2 })
+      holds-bind (ArgsDone st A cur r) P (allocArgs at cur r (boundBy r) st) _ (args-done at cur r st A) after-made
     where
       P : ℕ × State → Type 0
       P o = Kept st A cur env (lambdaOf r ts) o

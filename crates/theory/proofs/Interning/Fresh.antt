@@ -1,9 +1,9 @@
 -- A lambda's argument symbols: fresh, each once, and bound.
 --
--- In order: making them keeps the invariant (`ArgsMade`); laws of `withOpts`, which puts them in the lambda's node, and
--- of `bindArgs`, which binds their ids; the environment inside the lambda is in order (`env-bind`) and means what its
--- symbols stand for (`EnvSem`, `sem-bind`). Lambda takes the lists' laws, Body the rest, before a lambda's body is
--- read, and Operands `sem-one`, at each definition.
+-- In order: making them keeps the invariant (`ArgsMade`); laws of `bindArgs`, which binds their ids; the environment
+-- inside the lambda is in order (`env-bind`) and means what its symbols stand for (`EnvSem`, `sem-bind`). Lambda takes
+-- `ArgsMade`, Body the rest, before a lambda's body is read, and Operands `sem-one`, at each definition.
+-- Not here: laws of `withOpts`, which puts them in the lambda's node (laws, ArgLists).
 -- Assumes nothing.
 use mathlib.Core.Path.{_≡_, refl, ap, sym, _∙_}
 use mathlib.Core.Logic.{_⊎_, inl, inr}
@@ -12,16 +12,16 @@ use mathlib.Core.List.{List, [], _∷_, _++_}
 use Prim.Native.Nat.{ℕ, suc, _-_, _≤_, _<_}
 use native.Mathlib.Omega.{arith}
 use lib.Dec.{eqb, ltb}
-use lib.ListN.{length, length-map}
+use lib.ListN.{length}
 use borrow.Author.Tests.{eqb-false, eq-eqb, ne-eqb}
 use Rattle.model.specs.Tree.{Rec}
 use Rattle.model.specs.Unfold.{Unfolded, arg, Meaning, meaning, bindFrom}
-use Rattle.model.specs.Intern.{argument, func, Sym, Scope, State, Env, push, alloc, allocArgs, withOpts, bindArgs}
+use Rattle.model.specs.Intern.{argument, func, Sym, Scope, State, Env, push, alloc, allocArgs, bindArgs}
 use Rattle.model.specs.Intern.{resolve}
 use Rattle.laws.proofs.Apart.{false-true}
 use Rattle.laws.proofs.Holds.{Holds, holds-bind, holds-guard}
 use Rattle.laws.proofs.Members.{In}
-use Rattle.laws.proofs.ArgLists.{ArgList, symsIn, optsIn}
+use Rattle.laws.proofs.ArgLists.{ArgList, symsIn}
 use Rattle.theory.proofs.Meaning.Mean.{Val, bindSyms, mean}
 use Rattle.theory.proofs.Meaning.Coincide.{mean-arg}
 use Rattle.laws.proofs.Once.{Once}
@@ -156,23 +156,6 @@ allocArgs-keeps at cur r (x ∷ xs) st A =
       ap suc (hos .1),
       hos .2 ∙ ho .3,
     )
-
--- ---- a list of arguments with its symbols
-
-pub withOpts-syms : (xs : ArgList) (ss : List ℕ) → length ss ≡ length xs → symsIn (withOpts xs ss) ≡ ss
-withOpts-syms [] [] e = refl
-withOpts-syms [] (a ∷ ss) e = absurd (omega arith)
-withOpts-syms (x ∷ xs) [] e = absurd (omega arith)
-withOpts-syms (x ∷ xs) (a ∷ ss) e = ap (λ (l : List ℕ). a ∷ l) (withOpts-syms xs ss (omega arith))
-
-pub withOpts-opts : (xs : ArgList) (ss : List ℕ) → length ss ≡ length xs → optsIn (withOpts xs ss) ≡ optsIn xs
-withOpts-opts [] [] e = refl
-withOpts-opts [] (a ∷ ss) e = absurd (omega arith)
-withOpts-opts (x ∷ xs) [] e = absurd (omega arith)
-withOpts-opts (x ∷ xs) (a ∷ ss) e = ap (λ (l : List (List ℕ)). x .1 ∷ l) (withOpts-opts xs ss (omega arith))
-
-pub withOpts-length : (xs : ArgList) (ss : List ℕ) → length ss ≡ length xs → length (withOpts xs ss) ≡ length xs
-withOpts-length xs ss e = sym (length-map (withOpts xs ss) (λ x. x .0)) ∙ (ap length (withOpts-syms xs ss e) ∙ e)
 
 -- ---- ids bound to symbols
 

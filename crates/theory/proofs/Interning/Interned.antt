@@ -32,7 +32,7 @@ use Rattle.theory.proofs.Interning.Walk.{internAll-keeps}
 
 -- ---- the start
 
-start-inv : (fin : List Sym) (scs : List Scope) → getD scs 0 rootScope ≡ rootScope → Inv fin scs start [] 0
+pub start-inv : (fin : List Sym) (scs : List Scope) → getD scs 0 rootScope ≡ rootScope → Inv fin scs start [] 0
 unfolding start recall
 start-inv fin scs e = record {
   good = λ i l. absurd (omega arith);

@@ -27,7 +27,7 @@ use Rattle.model.specs.Intern.{Node, constant, unparsed, argument, func, operat
 use Rattle.model.specs.Intern.{lookup, unionDeps, push, placement, alloc, finish, bindArgs, withOpts}
 use Rattle.laws.proofs.Holds.{Holds, holds-guard}
 use Rattle.laws.proofs.Members.{In, clash, without-keeps, without-cases, in-or-not, in-one}
-use Rattle.laws.proofs.ArgLists.{symsIn, optsIn, boundBy}
+use Rattle.laws.proofs.ArgLists.{symsIn, optsIn, boundBy, withOpts-syms, withOpts-opts, withOpts-length}
 use Rattle.theory.proofs.Meaning.Mean.{Val, bindSyms, meanAll, mean}
 use Rattle.theory.proofs.Meaning.Coincide.{mean-lam, coincide, bindSyms-other, AgreeOn}
 use Rattle.theory.proofs.Acceptance.Records.{LamRec}
@@ -38,8 +38,7 @@ use Rattle.theory.proofs.Interning.Inv.{grow-none, fits-back, out-low}
 use Rattle.theory.proofs.Interning.Push.{push-grows, push-is, push-more, push-inv, unionDeps-covers}
 use Rattle.theory.proofs.Interning.Push.{unionDeps-from}
 use Rattle.theory.proofs.Interning.Finish.{Result, lookup-found, isKey-true}
-use Rattle.theory.proofs.Interning.Fresh.{ArgsMade, withOpts-syms, withOpts-opts, withOpts-length}
-use Rattle.theory.proofs.Interning.Fresh.{bindArgs-cases, bindArgs-old, bindArgs-new}
+use Rattle.theory.proofs.Interning.Fresh.{ArgsMade, bindArgs-cases, bindArgs-old, bindArgs-new}
 use Rattle.theory.proofs.Interning.Scopes.{leave-inv, pair-of}
 
 -- ---- a lambda's meaning, and its body

@@ -41,8 +41,8 @@ KeptIn t st A cur env u o =
     Step st (o .1) A cur (InForce st env A)
     (λ fin scs. Stands fin (symCount (o .1)) A env (o .0) u × (t ≡ true → PairOk fin scs (o .0) (scopeCount st)))
 
-module _ (cur : ℕ) (st : State) (A : Args) (env : Env) (u : Unfolding) where
-  thunk-opens : (fin : List Sym) (scs : List Scope) → Fits fin scs (openThunk cur st) → Inv fin scs st A cur →
+module _ (cur : ℕ) (st : State) (A : Args) where
+  pub thunk-opens : (fin : List Sym) (scs : List Scope) → Fits fin scs (openThunk cur st) → Inv fin scs st A cur →
       Inv fin scs (openThunk cur st) A (scopeCount st)
   thunk-opens fin scs f inv =
       open-inv fin scs cur none ([] ∷ st .tables) st A A (symCount st) f inv tables
@@ -66,6 +66,7 @@ module _ (cur : ℕ) (st : State) (A : Args) (env : Env) (u : Unfolding) where
       tables i [] h = h
       tables i (t ∷ ts) h = inr h
 
+module _ (cur : ℕ) (st : State) (A : Args) (env : Env) (u : Unfolding) where
   thunk-kept : (o : ℕ × State) → Kept (openThunk cur st) A (scopeCount st) env u o →
       KeptIn true st A cur env u (o .0, closeThunk (o .1))
   thunk-kept o k = record {
@@ -73,8 +74,8 @@ module _ (cur : ℕ) (st : State) (A : Args) (env : Env) (u : Unfolding) where
     keeps = λ fin scs f inv ok.
         let f₁ = fits-back fin scs (o .1) (closeThunk (o .1)) closes f in
         let f₂ = fits-back fin scs (openThunk cur st) (o .1) (k .grows) f₁ in
-        let w = k .keeps fin scs f₁ (thunk-opens fin scs f₂ inv) ok in
-        let left = thunk-closes fin scs (o .1) f₂ inv (grows .more-scopes) (w .0) in
+        let w = k .keeps fin scs f₁ (thunk-opens cur st A fin scs f₂ inv) ok in
+        let left = thunk-closes cur st A fin scs (o .1) f₂ inv (grows .more-scopes) (w .0) in
         (left, (w .1, λ e. pair-of fin scs (o .1) A (scopeCount st) (o .0) (w .0) (w .1 .result .low)));
   }
     where
@@ -137,7 +138,7 @@ env-more {fin} {n} {env} {A} i {s} res h = record {
     deps j a true f k d = res .within a d
     deps j a false f k d = h .deps-in j a (rest j f k) d
 
-bindDef-env : {fin : List Sym} {n : ℕ} {env : Env} {A : Args} (t : Tree) {s : ℕ} →
+pub bindDef-env : {fin : List Sym} {n : ℕ} {env : Env} {A : Args} (t : Tree) {s : ℕ} →
     Result fin n A s → EnvOk fin n env A → EnvOk fin n (bindDef t s env) A
 unfolding bindDef
 bindDef-env {fin} {n} {env} {A} t {s} res h = go (isDef t)

@@ -1,7 +1,7 @@
 -- Interning keeps the meaning: the symbol of a tree that checks 4, 5, 8, 9 and 10 let through stands for the tree.
 --
 -- In order: what a record's kind says of its children; a record, by its kind (`internKind-keeps`); trees, by induction
--- (`intern-keeps`, `internAll-keeps`).
+-- (`intern-keeps`, `internAll-keeps`); an operand (`child-keeps`).
 -- Interned uses `internAll-keeps`.
 -- Assumes nothing.
 use mathlib.Core.Path.{_≡_, refl, ap, sym}
@@ -18,7 +18,7 @@ use Rattle.model.specs.Binding.{Kind, kind, valUse, valDef, block, lambda, fiel
 use Rattle.model.specs.Binding.{argIds}
 use Rattle.model.specs.Unfold.{unfoldKind, unfoldAt, unfoldAll, unfoldLast}
 use Rattle.model.specs.Intern.{Sym, Scope, State, Env, Kids, resolve, read, thunked, bindDef, internKind, intern}
-use Rattle.model.specs.Intern.{internAll}
+use Rattle.model.specs.Intern.{internScoped, internAll}
 use Rattle.laws.proofs.Holds.{Holds, holds-bind, holds-guard, holds-map}
 use Rattle.laws.proofs.Members.{In, clash, isIn-true, in-right, or-neither, anyIn-false}
 use Rattle.theory.proofs.Acceptance.Checked.{Checked, CheckedIn, checked-head, checked-tail, checked-kids}
@@ -35,7 +35,7 @@ use Rattle.theory.proofs.Interning.Operands.{KeptIn, internScoped-keeps
 
 -- ---- a record's kind and its children
 
-isBlock-is : (r : Rec) (k : Kind) → kind (r .shape) ≡ k → isBlock r ≡
+pub isBlock-is : (r : Rec) (k : Kind) → kind (r .shape) ≡ k → isBlock r ≡
     elim k [ valUse ↦ false | valDef ↦ false | block ↦ true | lambda ↦ false | field ↦ false | other ↦ false ]
 unfolding kind
 isBlock-is r valUse e = rw (kind-shape (r .shape) valUse e .shape)
@@ -143,26 +143,27 @@ module _
 -- ---- trees
 
 -- a reading counts, and changes no more
+pub read-inv : {st : State} {A : Args} {cur : ℕ} {fin : List Sym} {scs : List Scope} → Inv fin scs st A cur →
+    Inv fin scs (read st) A cur
+read-inv inv = record {
+  good = inv .good;
+  cur-low = inv .cur-low;
+  chain = inv .chain;
+  tables-ok = inv .tables-ok;
+  memo-ok = inv .memo-ok;
+  args-low = inv .args-low;
+  arg-low = inv .arg-low;
+  lam-ok = inv .lam-ok;
+  arg-scope = inv .arg-scope;
+  place-ok = inv .place-ok;
+}
+
 read-kept : {st : State} {A : Args} {cur : ℕ} {env : Env} {u : Unfolding} {o : ℕ × State} →
     Kept (read st) A cur env u o → Kept st A cur env u o
 read-kept {st} {A} {cur} {o} k = record {
   grows = grow-then st (read st) (o .1) (grow-same st (read st) refl refl) (k .grows);
-  keeps = λ fin scs f inv ok. k .keeps fin scs f (counted fin scs inv) ok;
+  keeps = λ fin scs f inv ok. k .keeps fin scs f (read-inv inv) ok;
 }
-  where
-    counted : (fin : List Sym) (scs : List Scope) → Inv fin scs st A cur → Inv fin scs (read st) A cur
-    counted fin scs inv = record {
-      good = inv .good;
-      cur-low = inv .cur-low;
-      chain = inv .chain;
-      tables-ok = inv .tables-ok;
-      memo-ok = inv .memo-ok;
-      args-low = inv .args-low;
-      arg-low = inv .arg-low;
-      lam-ok = inv .lam-ok;
-      arg-scope = inv .arg-scope;
-      place-ok = inv .place-ok;
-    }
 
 mutual
   unfolding intern unfoldAt
@@ -190,3 +191,12 @@ mutual
       (internAll-keeps ts op (suc j) (at + size t) cur (bindDef t (o .0) env) A b (o .1)
       (rw (bindDef-keys t (o .0) env) (checked-tail t ts b (keys env) c))) λ os k.
       cons-keeps op j cur env A b t ts st c o os h k
+
+-- the first of some operands, in its own thunk or not
+pub child-keeps : (t : Tree) (ts : Trees) (op j at cur : ℕ) (env : Env) (A : Args) (b : Bool) (st : State) →
+    CheckedIn (cons t ts) b (keys env) →
+    Holds (KeptIn (thunked op j) st A cur env (unfoldAt t))
+    (internScoped (thunked op j) cur (λ c s. intern t at c env s) st)
+child-keeps t ts op j at cur env A b st c =
+    internScoped-keeps cur st A env (unfoldAt t) (thunked op j) (λ c s. intern t at c env s)
+    (λ sc s. intern-keeps t at sc env A (b && not (isNil ts)) s (checked-head t ts b (keys env) c))

@@ -1,0 +1,107 @@
+-- A lambda's arguments numbered: which ids the argument symbols get, and that a literal is written from opts alone.
+--
+-- In order: consecutive numbers; the arguments of a literal with consecutive symbols, n from `first` on: how many they
+-- are, what is written of them, and the ids that they are given (`given-new`, `given-before`, `given-after`).
+-- Assumes nothing.
+use mathlib.Core.Path.{_≡_, refl, ap, sym, _∙_}
+use mathlib.Core.Bool.{Bool, true, false}
+use mathlib.Core.Option.{Option, some}
+use mathlib.Core.List.{List, [], _∷_, _++_}
+use Prim.Native.Nat.{ℕ, zero, suc, _+_, _-_, _≤_, _<_}
+use native.Mathlib.Omega.{arith}
+use lib.Dec.{eqb}
+use lib.ListN.{length}
+use borrow.Author.Tests.{eqb-true, eqb-false, eq-eqb, ne-eqb}
+use Rattle.model.specs.Bytes.{put32}
+use Rattle.model.specs.Intern.{withOpts, Env}
+use Rattle.model.specs.Materialize.{idGiven, argLit, argEnv}
+use Rattle.laws.specs.Range.{range}
+use Rattle.laws.proofs.ArgLists.{ArgList, withOpts-length}
+
+pub range-length : (first n : ℕ) → length (range first n) ≡ n
+unfolding range
+range-length first zero = refl
+range-length first (suc n) = ap suc (range-length (suc first) n)
+
+-- ---- an id given
+
+given-same : (s i t : ℕ) (env : Env) → s ≡ t → idGiven ((s, i) ∷ env) t ≡ some i
+unfolding idGiven
+given-same s i t env e = rw (eq-eqb s t e, idGiven)
+
+given-other : (s i t : ℕ) (env : Env) → (s ≡ t → ⊥) → idGiven ((s, i) ∷ env) t ≡ idGiven env t
+unfolding idGiven
+given-other s i t env n = rw (ne-eqb s t n, idGiven)
+
+-- ---- arguments with other symbols
+
+-- only opts are written
+lit-same : (last : ℕ) (xs : ArgList) (ss : List ℕ) → length ss ≡ length xs →
+    argLit last (withOpts xs ss) ≡ argLit last xs
+unfolding argLit
+lit-same last [] ss e = refl
+lit-same last (x ∷ xs) [] e = absurd (omega arith)
+lit-same last (x ∷ xs) (s ∷ ss) e =
+    ap (λ (l : List ℕ). put32 (suc last) ++ (x .1 ++ l)) (lit-same (suc last) xs ss (omega arith))
+
+module _ (s : ℕ) where
+  before : (xs : ArgList) (first last : ℕ) (env : Env) → s < first →
+      idGiven (argEnv last (withOpts xs (range first (length xs))) env) s ≡ idGiven env s
+  unfolding range
+  before [] first last env l = refl
+  before (x ∷ xs) first last env l =
+      before xs (suc first) (suc last) ((first, suc last) ∷ env) (omega arith)
+      ∙ given-other first (suc last) s env (λ e. omega arith)
+
+  past : (xs : ArgList) (first last : ℕ) (env : Env) → first + length xs ≤ s →
+      idGiven (argEnv last (withOpts xs (range first (length xs))) env) s ≡ idGiven env s
+  unfolding range
+  past [] first last env l = refl
+  past (x ∷ xs) first last env l =
+      past xs (suc first) (suc last) ((first, suc last) ∷ env) (omega arith)
+      ∙ given-other first (suc last) s env (λ e. omega arith)
+
+  new : (xs : ArgList) (first last : ℕ) (env : Env) → first ≤ s → s < first + length xs →
+      idGiven (argEnv last (withOpts xs (range first (length xs))) env) s ≡ some (last + 1 + (s - first))
+  unfolding range
+  new [] first last env l h = absurd (omega arith)
+  new (x ∷ xs) first last env l h =
+      go (eqb first s) refl (λ k. new xs (suc first) (suc last) ((first, suc last) ∷ env) k (omega arith))
+    where
+      rest : Option ℕ
+      rest = idGiven (argEnv (suc last) (withOpts xs (range (suc first) (length xs))) ((first, suc last) ∷ env)) s
+
+      go : (b : Bool) → eqb first s ≡ b → (suc first ≤ s → rest ≡ some (suc last + 1 + (s - suc first))) →
+          rest ≡ some (last + 1 + (s - first))
+      go true e k =
+          let f = eqb-true first s e in
+          let z : suc last ≡ last + 1 + (s - first) = omega arith in
+          before xs (suc first) (suc last) ((first, suc last) ∷ env) (omega arith)
+          ∙ (given-same first (suc last) s env f ∙ ap (λ (i : ℕ). some i) z)
+      go false e k =
+          let f = eqb-false first s e in
+          let a : suc first ≤ s = omega arith in
+          let z : suc last + 1 + (s - suc first) ≡ last + 1 + (s - first) = omega arith in
+          k a ∙ ap (λ (i : ℕ). some i) z
+
+-- ---- n arguments, their symbols from `first` on
+
+module _ (first n : ℕ) (xs : ArgList) (count : length xs ≡ n) where
+  pub withRange-length : length (withOpts xs (range first n)) ≡ n
+  withRange-length = withOpts-length xs (range first n) (range-length first n ∙ sym count) ∙ count
+
+  pub withRange-lit : (last : ℕ) → argLit last (withOpts xs (range first n)) ≡ argLit last xs
+  withRange-lit last = lit-same last xs (range first n) (range-length first n ∙ sym count)
+
+  module _ (env : Env) (last s : ℕ) where
+    -- an argument's id
+    pub given-new : first ≤ s → s < first + n →
+        idGiven (argEnv last (withOpts xs (range first n)) env) s ≡ some (last + 1 + (s - first))
+    given-new l h = rw (← count) (new s xs first last env l (omega arith))
+
+    -- no other symbol gets one
+    pub given-before : s < first → idGiven (argEnv last (withOpts xs (range first n)) env) s ≡ idGiven env s
+    given-before l = rw (← count) (before s xs first last env l)
+
+    pub given-after : first + n ≤ s → idGiven (argEnv last (withOpts xs (range first n)) env) s ≡ idGiven env s
+    given-after l = rw (← count) (past s xs first last env (omega arith))

@@ -1,0 +1,174 @@
+-- Rows, sizes and depths of trees that are put together: what a tree's planned rows add up to.
+--
+-- In order: one node; lists of one tree; a list with one more tree (`snoc`), and lists joined (`joinT`); a use and a
+-- definition.
+-- Not here: that a tree has as many rows as records (`size-rows`, Rows).
+-- Assumes nothing.
+use mathlib.Core.Path.{_≡_, refl, ap, sym}
+use mathlib.Core.List.{List, [], _∷_, _++_, append-assoc, append-nil}
+use Prim.Native.Nat.{ℕ, suc, _+_, _≤_, max}
+use native.Mathlib.Omega.{arith}
+use Rattle.model.specs.Bytes.{put32}
+use Rattle.model.specs.Tree.{Rec, rec, Row, Tree, Trees, node, nil, cons, many, snoc, size, sizes, depth, depths, rows}
+use Rattle.model.specs.Tree.{rowsOf}
+use Rattle.model.specs.Materialize.{valUseOf, valDefOf}
+use Rattle.laws.specs.Defining.{joinT}
+
+-- ---- one node
+
+module _ (r : Rec) (ts : Trees) where
+  pub node-rows : rows (node r ts) ≡ record { rec = r; kids = many ts } ∷ rowsOf ts
+  unfolding rows
+  node-rows = refl
+
+  pub node-size : size (node r ts) ≡ suc (sizes ts)
+  unfolding size
+  node-size = refl
+
+  pub node-depth : depth (node r ts) ≡ suc (depths ts)
+  unfolding depth
+  node-depth = refl
+
+-- a node without children
+module _ (r : Rec) where
+  pub leaf-rows : rows (node r nil) ≡ record { rec = r; kids = 0 } ∷ []
+  unfolding rows many
+  leaf-rows = refl
+
+  pub leaf-size : size (node r nil) ≡ 1
+  unfolding size
+  leaf-size = refl
+
+  pub leaf-depth : depth (node r nil) ≡ 1
+  unfolding depth
+  leaf-depth = refl
+
+-- a node with one child
+module _ (r : Rec) (t : Tree) where
+  pub one-rows : rows (node r (cons t nil)) ≡ record { rec = r; kids = 1 } ∷ rows t
+  unfolding rows many
+  one-rows = ap (λ (l : List Row). record { rec = r; kids = 1 } ∷ l) (append-nil (rows t))
+
+  pub one-size : size (node r (cons t nil)) ≡ suc (size t)
+  unfolding size
+  one-size = omega arith
+
+  pub one-depth : depth (node r (cons t nil)) ≡ suc (depth t)
+  unfolding depth
+  one-depth = omega arith
+
+pub size-some : (t : Tree) → 1 ≤ size t
+unfolding size
+size-some (node r ts) = omega arith
+
+pub depth-some : (t : Tree) → 1 ≤ depth t
+unfolding depth
+depth-some (node r ts) = omega arith
+
+-- a tree is no deeper than it has records
+mutual
+  unfolding size depth
+
+  pub depth-size : (t : Tree) → depth t ≤ size t
+  depth-size (node r ts) = omega (arith, depths-sizes ts)
+
+  depths-sizes : (ts : Trees) → depths ts ≤ sizes ts
+  depths-sizes nil = omega arith
+  depths-sizes (cons t ts) = omega (arith, depth-size t, depths-sizes ts)
+
+-- ---- one tree more at the front
+
+module _ (t : Tree) (ts : Trees) where
+  pub cons-rows : rowsOf (cons t ts) ≡ rows t ++ rowsOf ts
+  unfolding rows
+  cons-rows = refl
+
+  pub cons-size : sizes (cons t ts) ≡ size t + sizes ts
+  unfolding size
+  cons-size = refl
+
+  pub cons-depth : depths (cons t ts) ≡ max (depth t) (depths ts)
+  unfolding depth
+  cons-depth = refl
+
+-- ---- and at the end
+
+pub many-snoc : (ts : Trees) (t : Tree) → many (snoc ts t) ≡ suc (many ts)
+unfolding many snoc
+many-snoc nil t = refl
+many-snoc (cons u ts) t = ap suc (many-snoc ts t)
+
+pub rows-snoc : (ts : Trees) (t : Tree) → rowsOf (snoc ts t) ≡ rowsOf ts ++ rows t
+unfolding rows snoc
+rows-snoc nil t = append-nil (rows t)
+rows-snoc (cons u ts) t = rw (rows-snoc ts t) (sym (append-assoc (rows u) (rowsOf ts) (rows t)))
+
+pub sizes-snoc : (ts : Trees) (t : Tree) → sizes (snoc ts t) ≡ sizes ts + size t
+unfolding size snoc
+sizes-snoc nil t = omega arith
+sizes-snoc (cons u ts) t = omega (arith, sizes-snoc ts t)
+
+pub depths-snoc : (ts : Trees) (t : Tree) → depths (snoc ts t) ≡ max (depths ts) (depth t)
+unfolding depth snoc
+depths-snoc nil t = omega arith
+depths-snoc (cons u ts) t = omega (arith, depths-snoc ts t)
+
+-- ---- trees, and then trees
+
+pub join-nil : (ts : Trees) → joinT ts nil ≡ ts
+unfolding joinT
+join-nil nil = refl
+join-nil (cons t ts) = ap (cons t) (join-nil ts)
+
+pub join-snoc : (ts : Trees) (t : Tree) (us : Trees) → joinT (snoc ts t) us ≡ joinT ts (cons t us)
+unfolding joinT snoc
+join-snoc nil t us = refl
+join-snoc (cons u ts) t us = ap (cons u) (join-snoc ts t us)
+
+pub many-join : (ts us : Trees) → many (joinT ts us) ≡ many ts + many us
+unfolding many joinT
+many-join nil us = omega arith
+many-join (cons t ts) us = omega (arith, many-join ts us)
+
+pub rows-join : (ts us : Trees) → rowsOf (joinT ts us) ≡ rowsOf ts ++ rowsOf us
+unfolding rows joinT
+rows-join nil us = refl
+rows-join (cons t ts) us = rw (rows-join ts us) (sym (append-assoc (rows t) (rowsOf ts) (rowsOf us)))
+
+pub sizes-join : (ts us : Trees) → sizes (joinT ts us) ≡ sizes ts + sizes us
+unfolding size joinT
+sizes-join nil us = omega arith
+sizes-join (cons t ts) us = omega (arith, sizes-join ts us)
+
+pub depths-join : (ts us : Trees) → depths (joinT ts us) ≡ max (depths ts) (depths us)
+unfolding depth joinT
+depths-join nil us = omega arith
+depths-join (cons t ts) us = omega (arith, depths-join ts us)
+
+-- ---- a use, and a definition
+
+module _ (i : ℕ) where
+  pub use-rows : rows (valUseOf i) ≡ record { rec = rec 7 0x72 0 (put32 i); kids = 0 } ∷ []
+  unfolding valUseOf
+  use-rows = leaf-rows (rec 7 0x72 0 (put32 i))
+
+  pub use-size : size (valUseOf i) ≡ 1
+  unfolding valUseOf
+  use-size = leaf-size (rec 7 0x72 0 (put32 i))
+
+  pub use-depth : depth (valUseOf i) ≡ 1
+  unfolding valUseOf
+  use-depth = leaf-depth (rec 7 0x72 0 (put32 i))
+
+module _ (i : ℕ) (v : Tree) where
+  pub def-rows : rows (valDefOf i v) ≡ record { rec = rec 10 0xD6 0 (put32 i ++ (0 ∷ [])); kids = 1 } ∷ rows v
+  unfolding valDefOf
+  def-rows = one-rows (rec 10 0xD6 0 (put32 i ++ (0 ∷ []))) v
+
+  pub def-size : size (valDefOf i v) ≡ suc (size v)
+  unfolding valDefOf
+  def-size = one-size (rec 10 0xD6 0 (put32 i ++ (0 ∷ []))) v
+
+  pub def-depth : depth (valDefOf i v) ≡ suc (depth v)
+  unfolding valDefOf
+  def-depth = one-depth (rec 10 0xD6 0 (put32 i ++ (0 ∷ []))) v
