@@ -51,6 +51,13 @@ env-kept us ws (suc n) h =
     let e : entryAt us n ≡ entryAt ws n = h n (omega arith) in
     rw (env-kept us ws n (λ j lt. h j (omega arith))) (ap (λ (x : ℕ × ℕ). x ∷ envOf ws n) e)
 
+-- by words
+pub env-words : (us ws : List ℕ) (n : ℕ)
+    → ((k : ℕ) → 8456 ≤ k → k < 8456 + 2 * n → getD us k 0 ≡ getD ws k 0) → envOf us n ≡ envOf ws n
+env-words us ws n h =
+    env-kept us ws n
+    (λ j lt. rw (h (8456 + 2 * j) (omega arith) (omega arith), h (8456 + 2 * j + 1) (omega arith) (omega arith)))
+
 -- ---- one more entry
 
 module _ (ws : List ℕ) (k id symbol : ℕ) where

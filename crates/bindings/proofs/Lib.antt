@@ -1,2 +1,4 @@
 -- Laws of bindings in words, for this crate's functions and for callers. Assumes nothing.
 pub mod Laws
+pub mod Args
+pub mod Made

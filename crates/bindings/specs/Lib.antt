@@ -1,2 +1,3 @@
 -- What the contracts of bindings cite. Assumes nothing.
 pub mod Bindings
+pub mod Made

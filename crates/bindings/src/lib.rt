@@ -1,9 +1,16 @@
 // Ids in force with their symbols, in work words: two words to an entry, the newest entry last.
+// In order: the symbol of an id; one more entry; what a lambda and a definition bind.
 ghost use mathlib.Core.Path.{_≡_};
 ghost use Prim.Native.Nat.{_+_, _*_, _<_, _≤_};
 ghost use lib.ListN.{length};
+ghost use Rattle.model.specs.Forest.{recordCount};
+ghost use Rattle.model.specs.Binding.{argsOf};
 ghost use Rattle.model.specs.Intern.{resolve};
-ghost use Rattle.bindings.specs.Bindings.{envOf, bound};
+ghost use Rattle.laws.specs.Range.{range};
+ghost use Rattle.shape.specs.Args.{Left};
+ghost use Rattle.walk.specs.Walk.{recAt, Sound};
+ghost use Rattle.bindings.specs.Bindings.{envOf, bound, pairsOf, boundAll};
+ghost use Rattle.bindings.specs.Made.{ArgsBound, DefBound};
 
 // The symbol of an id among the first n entries, by the newest that has it. Rules out: by the oldest; the id itself.
 pub fn resolve(work: &[u32], n: usize, id: u32) -> u32
@@ -28,4 +35,61 @@ pub fn bind(work: &mut [u32], k: usize, id: u32, symbol: u32)
 {
     work[8456 + 2 * k] = id;
     work[8456 + 2 * k + 1] = symbol;
+}
+
+// ---- what a lambda and a definition bind
+
+fn wide(x: u8) -> usize
+    ensures { λ r. ⌜ (r ≡ x) × (r < 256) ⌝ }
+{
+    x as usize
+}
+
+// Binds the n arguments of a literal to the symbols from `first` on, above top entries.
+fn bind_all(lit: &[u8], work: &mut [u32], n: usize, top: usize, first: u32)
+    requires { ⌜ Left n (now lit) 0 ⌝ }
+    requires { ⌜ (n ≤ 15) × (top + n ≤ 1200) × (10856 ≤ length (now work)) × (first ≤ 512) ⌝ }
+    ensures { λ _. ⌜ now (work .exit)
+        ≡ boundAll (now (work .entry)) top (pairsOf (argsOf n (now (lit .entry))) (range first n)) ⌝ }
+{
+    let mut at = 0;
+    let mut k = n;
+    let mut symbol = first;
+    while 0 < k {
+        k -= 1;
+        let id = shape::id_at(lit, at);
+        bind(work, top + k, id, symbol);
+        at = shape::arg_end(lit, at);
+        symbol += 1;
+    }
+}
+
+// Binds the arguments of lambda i to the symbols from `first` on, above top entries, the first argument newest.
+// Rules out: the last argument newest; every argument bound to the first symbol.
+pub fn bind_args(forest: &[u8], work: &mut [u32], i: usize, top: usize, first: u32) -> usize
+    requires { ⌜ Sound (now forest) ⌝ }
+    requires { ⌜ (i < recordCount (now forest)) × (recAt (now forest) i .shape ≡ 12) ⌝ }
+    requires { ⌜ (top + 15 ≤ 1200) × (10856 ≤ length (now work)) × (first ≤ 512) ⌝ }
+    ensures { λ r. ⌜ ArgsBound (now (forest .entry)) i top first (now (work .entry)) (now (work .exit)) r ⌝ }
+{
+    let n = wide(record::aux(forest, i));
+    let lit = record::literal(forest, i);
+    bind_all(lit, work, n, top, first);
+    top + n
+}
+
+// Binds what record i's subtree, whose symbol is given, binds in its later siblings.
+// Rules out: a lambda's arguments; a use's id; the symbol under another record's id.
+pub fn bind_def(forest: &[u8], work: &mut [u32], i: usize, top: usize, symbol: u32) -> usize
+    requires { ⌜ Sound (now forest) ⌝ }
+    requires { ⌜ (i < recordCount (now forest)) × (top < 1200) × (10856 ≤ length (now work)) ⌝ }
+    ensures { λ r. ⌜ DefBound (now (forest .entry)) i top symbol (now (work .entry)) (now (work .exit)) r ⌝ }
+{
+    if record::shape(forest, i) != 10 {
+        return top;
+    }
+    let lit = record::literal(forest, i);
+    let id = shape::id_at(lit, 0);
+    bind(work, top, id, symbol);
+    top + 1
 }

@@ -1,0 +1,53 @@
+-- A symbol that is there already: the last of some pending children, or what an id stands for. In order: the last; that
+-- it is a symbol; an id; such a symbol as an answer. The second and the last are for callers.
+-- Assumes nothing.
+use Prim.Native.Nat.{ℕ, zero, suc, _+_, _-_, _<_}
+use mathlib.Core.Path.{_≡_, ap, _∙_, subst, sym}
+use mathlib.Core.List.{List}
+use native.Mathlib.Omega.{arith}
+use lib.ListN.{getD, drop}
+use Rattle.model.specs.Bytes.{u32}
+use Rattle.model.specs.Lists.{last}
+use Rattle.model.specs.Tree.{Rec}
+use Rattle.model.specs.Binding.{idOf}
+use Rattle.model.specs.Answer.{good}
+use Rattle.symbols.specs.Words.{wordsFrom, pendingFrom}
+use Rattle.interner.specs.declared.State.{State}
+use Rattle.interner.specs.declared.Step.{Step}
+use Rattle.interner.specs.State.{absOf, Rep}
+use Rattle.interner.specs.Step.{given, Answers}
+use Rattle.interner.proofs.Sharing.{leaves-none, out-given}
+
+-- ---- the last
+
+last-word : (ws : List ℕ) (at n : ℕ) → last (wordsFrom ws at (suc n)) ≡ getD ws (at + n) 0
+unfolding last wordsFrom
+last-word ws at zero = let e : at + 0 ≡ at = omega arith in rw e
+last-word ws at (suc n) = let e : at + suc n ≡ suc at + n = omega arith in rw e (last-word ws (suc at) n)
+
+pub last-pending : (ws : List ℕ) (held count : ℕ) → 0 < count →
+    last (pendingFrom ws held count) ≡ getD ws (8200 + held + count - 1) 0
+last-pending ws held zero lt = absurd (omega arith)
+last-pending ws held (suc n) lt =
+    let e : 8200 + held + n ≡ 8200 + held + suc n - 1 = omega arith in last-word ws (8200 + held) n ∙ rw e
+
+-- ---- that it is a symbol
+
+pub last-low : (ws : List ℕ) (held count n : ℕ) → 0 < count →
+    ((k : ℕ) → k < count → getD ws (8200 + held + k) 0 < n) → last (pendingFrom ws held count) < n
+last-low ws held zero n lt h = absurd (omega arith)
+last-low ws held (suc m) n lt h = rw (last-word ws (8200 + held) m) (h m (omega arith))
+
+-- ---- an id
+
+pub use-id : (r : Rec) (lit : List ℕ) (id : ℕ) → id ≡ u32 (drop 0 lit) → lit ≡ r .lit → id ≡ idOf r
+unfolding idOf
+use-id r lit id e f = e ∙ ap u32 f
+
+-- ---- such a symbol as an answer
+
+pub given-answers : (bs ws : List ℕ) (st : State) (s : ℕ) (r : Step) → Rep bs ws st → s < st .symbols → r ≡ given st s →
+    Answers bs ws st (good (s, absOf bs ws st)) ws r
+given-answers bs ws st s r rep low e =
+    subst (Answers bs ws st (good (s, absOf bs ws st)) ws) (sym e)
+    (record { rep = rep; leaves = leaves-none ws st; low = low; is = out-given bs ws st s })

@@ -1,0 +1,173 @@
+-- The symbol of a record's key. In order: a record's node by its shape; a record with no children; room; a node that is
+-- no lambda; a lambda.
+-- Assumes nothing.
+use Prim.Native.Nat.{ℕ, _<_}
+use mathlib.Core.Path.{_≡_, refl, sym, ap, _∙_, subst}
+use mathlib.Core.Bool.{Bool, true, false}
+use mathlib.Core.List.{List, []}
+use native.Mathlib.Omega.{arith}
+use borrow.Author.Tests.{eq-eqb, ne-eqb, eqb-true, eqb-false}
+use lib.Dec.{eqb}
+use Rattle.model.specs.Tree.{Row}
+use Rattle.model.specs.Shape.{shapes, fits}
+use Rattle.model.specs.Binding.{argsOf}
+use Rattle.model.specs.Intern.{Out, finish, nodeOf, func, withOpts}
+use Rattle.laws.specs.Range.{range}
+use Rattle.record.specs.Record.{rowAt}
+use Rattle.shape.proofs.Fitting.{fitting}
+use Rattle.walk.specs.Walk.{Sound}
+use Rattle.walk.proofs.Bridge.{row-fits}
+use Rattle.key.specs.declared.Node.{Node}
+use Rattle.key.specs.declared.Node.the-variants.{Const, Unparsed, Lambda, Op}
+use Rattle.key.specs.Key.{choose, partsOf}
+use Rattle.symbols.specs.Words.{pendingFrom}
+use Rattle.symbols.specs.Symbols.{keyRec}
+use Rattle.interner.specs.declared.State.{State}
+use Rattle.interner.specs.declared.Step.{Step}
+use Rattle.interner.specs.State.{absOf, Rep, Sourced}
+use Rattle.interner.specs.Step.{Answers, BodyOf, Fresh, Ready, finishOf}
+use Rattle.concluding.specs.declared.Branches.{Branches}
+use Rattle.concluding.specs.Concluding.{branchesOf, generalNode, Concludes, Branched}
+
+-- ---- a record's node, by its shape
+
+abbrev constNode : ℕ → Node
+constNode i = Const (record { source = i })
+
+abbrev unparsedNode : ℕ → Node
+unparsedNode i = Unparsed (record { source = i })
+
+abbrev opNode : ℕ → Branches → Node
+opNode i b = Op (record { source = i; field = 0; branches = b .count; first = b .first; second = b .second })
+
+module _ (s i : ℕ) (b : Branches) where
+  pub node-const : s ≡ 0 → constNode i ≡ generalNode s i b
+  node-const e = rw (eq-eqb s 0 e)
+
+  pub node-unparsed : (s ≡ 0 → ⊥) → s ≡ 1 → unparsedNode i ≡ generalNode s i b
+  node-unparsed n e = rw (ne-eqb s 0 n, eq-eqb s 1 e)
+
+  pub node-op : (s ≡ 0 → ⊥) → (s ≡ 1 → ⊥) → opNode i b ≡ generalNode s i b
+  node-op n m = rw (ne-eqb s 0 n, ne-eqb s 1 m)
+
+  node-cases : (P : Node → Type 0) → (s ≡ 0 → P (constNode i)) → ((s ≡ 0 → ⊥) → s ≡ 1 → P (unparsedNode i)) →
+      ((s ≡ 0 → ⊥) → (s ≡ 1 → ⊥) → P (opNode i b)) → P (generalNode s i b)
+  node-cases P c u o = go (eqb s 0) (eqb s 1) (eqb-true s 0) (eqb-false s 0) (eqb-true s 1) (eqb-false s 1)
+    where
+      go : (t v : Bool) → (t ≡ true → s ≡ 0) → (t ≡ false → s ≡ 0 → ⊥) → (v ≡ true → s ≡ 1) →
+          (v ≡ false → s ≡ 1 → ⊥) → P (choose t (constNode i) (choose v (unparsedNode i) (opNode i b)))
+      go true v zero other one more = c (zero refl)
+      go false true zero other one more = u (other refl) (one refl)
+      go false false zero other one more = o (other refl) (more refl)
+
+-- ---- a record with no children
+
+module _ (r : Row) (h : fits r ≡ true) where
+  pub const-kids : r .rec .shape ≡ 0 → r .kids ≡ 0
+  unfolding shapes
+  const-kids e = omega (arith, rw e at (fitting r h .many))
+
+  pub unparsed-kids : r .rec .shape ≡ 1 → r .kids ≡ 0
+  unfolding shapes
+  unparsed-kids e = omega (arith, rw e at (fitting r h .many))
+
+-- ---- room
+
+module _ (bs ws : List ℕ) (st : State) (i cur inner held count : ℕ)
+    (h : Concludes bs ws st i cur inner held count) where
+  fresh-from : (node : Node) → partsOf node .source ≡ i → partsOf node .field ≡ 0 → partsOf node .branches < 4 →
+      partsOf node .first < 4096 → partsOf node .second < 4096 → Sourced bs node count →
+      Fresh bs ws st cur node held count
+  fresh-from node source field branches first second sourced = record {
+    from = omega (arith, h .from);
+    field = omega arith;
+    branches = branches;
+    first = first;
+    second = second;
+    current = h .current;
+    slots = h .slots;
+    pending = h .pending;
+    lower = h .lower;
+    sourced = sourced;
+  }
+
+-- ---- a node that is no lambda
+
+module _ (bs ws : List ℕ) (st : State) (i cur held count : ℕ) (b : Branches) where
+  abbrev shapeOf : ℕ
+  shapeOf = rowAt bs i .rec .shape
+
+  abbrev generalOf : Out
+  generalOf =
+      finish i cur (rowAt bs i .rec) (pendingFrom ws held count) [] (nodeOf (rowAt bs i .rec) (branchesOf b))
+      (absOf bs ws st)
+
+  pub general-ready : (node : Node) → node ≡ generalNode shapeOf i b → Sound bs →
+      Concludes bs ws st i cur cur held count → Branched b → Ready bs ws st cur node held count
+  general-ready node is sound h br =
+      let fit = row-fits bs i (sound .fit) (h .from) in
+      subst (λ (n : Node). Ready bs ws st cur n held count) (sym is)
+      (node-cases shapeOf i b (λ n. Ready bs ws st cur n held count)
+      (λ e. let k = const-kids (rowAt bs i) fit e in record {
+        fresh = fresh-from bs ws st i cur cur held count h (constNode i) refl refl (omega arith) (omega arith)
+            (omega arith) (k, sym (h .children) ∙ k);
+        keyed = tt;
+        forced = h .forced;
+      })
+      (λ n e. let k = unparsed-kids (rowAt bs i) fit e in record {
+        fresh = fresh-from bs ws st i cur cur held count h (unparsedNode i) refl refl (omega arith) (omega arith)
+            (omega arith) (k, sym (h .children) ∙ k);
+        keyed = tt;
+        forced = h .forced;
+      })
+      (λ n m. record {
+        fresh = fresh-from bs ws st i cur cur held count h (opNode i b) refl refl (omega (arith, br .few)) (br .first)
+            (br .second) (record { plain = λ e. h .children; made = λ z. absurd (z refl) });
+        keyed = tt;
+        forced = h .forced;
+      }))
+
+  general-is : finishOf bs ws st cur (generalNode shapeOf i b) held count ≡ generalOf
+  unfolding keyRec nodeOf
+  general-is =
+      node-cases shapeOf i b (λ n. finishOf bs ws st cur n held count ≡ generalOf)
+      (λ e. rw (eq-eqb shapeOf 0 e, nodeOf))
+      (λ n e. rw (ne-eqb shapeOf 0 n, eq-eqb shapeOf 1 e, nodeOf))
+      (λ n m. rw (ne-eqb shapeOf 0 n, ne-eqb shapeOf 1 m, nodeOf))
+
+  pub general-answers : (node : Node) (ws′ : List ℕ) (r : Step) → node ≡ generalNode shapeOf i b →
+      Answers bs ws st (finishOf bs ws st cur node held count) ws′ r → Answers bs ws st generalOf ws′ r
+  general-answers node ws′ r e a = record {
+    rep = a .rep;
+    leaves = a .leaves;
+    low = a .low;
+    is = a .is ∙ (ap (λ (n : Node). finishOf bs ws st cur n held count) e ∙ general-is);
+  }
+
+-- ---- a lambda
+
+module _ (bs ws : List ℕ) (st : State) (i cur held first body : ℕ) where
+  abbrev lambdaNode : Node
+  lambdaNode = Lambda (record { source = i; first = first; body = body })
+
+  abbrev ownArgs : List ℕ
+  ownArgs = range first (rowAt bs i .rec .aux)
+
+  abbrev lambdaOf : Out
+  lambdaOf =
+      finish i cur (rowAt bs i .rec) (pendingFrom ws held 1) ownArgs
+      (func (withOpts (argsOf (rowAt bs i .rec .aux) (rowAt bs i .rec .lit)) ownArgs) body) (absOf bs ws st)
+
+  pub lambda-ready : Rep bs ws st → Concludes bs ws st i cur body held 1 → rowAt bs i .rec .shape ≡ 12 →
+      first < 4096 → BodyOf ws (st .scopes) cur body ownArgs → Ready bs ws st cur lambdaNode held 1
+  lambda-ready rep h shape low b = record {
+    fresh = fresh-from bs ws st i cur body held 1 h lambdaNode refl refl (omega arith) low
+        (omega (arith, b .low, rep .few-scopes)) (shape, refl);
+    keyed = b;
+    forced = h .forced;
+  }
+
+  pub lambda-answers : (ws′ : List ℕ) (r : Step) →
+      Answers bs ws st (finishOf bs ws st cur lambdaNode held 1) ws′ r → Answers bs ws st lambdaOf ws′ r
+  unfolding keyRec
+  lambda-answers ws′ r a = record { rep = a .rep; leaves = a .leaves; low = a .low; is = a .is }

@@ -1,0 +1,33 @@
+-- `concluding::is_tuple` meets its contract. Assumes nothing.
+use borrow.Author.Needs.{needs}
+use Prim.Native.Nat.{ℕ}
+use mathlib.Core.Path.{_∙_, ap, sym}
+use denote.Ref.{now}
+use lib.Dec.{eqb}
+use Rattle.concluding.proofs.Selecting.{symbol-from, symbol-shape}
+use Rattle.concluding.proofs.is_tuple.Statement.{statement}
+use Rattle.concluding.proofs.is_tuple.Tie as tie
+
+shape-requires : tie.Need-shape-requires
+shape-requires c κs =
+    let p = c .before in
+    let l = p .before in
+    let s = l .before .before .before in (
+      s .pre .0,
+      symbol-from (now (s .args .forest)) (now (s .args .work)) (s .args .s) (l .load .result) (p .parts-of .result)
+          (s .pre .1) (l .load .ensures) (p .parts-of .ensures),
+    )
+
+returns : tie.Need-returns
+returns c n lt =
+    let p = c .before .before in
+    let l = p .before in
+    let s = l .before .before .before in
+    ap (λ (z : ℕ). eqb z 16)
+    (c .shape .ensures
+    ∙ sym (symbol-shape (now (s .args .forest)) (now (s .args .work)) (s .args .s) n (l .load .result)
+    (p .parts-of .result) lt (l .load .ensures) (p .parts-of .ensures)))
+
+pub is-tuple-spec : {M : Type 1} → statement M
+is-tuple-spec =
+    tie.close (tie.spec (λ c κs. search needs) (λ c κs. search needs) (λ c. search needs) shape-requires returns)

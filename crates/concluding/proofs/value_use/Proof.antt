@@ -1,0 +1,40 @@
+-- `concluding::value_use` meets its contract. Assumes nothing.
+use borrow.Author.Needs.{needs}
+use native.Mathlib.Omega.{arith}
+use mathlib.Core.Path.{_∙_, ap}
+use denote.Ref.{now}
+use lib.ListN.{length}
+use Rattle.model.specs.Intern.{resolve}
+use Rattle.record.specs.Record.{rowAt}
+use Rattle.walk.proofs.Bridge.{use-literal}
+use Rattle.bindings.specs.Bindings.{envOf}
+use Rattle.interner.specs.Step.{given}
+use Rattle.concluding.proofs.Children.{use-id}
+use Rattle.concluding.proofs.value_use.Statement.{statement}
+use Rattle.concluding.proofs.value_use.Tie as tie
+
+id-at-requires : tie.Need-id-at-requires
+id-at-requires c κs =
+    let s = c .before .before .before in
+    omega (
+      arith,
+      ap length (c .literal .ensures),
+      use-literal (now (s .args .forest)) (s .args .i) (s .pre .0) (s .pre .1 .from) (s .pre .1 .shape),
+    )
+
+returns : tie.Need-returns
+returns c =
+    let r = c .before in
+    let d = r .before in
+    let l = d .before in
+    let a = l .before .before .before .args in
+    c .given .ensures
+    ∙ ap (given (a .st))
+    (r .resolve .ensures
+    ∙ ap (resolve (envOf (now (a .work)) (a .top)))
+    (use-id (rowAt (now (a .forest)) (a .i) .rec) (now (l .literal .result)) (d .id-at .result) (d .id-at .ensures)
+    (l .literal .ensures)))
+
+pub value-use-spec : {M : Type 1} → statement M
+value-use-spec =
+    tie.close (tie.spec (λ c κs. search needs) id-at-requires (λ c κs. search needs) (λ c κs. search needs) returns)

@@ -1,0 +1,83 @@
+-- Thunks, as model's `openThunk` and `closeThunk` have them. In order: a thunk opened; its table dropped.
+-- Assumes nothing.
+use Prim.Native.Nat.{ℕ, _-_, _<_, _≤_}
+use mathlib.Core.Path.{_≡_, sym, ap, _∙_}
+use mathlib.Core.Option.{none}
+use mathlib.Core.List.{List, [], _∷_}
+use native.Mathlib.Omega.{arith}
+use Rattle.model.specs.Intern.{openThunk, closeThunk}
+use Rattle.laws.proofs.Apart.{none-some}
+use Rattle.tables.specs.Tables.{tablesOf, opened, newest}
+use Rattle.tables.proofs.Stack.{tables-agree, opened-open, opened-tables, closed-open, closed-tables}
+use Rattle.scopes.specs.Scopes.{scopeWord, levelOf, argsIn, thunkWord, withThunk}
+use Rattle.scopes.proofs.Laws.{packed-level, packed-args}
+use Rattle.scopes.proofs.Open.{scopes-thunk, nested-thunk}
+use Rattle.interner.specs.declared.State.{State}
+use Rattle.interner.specs.State.{absOf, Rep}
+use Rattle.opening.specs.Opening.{thunkOpened, thunkClosed}
+use Rattle.opening.proofs.Scopes.{scope-same, scope-new, scope-abs, scope-rep}
+
+-- ---- a thunk opened inside `cur`
+
+module _ (bs ws : List ℕ) (st : State) (cur : ℕ) (rep : Rep bs ws st) (few : st .scopes ≤ 2048)
+    (current : cur < st .scopes) where
+  abbrev ws₁ : List ℕ
+  ws₁ = withThunk ws (st .scopes) cur
+
+  word-level : levelOf (thunkWord ws cur) ≡ levelOf (scopeWord ws cur)
+  word-level = packed-level cur 0 0 (levelOf (scopeWord ws cur)) (omega arith) (omega arith) (omega arith)
+
+  word-args : argsIn (thunkWord ws cur) ≡ none
+  word-args = packed-args cur 0 0 (levelOf (scopeWord ws cur)) (omega arith) (omega arith) (omega arith)
+
+  pub thunk-level : levelOf (scopeWord ws₁ (st .scopes)) ≡ levelOf (scopeWord ws cur)
+  thunk-level = ap levelOf (scope-new bs ws st rep few (thunkWord ws cur)) ∙ word-level
+
+  module _ (room : st .tables .depth < 64) where
+    pub thunk-abs : absOf bs ws₁ (thunkOpened st) ≡ openThunk cur (absOf bs ws st)
+    thunk-abs =
+        scope-abs bs ws st rep few (thunkWord ws cur) (opened (st .tables) (st .entries)) cur none
+        ([] ∷ tablesOf ws (st .tables) (st .entries))
+        (opened-tables (st .tables) (st .entries) (rep .opened) room ws₁
+        ∙ ap (λ (ts : List (List ℕ)). [] ∷ ts)
+        (tables-agree ws ws₁ (st .tables) (st .entries) (rep .opened)
+        (scope-same bs ws st rep few (thunkWord ws cur) .entries)))
+        (scopes-thunk ws (st .scopes) cur (omega (arith, rep .words)) current (omega arith))
+
+    pub thunk-rep : Rep bs ws₁ (thunkOpened st)
+    thunk-rep =
+        scope-rep bs ws st rep few (thunkWord ws cur) (opened (st .tables) (st .entries))
+        (opened-open (st .tables) (st .entries) (rep .opened) room)
+        (nested-thunk ws (st .scopes) cur (omega (arith, rep .words)) current (omega arith) (rep .nested))
+        (λ xs e. none-some (sym word-args ∙ e))
+
+-- ---- its table dropped
+
+module _ (bs ws : List ℕ) (st : State) (rep : Rep bs ws st) (two : 1 < st .tables .depth) where
+  pub closed-abs : absOf bs ws (thunkClosed st) ≡ closeThunk (absOf bs ws st)
+  closed-abs = rw (closed-tables (st .tables) (st .entries) (rep .opened) ws)
+
+  start-low : newest (st .tables) ≤ st .entries
+  start-low = rep .opened .starts (st .tables .depth - 1) (omega arith)
+
+  pub closed-rep : Rep bs ws (thunkClosed st)
+  closed-rep = record {
+    words = rep .words;
+    few-symbols = rep .few-symbols;
+    slots-used = rep .slots-used;
+    few-slots = rep .few-slots;
+    some-scope = rep .some-scope;
+    few-scopes = rep .few-scopes;
+    few-entries = omega (arith, start-low, rep .few-entries);
+    few-memo = rep .few-memo;
+    few-readings = rep .few-readings;
+    opened = closed-open (st .tables) (st .entries) (rep .opened) two;
+    below = λ k lt. rep .below k (omega (arith, start-low));
+    sound = rep .sound;
+    sourced = rep .sourced;
+    nested = rep .nested;
+    levelled = rep .levelled;
+    arguments = rep .arguments;
+    remembered = rep .remembered;
+    once = rep .once;
+  }
