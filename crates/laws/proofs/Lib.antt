@@ -9,6 +9,8 @@ pub mod Members
 pub mod Once
 pub mod Walks
 pub mod Falls
+pub mod Short
+pub mod Orders
 pub mod Symbols
 pub mod ArgLists
 pub mod Header

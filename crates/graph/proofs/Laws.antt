@@ -1,0 +1,150 @@
+-- Laws of the graph in the words. In order: a symbol's parts; its children, which are lower; the tests of it; thunks.
+-- Assumes nothing.
+use Prim.Native.Nat.{ℕ, zero, suc, _+_, _<_, _≤_}
+use mathlib.Core.Path.{_≡_, refl, sym, ap, subst, _∙_}
+use mathlib.Core.Bool.{Bool, true, false, _||_}
+use mathlib.Core.Logic.{inl, inr}
+use mathlib.Core.List.{List}
+use native.Mathlib.Omega.{arith}
+use lib.Dec.{eqb, ltb}
+use lib.ListN.{length, getD, List·getD-eq-default}
+use borrow.Author.Tests.{ne-eqb, ltb-true, ltb-false}
+use Rattle.model.specs.Intern.{Sym, noSym, symAt, thunked}
+use Rattle.model.specs.Gate.{symOf}
+use Rattle.model.specs.Schedule.{isArg, isOutside, relOf}
+use Rattle.laws.proofs.Members.{Every}
+use Rattle.key.specs.declared.Symbol.{Symbol}
+use Rattle.key.specs.declared.Parts.{Parts}
+use Rattle.key.specs.declared.Node.{Node}
+use Rattle.key.specs.declared.Node.the-variants.{Const, Unparsed, Arg, Lambda, Op}
+use Rattle.key.specs.Key.{partsOf, symbolAt}
+use Rattle.symbols.specs.Words.{wordsFrom}
+use Rattle.symbols.specs.Symbols.{nodeOf, symsOf}
+use Rattle.symbols.specs.Symbols as symbols
+use Rattle.symbols.proofs.Laws.{syms-length, sym-at, kids-at}
+use Rattle.scopes.specs.declared.Rel.{Rel}
+use Rattle.scopes.specs.Scopes.{Nested}
+use Rattle.scopes.specs.Relation.{relIn, Classified}
+use Rattle.graph.specs.Graph.{Arena, Scoped, graphOf, Related, Tests, isOutsider}
+
+-- ---- a symbol's parts
+
+module _ (bs ws : List ℕ) (n m : ℕ) (slots : List ℕ) (s : ℕ) (lt : s < n) where
+  pub node-of : symOf (graphOf bs ws n m slots) s .node ≡ nodeOf bs (symbolAt ws s .node)
+  unfolding symbols.symOf
+  node-of = ap (λ (z : Sym). z .node) (sym-at bs ws n s lt)
+
+  pub scope-of : symOf (graphOf bs ws n m slots) s .scope ≡ symbolAt ws s .scope
+  unfolding symbols.symOf
+  scope-of = ap (λ (z : Sym). z .scope) (sym-at bs ws n s lt)
+
+-- ---- its children
+
+-- words that are below a bound, as a list
+pub words-low : (ws : List ℕ) (at k b : ℕ) → ((j : ℕ) → j < k → getD ws (at + j) 0 < b) →
+    Every (λ x. x < b) (wordsFrom ws at k)
+unfolding wordsFrom
+words-low ws at zero b h x i = absurd i
+words-low ws at (suc k) b h x (inl e) = let z : at + 0 ≡ at = omega arith in omega (arith, rw z at (h 0 (omega arith)))
+words-low ws at (suc k) b h x (inr i) =
+    words-low ws (suc at) k b
+    (λ j l. let z : suc at + j ≡ at + suc j = omega arith in rw z (h (suc j) (omega arith))) x i
+
+-- a symbol's children are lower; past the last symbol there are none
+pub kids-low : (bs ws : List ℕ) (n m : ℕ) → Arena bs ws n m → (slots : List ℕ) (s : ℕ) →
+    Every (λ x. x < s) (symOf (graphOf bs ws n m slots) s .kids)
+kids-low bs ws n m arena slots s = go (ltb s n) refl
+  where
+    go : (b : Bool) → ltb s n ≡ b → Every (λ x. x < s) (symAt (symsOf bs ws n) s .kids)
+    go true e =
+        let lt = ltb-true s n e in
+        subst (Every (λ x. x < s)) (sym (kids-at bs ws n s lt)) (words-low ws _ _ s (arena .sound s lt .lower))
+    go false e =
+        subst (λ (y : Sym). Every (λ x. x < s) (y .kids)) (sym (List·getD-eq-default (symsOf bs ws n) noSym
+        (omega (arith, syms-length bs ws n, ltb-false s n e)))) (λ x i. absurd i)
+
+-- ---- the tests
+
+pub scoped : (bs ws : List ℕ) (n m : ℕ) → Arena bs ws n m → Scoped ws n m
+scoped bs ws n m a = record {
+  few = a .few;
+  words = a .words;
+  few-scopes = a .few-scopes;
+  nested = a .nested;
+  placed = a .placed;
+}
+
+arg-tag : (bs : List ℕ) (x : Node) → eqb (partsOf x .tag) 2 ≡ isArg (nodeOf bs x)
+arg-tag bs (Const l) = refl
+arg-tag bs (Unparsed l) = refl
+arg-tag bs (Arg l) = refl
+arg-tag bs (Lambda f) = refl
+arg-tag bs (Op o) = refl
+
+-- the first k scopes are nested as the first m are
+nested-part : (ws : List ℕ) (k m : ℕ) → k ≤ m → Nested ws m → Nested ws k
+nested-part ws k m le h = record {
+  outermost = h .outermost;
+  lower = λ j p l. h .lower j p (omega arith);
+  level = λ j p l. h .level j p (omega arith);
+}
+
+module _ (ws : List ℕ) (n m s : ℕ) (y : Symbol) (loaded : y ≡ symbolAt ws s) (lt : s < n) where
+  pub arg-is : (p : Parts) → p ≡ partsOf (y .node) → Tests ws n m (λ h. isArg (symOf h s .node)) (eqb (p .tag) 2)
+  arg-is p e bs slots =
+      ap (λ (q : Parts). eqb (q .tag) 2) e
+      ∙ (arg-tag bs (y .node) ∙ ap isArg (ap (λ (z : Symbol). nodeOf bs (z .node)) loaded
+      ∙ sym (node-of bs ws n m slots s lt)))
+
+  module _ (scoped : Scoped ws n m) where
+    scope-low : y .scope < m
+    scope-low = subst (λ (z : Symbol). z .scope < m) (sym loaded) (scoped .placed s lt)
+
+    pub scope-inside : 5120 + y .scope < length ws
+    scope-inside = omega (arith, scope-low, scoped .words, scoped .few-scopes)
+
+    pub scope-nested : Nested ws (y .scope + 1)
+    scope-nested = nested-part ws (y .scope + 1) m (omega (arith, scope-low)) (scoped .nested)
+
+    pub relation-is : (cur : ℕ) (r : Rel) → Classified ws (y .scope) cur r → Related ws n m s cur r
+    unfolding relOf
+    relation-is cur r h bs slots =
+        let g = graphOf bs ws n m slots in
+        let e : symOf g s .scope ≡ y .scope =
+        scope-of bs ws n m slots s lt ∙ ap (λ (z : Symbol). z .scope) (sym loaded) in
+        rw e (h g m scope-low refl)
+
+module _ (ws : List ℕ) (n m cs d : ℕ) (a : Bool) (arg : Tests ws n m (λ h. isArg (symOf h d .node)) a) where
+  pub outsider-arg : a ≡ true → Tests ws n m (isOutsider cs d) false
+  outsider-arg e bs slots = rw (sym (arg bs slots) ∙ e)
+
+  pub outsider-rel : a ≡ false → (r : Rel) → Related ws n m d cs r → (b : Bool) → b ≡ isOutside (relIn r) →
+      Tests ws n m (isOutsider cs d) b
+  outsider-rel e r h b f bs slots = rw (sym (arg bs slots) ∙ e) (f ∙ ap isOutside (h bs slots))
+
+-- ---- thunks
+
+or-false : (b : Bool) → b ≡ (b || false)
+or-false true = refl
+or-false false = refl
+
+module _ (op j : ℕ) where
+  pub thunk-first : op ≡ 0x95 → j ≡ 1 → true ≡ thunked op j
+  unfolding thunked
+  thunk-first e f = rw (e, f)
+
+  pub thunk-second : op ≡ 0x95 → (j ≡ 1 → ⊥) → eqb j 2 ≡ thunked op j
+  unfolding thunked
+  thunk-second e f = rw (e, ne-eqb j 1 f) (or-false (eqb j 2))
+
+  pub thunk-and : op ≡ 0xED → eqb j 1 ≡ thunked op j
+  unfolding thunked
+  thunk-and e = rw e
+
+  pub thunk-or : op ≡ 0xEC → eqb j 1 ≡ thunked op j
+  unfolding thunked
+  thunk-or e = rw e
+
+  pub thunk-none : (op ≡ 0x95 → ⊥) → (op ≡ 0xED → ⊥) → (op ≡ 0xEC → ⊥) → false ≡ thunked op j
+  unfolding thunked
+  thunk-none a b c = rw (ne-eqb op 0x95 a, ne-eqb op 0xED b, ne-eqb op 0xEC c)

@@ -1,0 +1,54 @@
+-- The graph in the work words. In order: what holds of the words; the graph in them; tests of it.
+-- Assumes nothing.
+use Prim.Native.Nat.{ℕ, _<_, _≤_}
+use mathlib.Core.Path.{_≡_}
+use mathlib.Core.Bool.{Bool, not, _&&_}
+use mathlib.Core.List.{List}
+use lib.ListN.{length}
+use Rattle.model.specs.Gate.{Graph, symOf}
+use Rattle.model.specs.Schedule.{isArg, isOutside, relOf}
+use Rattle.key.specs.Key.{symbolAt}
+use Rattle.symbols.specs.Symbols.{symsOf, AllSound}
+use Rattle.scopes.specs.declared.Rel.{Rel}
+use Rattle.scopes.specs.Scopes.{scopesOf, Nested}
+use Rattle.scopes.specs.Relation.{relIn}
+
+-- ---- what holds of the words
+
+-- n symbols and m scopes stand in the words
+pub record Arena (bs ws : List ℕ) (n m : ℕ) : Type 0 where
+  pub few : n ≤ 512
+  pub words : 10856 ≤ length ws
+  pub sound : AllSound bs ws 2560 n
+  pub some-scope : 0 < m
+  pub few-scopes : m ≤ 2049
+  pub nested : Nested ws m
+  pub placed : (s : ℕ) → s < n → symbolAt ws s .scope < m
+
+-- what of this the scopes of symbols hang on
+pub record Scoped (ws : List ℕ) (n m : ℕ) : Type 0 where
+  pub few : n ≤ 512
+  pub words : 10856 ≤ length ws
+  pub few-scopes : m ≤ 2049
+  pub nested : Nested ws m
+  pub placed : (s : ℕ) → s < n → symbolAt ws s .scope < m
+
+-- ---- the graph in the words
+
+-- `slots` is what usage counts, and no order hangs on it
+abbrev pub graphOf : List ℕ → List ℕ → ℕ → ℕ → List ℕ → Graph
+graphOf bs ws n m slots = record { syms = symsOf bs ws n; scopes = scopesOf ws m; slots = slots }
+
+-- ---- tests of it
+
+-- r says where symbol s lies, seen from scope `cur`
+abbrev pub Related : List ℕ → ℕ → ℕ → ℕ → ℕ → Rel → Type 0
+Related ws n m s cur r = (bs slots : List ℕ) → relIn r ≡ relOf (graphOf bs ws n m slots) s cur
+
+-- a test of the graph in the words
+abbrev pub Tests : List ℕ → ℕ → ℕ → (Graph → Bool) → Bool → Type 0
+Tests ws n m p r = (bs slots : List ℕ) → r ≡ p (graphOf bs ws n m slots)
+
+-- no argument, and outside scope `cs`
+abbrev pub isOutsider : ℕ → ℕ → Graph → Bool
+isOutsider cs d g = not (isArg (symOf g d .node)) && isOutside (relOf g d cs)

@@ -1,0 +1,3 @@
+-- Laws of lists that grow, for callers too. Assumes nothing.
+pub mod Lists
+pub mod Offers

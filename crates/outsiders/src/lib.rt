@@ -1,0 +1,187 @@
+// Free lists as they grow (materialize.rs, `free_vars`): the outsiders among some symbols, each put at the end of a
+// list that has it not.
+// In order: a search; one symbol; those of a list; those in words, thunks or others; the children of a symbol.
+use graph::Graph;
+use symbols::SLOTS;
+ghost use mathlib.Core.Path.{_≡_};
+ghost use mathlib.Core.List.{List, [], _∷_};
+ghost use Prim.Native.Nat.{ℕ, _<_, _≤_};
+ghost use lib.ListN.{length, take};
+ghost use Rattle.model.specs.Lists.{isIn};
+ghost use Rattle.model.specs.Gate.{symOf};
+ghost use Rattle.model.specs.Schedule.{operands, localDepOrder, outsiders};
+ghost use Rattle.record.specs.Record.{Laid};
+ghost use Rattle.symbols.specs.Words.{wordsFrom};
+ghost use Rattle.graph.specs.Graph.{Arena, Scoped};
+ghost use Rattle.outsiders.specs.Outsiders.{offered, Below, Lower, Held, Listed};
+
+// Which operands of a record with this opcode are meant: its thunks, or the others.
+struct Arms {
+    opcode: u8,
+    thunks: bool,
+}
+
+// An entry of a list as a symbol's number. Rules out: its low byte alone; one more.
+pub fn wide(x: u16) -> usize
+    ensures { λ r. ⌜ (r ≡ x) × (r < 65536) ⌝ }
+{
+    x as usize
+}
+
+// Whether d is among the first n of a list.
+fn has(list: &[u16], n: usize, d: usize) -> bool
+    requires { ⌜ n ≤ length (now list) ⌝ }
+    ensures { λ r. ⌜ r ≡ isIn d (take n (now (list .entry))) ⌝ }
+{
+    let mut k = 0;
+    while k < n {
+        if wide(list[k]) == d {
+            return true;
+        }
+        k += 1;
+    }
+    false
+}
+
+// With d, if it is an outsider that the list has not.
+fn offer(work: &[u32], g: Graph, cs: usize, d: usize, list: &mut [u16], n: usize) -> usize
+    requires { ⌜ Scoped (now work) (g .symbols) (g .scopes) ⌝ }
+    requires { ⌜ d < g .symbols ⌝ }
+    requires { ⌜ Held (g .symbols) (now list) n ⌝ }
+    ensures { λ r.
+        ⌜ ((bs : List ℕ) → Listed bs (now (work .entry)) (g .symbols) (g .scopes) (offered cs (d ∷ []))
+        (now (list .entry)) n (now (list .exit)) r) ⌝ }
+{
+    if graph::is_outsider(work, g, cs, d) {
+        if has(list, n, d) {
+            return n;
+        }
+        list[n] = d as u16;
+        return n + 1;
+    }
+    n
+}
+
+// With the outsiders of scope `cs` among the first `count` of `own`, each once; how many there are then.
+// Rules out: arguments; symbols of deeper scopes; one that the list has already.
+pub fn offer_list(
+    work: &[u32],
+    g: Graph,
+    cs: usize,
+    own: &[u16],
+    count: usize,
+    list: &mut [u16],
+    n: usize,
+) -> usize
+    requires { ⌜ Scoped (now work) (g .symbols) (g .scopes) ⌝ }
+    requires { ⌜ Below (now own) count (g .symbols) ⌝ }
+    requires { ⌜ Held (g .symbols) (now list) n ⌝ }
+    ensures { λ r.
+        ⌜ ((bs : List ℕ) → Listed bs (now (work .entry)) (g .symbols) (g .scopes)
+        (offered cs (take count (now (own .entry)))) (now (list .entry)) n (now (list .exit)) r) ⌝ }
+{
+    let mut at = n;
+    let mut k = 0;
+    while k < count {
+        let d = wide(own[k]);
+        at = offer(work, g, cs, d, list, at);
+        k += 1;
+    }
+    at
+}
+
+// With operand j, symbol d, if it is a thunk (`thunks`), or if it is none.
+fn offer_operand(
+    work: &[u32],
+    g: Graph,
+    cs: usize,
+    a: Arms,
+    j: usize,
+    d: usize,
+    list: &mut [u16],
+    n: usize,
+) -> usize
+    requires { ⌜ Scoped (now work) (g .symbols) (g .scopes) ⌝ }
+    requires { ⌜ d < g .symbols ⌝ }
+    requires { ⌜ Held (g .symbols) (now list) n ⌝ }
+    ensures { λ r.
+        ⌜ ((bs : List ℕ) → Listed bs (now (work .entry)) (g .symbols) (g .scopes)
+        (offered cs (operands (a .thunks) (a .opcode) j (d ∷ []))) (now (list .entry)) n (now (list .exit)) r) ⌝ }
+{
+    if graph::is_thunked(a.opcode, j) {
+        if a.thunks {
+            return offer(work, g, cs, d, list, n);
+        }
+        return n;
+    }
+    if a.thunks {
+        return n;
+    }
+    offer(work, g, cs, d, list, n)
+}
+
+// With the thunks among the symbols in `count` words from `from` on, or with those that are none.
+fn offer_words(
+    work: &[u32],
+    g: Graph,
+    cs: usize,
+    a: Arms,
+    from: usize,
+    count: usize,
+    list: &mut [u16],
+    n: usize,
+) -> usize
+    requires { ⌜ Scoped (now work) (g .symbols) (g .scopes) ⌝ }
+    requires { ⌜ Lower (now work) from count (g .symbols) ⌝ }
+    requires { ⌜ Held (g .symbols) (now list) n ⌝ }
+    ensures { λ r.
+        ⌜ ((bs : List ℕ) → Listed bs (now (work .entry)) (g .symbols) (g .scopes)
+        (offered cs (operands (a .thunks) (a .opcode) 0 (wordsFrom (now (work .entry)) from count)))
+        (now (list .entry)) n (now (list .exit)) r) ⌝ }
+{
+    let mut at = n;
+    let mut k = 0;
+    while k < count {
+        let d = work[from + k] as usize;
+        at = offer_operand(work, g, cs, a, k, d, list, at);
+        k += 1;
+    }
+    at
+}
+
+// With the outsiders of scope `cs` among the children of s, thunks first (`local_dep_order`).
+// Rules out: the children as they stand; arguments.
+pub fn offer_kids(
+    forest: &[u8],
+    work: &[u32],
+    g: Graph,
+    cs: usize,
+    s: usize,
+    list: &mut [u16],
+    n: usize,
+) -> usize
+    requires { ⌜ Laid (now forest) ⌝ }
+    requires { ⌜ Arena (now forest) (now work) (g .symbols) (g .scopes) ⌝ }
+    requires { ⌜ s < g .symbols ⌝ }
+    requires { ⌜ Held (g .symbols) (now list) n ⌝ }
+    ensures { λ r.
+        ⌜ Listed (now (forest .entry)) (now (work .entry)) (g .symbols) (g .scopes)
+        (λ h. outsiders h cs (localDepOrder (symOf h s))) (now (list .entry)) n (now (list .exit)) r ⌝ }
+{
+    let y = key::load(work, s);
+    let node = y.node;
+    let p = key::parts_of(node);
+    let opcode = record::opcode(forest, p.source as usize);
+    let from = SLOTS + y.kids as usize;
+    let count = y.count as usize;
+    let thunks = Arms {
+        opcode,
+        thunks: true,
+    };
+    let others = Arms {
+        opcode,
+        thunks: false,
+    };
+    let m = offer_words(work, g, cs, thunks, from, count, list, n);
+    offer_words(work, g, cs, others, from, count, list, m)
+}

@@ -1,0 +1,238 @@
+-- What `free`, `collect`, `gather` and `borrowed` of `schedule` need where they read, call and return. Assumes nothing.
+use Prim.Native.Nat.{ℕ}
+use mathlib.Core.Path.{_≡_, refl, ap, _∙_}
+use native.Mathlib.Omega.{arith}
+use borrow.Author.Needs.{needs}
+use lib.ListN.{length}
+use Rattle.scopes.specs.declared.Rel.the-variants.{Local, Deeper, Outside}
+use Rattle.scopes.specs.Relation.{relIn}
+use Rattle.graph.proofs.Laws.{scoped}
+use Rattle.outsiders.proofs.Offers.{list-start}
+use Rattle.schedule.proofs.Neighbours.{told}
+use Rattle.schedule.proofs.Lending.{held-empty, lent-empty, put-room}
+use Rattle.schedule.proofs.Bodies.{scopeIn, body-fresh, body-below, free-done, gathered, deeper-lower}
+use Rattle.schedule.proofs.Bodies.{collect-start, collect-more, borrowed-done}
+use Rattle.schedule.proofs.+across+borrowed+collect+free+gather+local+near+visit.Proof.Measures as measures
+use Rattle.schedule.proofs.free.Reads as free
+use Rattle.schedule.proofs.collect.Reads as collect
+use Rattle.schedule.proofs.gather.Reads as gather
+use Rattle.schedule.proofs.borrowed.Reads as borrowed
+use Rattle.schedule.proofs.+across+borrowed+collect+free+gather+local+near+visit.Lts-free as free-lts
+use Rattle.schedule.proofs.+across+borrowed+collect+free+gather+local+near+visit.Lts-collect as collect-lts
+use Rattle.schedule.proofs.+across+borrowed+collect+free+gather+local+near+visit.Lts-gather as gather-lts
+use Rattle.schedule.proofs.+across+borrowed+collect+free+gather+local+near+visit.Lts-borrowed as borrowed-lts
+
+-- ---- `free`
+
+pub free-local-requires : (t : ℕ) → free-lts.Need-local-requires (measures.free-calls t) (measures.free-at t) free.Post
+free-local-requires t c κs =
+    let c5 = c .before .before .before .before .before in
+    let p = c5 .before .before .before .before .pre .1 in
+    let z = c .before .before .before .before .before .zeros8 .ensures in
+    (omega arith, (p .0, (p .1 .0, (p .1 .1 .0, lent-empty _ _ _ (search needs) z (search needs)))))
+
+pub free-put-requires : (t : ℕ) → free-lts.Need-put-requires (measures.free-calls t) (measures.free-at t) free.Post
+free-put-requires t c κs =
+    let c7 = c .before .before .before .before .before .before .before in
+    let p = c7 .before .before .before .before .before .before .before .pre .1 in
+    let w = c .before .before .before .before .local .ensures in
+    let fresh = body-fresh _ _ _ _ (p .1 .0) _ (p .1 .1 .0) _ (ap scopeIn
+    (c .before .before .before .before .before .before .before .before .load .ensures)) _ _ _ _ w in
+    let room = put-room _ _ _ _ (w .lent) _ (p .1 .1 .0) (p .1 .0 .few) fresh in
+    (room, omega (arith, p .1 .1 .0, p .1 .0 .few), w .lent .marks-long, w .lent .held .long)
+
+pub free-collect-requires : (t : ℕ) → free-lts.Need-collect-requires (measures.free-calls t) (measures.free-at t)
+    free.Post
+free-collect-requires t c κs =
+    let c4 = c .before .before .before .before in
+    let c9 = c4 .before .before .before .before .before in
+    let c14 = c9 .before .before .before .before .before in
+    let b = c14 .before .before .before .before .before in
+    let p = b .pre .1 in
+    let own = ap scopeIn (c9 .before .before .before .before .load .ensures) in
+    let below = body-below _ _ _ _ (p .1 .0) _ (p .1 .1 .0) _ own _ _ _ _ (c9 .local .ensures) _ _ _ (c4 .put .ensures)
+    (c4 .put .kept .1 .0 ∙ c9 .local .ensures .lent .held .long) in
+    (omega (arith, b .pre .0), (p .0, (p .1 .0, ((p .1 .1 .0, own), (below, p .1 .1 .1)))))
+
+pub free-returns : (t : ℕ) → free-lts.Need-returns (measures.free-calls t) (measures.free-at t) free.Post
+free-returns t c =
+    let c6 = c .before .before .before .before .before .before in
+    let c11 = c6 .before .before .before .before .before in
+    let c17 = c11 .before .before .before .before .before .before in
+    let p = c17 .before .before .before .before .before .pre .1 in
+    free-done _ _ _ _ (p .1 .0) _ (p .1 .1 .0) _ (ap scopeIn
+    (c11 .before .before .before .before .before .load .ensures)) _ _ _ _
+    (c6 .before .before .before .before .before .before .local .ensures) _ _ _
+    (c .before .before .before .before .before .before .before .put .ensures) _ _ _
+    (c .before .before .collect .ensures)
+
+-- ---- `collect`
+
+pub collect-loop-holds : (t : ℕ) → collect-lts.Need-loop-holds
+    (measures.collect-calls t) (measures.collect-at t) collect.Post measures.collect-Inv-loop measures.collect-μ-loop
+collect-loop-holds t c =
+    let p = c .before .before .before .before .pre .1 in (
+      omega arith,
+      refl,
+      collect-start _ _ _ _ (p .1 .0) _ (p .1 .1 .0 .0) _ (p .1 .1 .0 .1) _ (held-empty _ _
+          (p .1 .1 .1 .1)),
+    )
+
+pub collect-shared-slice-read-wide : (t : ℕ) → collect-lts.Need-shared-slice-read-wide
+    (measures.collect-calls t) (measures.collect-at t) collect.Post measures.collect-Inv-loop measures.collect-μ-loop
+collect-shared-slice-read-wide t c =
+    omega (arith, c .before .before .before .before .before .before .before .pre .1 .1 .1 .1 .0 .fit)
+
+pub collect-gather-requires : (t : ℕ) → collect-lts.Need-gather-requires
+    (measures.collect-calls t) (measures.collect-at t) collect.Post measures.collect-Inv-loop measures.collect-μ-loop
+collect-gather-requires t c κs =
+    let c5 = c .before .before .before .before .before in
+    let p = c5 .before .before .before .before .pre .1 in
+    let l = c .before .before .before .before .loop in
+    let low = p .1 .1 .1 .0 .low (l .k) (c .before .before .before .loop-test .taken) in (
+      omega arith,
+      (
+        p .0,
+        (
+          p .1 .0,
+          (
+            (p .1 .1 .0 .0, p .1 .1 .0 .1, omega (arith, low, c .before .wide .ensures .0)),
+            l .inv .2 .held,
+          ),
+        ),
+      ),
+    )
+
+pub collect-loop-again : (t : ℕ) → collect-lts.Need-loop-again
+    (measures.collect-calls t) (measures.collect-at t) collect.Post measures.collect-Inv-loop measures.collect-μ-loop
+collect-loop-again t c =
+    let c6 = c .before .before .before .before .before .before in
+    let p = c6 .before .before .before .before .before .before .pre .1 in
+    let l = c .before .before .before .before .before .before .before .loop in
+    let v = c .before .before .gather in (
+      omega arith,
+      v .kept .1 .1 .1 .1 .1 .1 .0 ∙ l .inv .1,
+      collect-more _ _ _ _ (p .1 .0) _ (p .1 .1 .0 .0) _ (p .1 .1 .0 .1) _ _ (l .k) _ (omega (
+        arith,
+        p .1 .1 .1 .0 .fit,
+      ))
+          (c .before .before .before .before .wide .ensures .0) _ _ _ _ (l .inv .2) (v .ensures),
+    )
+
+pub collect-same-length : (t : ℕ) → collect-lts.Need-same-length
+    (measures.collect-calls t) (measures.collect-at t) collect.Post measures.collect-Inv-loop measures.collect-μ-loop
+collect-same-length t c =
+    c .before .loop .inv .1
+
+pub collect-returns : (t : ℕ) → collect-lts.Need-returns
+    (measures.collect-calls t) (measures.collect-at t) collect.Post measures.collect-Inv-loop measures.collect-μ-loop
+collect-returns t c =
+    let l = c .before .loop in let e : l .k ≡ c .before .before .before .before .before .before .args .count = omega
+    arith in rw e at (l .inv .2)
+
+-- ---- `gather`
+
+pub gather-relation-requires : (t : ℕ) → gather-lts.Need-relation-requires (measures.gather-calls t)
+    (measures.gather-at t) gather.Post
+gather-relation-requires t c κs =
+    let p = c .before .before .before .pre .1 in (scoped _ _ _ _ (p .1 .0), omega (arith, p .1 .1 .0 .0, p .1 .1 .0 .2))
+
+pub gather-offer-kids-requires : (t : ℕ) → gather-lts.Need-offer-kids-requires
+    (measures.gather-calls t) (measures.gather-at t) gather.Post
+gather-offer-kids-requires t c κs =
+    let p = c .before .before .before .before .before .before .before .pre .1 in
+    (p .0, (p .1 .0, (omega (arith, p .1 .1 .0 .0, p .1 .1 .0 .2), p .1 .1 .1)))
+
+pub gather-borrowed-requires : (t : ℕ) → gather-lts.Need-borrowed-requires (measures.gather-calls t)
+    (measures.gather-at t) gather.Post
+gather-borrowed-requires t c κs =
+    let p = c .before .before .before .before .before .before .before .pre .1 in
+    let r = c .before .before .before .relation in
+    let lower = deeper-lower _ _ _ _ (p .1 .0) _ (p .1 .1 .0 .0) _ (p .1 .1 .0 .1) _ (relIn Deeper)
+    (told _ _ _ _ _ _ (r .result) Deeper (c .before .enum-told2 .given .1) (r .ensures)) refl (p .1 .1 .0 .2) in
+    (omega (arith, lower), (p .0, (p .1 .0, (omega (arith, lower, p .1 .1 .0 .0), p .1 .1 .1))))
+
+pub gather-same-length : (t : ℕ) → gather-lts.Need-same-length (measures.gather-calls t) (measures.gather-at t)
+    gather.Post
+gather-same-length t c =
+    c .before .before .offer-kids .kept .1 .1 .1 .1 .1 .0
+
+pub gather-returns : (t : ℕ) → gather-lts.Need-returns (measures.gather-calls t) (measures.gather-at t) gather.Post
+gather-returns t c =
+    let c5 = c .before .before .before .before .before in
+    let p = c5 .before .before .before .before .before .pre .1 in
+    let r = c .before .before .before .before .before .before .relation in
+    gathered _ _ _ _ (p .1 .0) _ (p .1 .1 .0 .0) _ (p .1 .1 .0 .1) _ (relIn Local)
+    (told _ _ _ _ _ _ (r .result) Local (c .before .before .before .before .enum-told .given .1) (r .ensures)) _ _ _ _
+    (c .before .before .offer-kids .ensures)
+
+pub gather-same-length-2 : (t : ℕ) → gather-lts.Need-same-length-2 (measures.gather-calls t) (measures.gather-at t)
+    gather.Post
+gather-same-length-2 t c =
+    c .before .before .borrowed .kept .1 .1 .1 .1 .1 .0
+
+pub gather-returns-2 : (t : ℕ) → gather-lts.Need-returns-2 (measures.gather-calls t) (measures.gather-at t) gather.Post
+gather-returns-2 t c =
+    let c5 = c .before .before .before .before .before in
+    let p = c5 .before .before .before .before .before .pre .1 in
+    let r = c .before .before .before .before .before .before .relation in
+    gathered _ _ _ _ (p .1 .0) _ (p .1 .1 .0 .0) _ (p .1 .1 .0 .1) _ (relIn Deeper)
+    (told _ _ _ _ _ _ (r .result) Deeper (c .before .before .before .before .enum-told2 .given .1) (r .ensures)) _ _ _
+    _ (c .before .before .borrowed .ensures)
+
+pub gather-returns-3 : (t : ℕ) → gather-lts.Need-returns-3 (measures.gather-calls t) (measures.gather-at t) gather.Post
+gather-returns-3 t c =
+    let p = c .before .before .before .before .before .before .pre .1 in
+    let r = c .before .before .relation in
+    gathered _ _ _ _ (p .1 .0) _ (p .1 .1 .0 .0) _ (p .1 .1 .0 .1) _ (relIn Outside)
+    (told _ _ _ _ _ _ (r .result) Outside (c .enum-told3 .given .1) (r .ensures)) _ _ _ _ (list-start _ _ _ _ _ _ _
+    (p .1 .1 .1))
+
+-- ---- `borrowed`
+
+pub borrowed-free-requires : (t : ℕ) → borrowed-lts.Need-free-requires (measures.borrowed-calls t)
+    (measures.borrowed-at t) borrowed.Post
+borrowed-free-requires t c κs =
+    let p = c .before .before .before .before .before .pre .1 in (
+      omega arith,
+      (
+        p .0,
+        (
+          p .1 .0,
+          (
+            p .1 .1 .0,
+            search
+                needs,
+          ),
+        ),
+      ),
+    )
+
+pub borrowed-offer-list-requires : (t : ℕ) → borrowed-lts.Need-offer-list-requires
+    (measures.borrowed-calls t) (measures.borrowed-at t) borrowed.Post
+borrowed-offer-list-requires t c κs =
+    let c5 = c .before .before .before .before .before in
+    let p = c5 .before .before .before .before .pre .1 in
+    let f = c .before .before .before .free in
+    let long : length (f .last .1 .1 .1 .1 .0) ≡ 512 = search needs in (
+      scoped _ _ _ _ (p .1 .0),
+      (
+        record {
+          fit = omega (arith, f .ensures .fit, long);
+          low = λ j l. omega (arith, f .ensures .low j l, p .1 .1 .0);
+        },
+        p .1 .1 .1,
+      ),
+    )
+
+pub borrowed-same-length : (t : ℕ) → borrowed-lts.Need-same-length (measures.borrowed-calls t) (measures.borrowed-at t)
+    borrowed.Post
+borrowed-same-length t c =
+    c .before .before .offer-list .kept .1 .1 .1 .1 .1 .0
+
+pub borrowed-returns : (t : ℕ) → borrowed-lts.Need-returns (measures.borrowed-calls t) (measures.borrowed-at t)
+    borrowed.Post
+borrowed-returns t c =
+    let f = c .before .before .before .before .before .before .free in
+    borrowed-done _ _ _ _ _ _ (f .last .1 .1 .1 .1 .0) (f .result) (f .ensures .is) _ _ _ _
+    (c .before .before .offer-list .ensures _)

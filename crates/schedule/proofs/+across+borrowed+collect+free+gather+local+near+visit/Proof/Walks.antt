@@ -1,0 +1,342 @@
+-- What `visit`, `near`, `local` and `across` of `schedule` need where they read, call and return. Assumes nothing.
+use Prim.Native.Nat.{ℕ}
+use mathlib.Core.Path.{_≡_, refl, _∙_}
+use native.Mathlib.Omega.{arith}
+use borrow.Author.Needs.{needs}
+use lib.ListN.{length}
+use Rattle.scopes.specs.declared.Rel.the-variants.{Local, Deeper, Outside}
+use Rattle.scopes.specs.Relation.{relIn}
+use Rattle.graph.proofs.Laws.{scoped}
+use Rattle.outsiders.proofs.Offers.{kids-lower}
+use Rattle.schedule.proofs.Neighbours.{told}
+use Rattle.schedule.proofs.Lending.{put-room}
+use Rattle.schedule.proofs.Walking.{visit-passed, visit-seen, near-fresh, visit-new, near-stops, near-goes}
+use Rattle.schedule.proofs.Walking.{walk-start, words-begin, words-go, words-done, list-go, list-done, kids-down}
+use Rattle.schedule.proofs.+across+borrowed+collect+free+gather+local+near+visit.Proof.Measures as measures
+use Rattle.schedule.proofs.visit.Reads as visit
+use Rattle.schedule.proofs.near.Reads as near
+use Rattle.schedule.proofs.local.Reads as local
+use Rattle.schedule.proofs.across.Reads as across
+use Rattle.schedule.proofs.+across+borrowed+collect+free+gather+local+near+visit.Lts-visit as visit-lts
+use Rattle.schedule.proofs.+across+borrowed+collect+free+gather+local+near+visit.Lts-near as near-lts
+use Rattle.schedule.proofs.+across+borrowed+collect+free+gather+local+near+visit.Lts-local as local-lts
+use Rattle.schedule.proofs.+across+borrowed+collect+free+gather+local+near+visit.Lts-across as across-lts
+
+-- ---- `visit`
+
+pub visit-is-passed-requires : (t : ℕ) → visit-lts.Need-is-passed-requires (measures.visit-calls t) (measures.visit-at
+    t) visit.Post
+visit-is-passed-requires t c κs =
+    let p = c .before .before .before .before .pre .1 in (scoped _ _ _ _ (p .1 .0), p .1 .1 .0)
+
+pub visit-returns : (t : ℕ) → visit-lts.Need-returns (measures.visit-calls t) (measures.visit-at t) visit.Post
+visit-returns t c =
+    let p = c .before .before .before .before .before .before .pre .1 in
+    visit-passed _ _ _ _ (p .1 .0) _ _ _ (p .1 .1 .0) _ _ _ (p .1 .1 .1) _ (c .before .is-passed .ensures)
+    (c .if1 .taken)
+
+pub visit-slice-read-if2 : (t : ℕ) → visit-lts.Need-slice-read-if2 (measures.visit-calls t) (measures.visit-at t)
+    visit.Post
+visit-slice-read-if2 t c =
+    let p = c .before .before .before .before .before .before .before .pre .1 in omega (
+      arith,
+      p .1 .0 .few,
+      p .1 .1 .0,
+      p .1 .1 .1 .marks-long,
+    )
+
+pub visit-returns-2 : (t : ℕ) → visit-lts.Need-returns-2 (measures.visit-calls t) (measures.visit-at t) visit.Post
+visit-returns-2 t c =
+    let p = c .before .before .before .before .before .before .before .before .pre .1 in
+    visit-seen _ _ _ _ (p .1 .0) _ _ _ (p .1 .1 .0) _ _ _ (p .1 .1 .1) _
+    (c .before .before .before .is-passed .ensures) (c .before .before .if1 .left)
+    (c .if2 .taken)
+
+pub visit-near-requires : (t : ℕ) → visit-lts.Need-near-requires (measures.visit-calls t) (measures.visit-at t)
+    visit.Post
+visit-near-requires t c κs =
+    let c5 = c .before .before .before .before .before in
+    (omega arith, c5 .before .before .before .before .before .pre .1)
+
+pub visit-put-requires : (t : ℕ) → visit-lts.Need-put-requires (measures.visit-calls t) (measures.visit-at t) visit.Post
+visit-put-requires t c κs =
+    let c5 = c .before .before .before .before .before in
+    let c11 = c5 .before .before .before .before .before .before in
+    let p = c11 .before .before .before .before .before .before .pre .1 in
+    let w = c .before .before .before .before .before .before .near .ensures in
+    let fresh = near-fresh _ _ _ _ (p .1 .0) _ _ _ (p .1 .1 .0) _ _ _ (p .1 .1 .1) _
+    (c5 .before .before .before .before .before .before .before .is-passed .ensures)
+    (c5 .before .before .before .before .before .before .if1 .left) (c5 .before .before .before .before .if2 .left) _ _
+    _ w in
+    let room = put-room _ _ _ _ (w .lent) _ (p .1 .1 .0) (p .1 .0 .few) fresh in
+    (room, omega (arith, p .1 .1 .0, p .1 .0 .few), w .lent .marks-long, w .lent .held .long)
+
+pub visit-same-length : (t : ℕ) → visit-lts.Need-same-length (measures.visit-calls t) (measures.visit-at t) visit.Post
+visit-same-length t c =
+    let c6 = c .before .before .before .before .before .before in
+    c .before .before .before .before .put .kept .0
+    ∙ c6 .before .before .before .before .before .near .kept .1 .1 .1 .1 .1 .0
+
+pub visit-same-length-2 : (t : ℕ) → visit-lts.Need-same-length-2 (measures.visit-calls t) (measures.visit-at t)
+    visit.Post
+visit-same-length-2 t c =
+    let c6 = c .before .before .before .before .before .before in
+    c .before .before .before .before .put .kept .1 .0
+    ∙ c6 .before .before .before .before .before .near .kept .1 .1 .1 .1 .1 .1 .0
+
+pub visit-returns-3 : (t : ℕ) → visit-lts.Need-returns-3 (measures.visit-calls t) (measures.visit-at t) visit.Post
+visit-returns-3 t c =
+    let c4 = c .before .before .before .before in
+    let c9 = c4 .before .before .before .before .before in
+    let c16 = c9 .before .before .before .before .before .before .before in
+    let p = c16 .before .before .before .before .before .before .pre .1 in
+    let w = c4 .before .before .before .before .before .before .before .near .ensures in
+    visit-new _ _ _ _ (p .1 .0) _ _ _ (p .1 .1 .0) _ _ _ (p .1 .1 .1) _
+    (c9 .before .before .before .before .before .before .before .before .is-passed .ensures)
+    (c9 .before .before .before .before .before .before .before .if1 .left)
+    (c9 .before .before .before .before .before .if2 .left) _ _ _ w _ _ _ (c4 .put .ensures) (c4 .put .kept .1 .0
+    ∙ w .lent .held .long)
+
+-- ---- `near`
+
+pub near-is-end-requires : (t : ℕ) → near-lts.Need-is-end-requires (measures.near-calls t) (measures.near-at t)
+    near.Post
+near-is-end-requires t c κs =
+    let p = c .before .before .before .before .pre .1 in (scoped _ _ _ _ (p .1 .0), p .1 .1 .0)
+
+pub near-returns : (t : ℕ) → near-lts.Need-returns (measures.near-calls t) (measures.near-at t) near.Post
+near-returns t c =
+    let p = c .before .before .before .before .before .before .pre .1 in
+    near-stops _ _ _ _ (p .1 .0) _ _ _ _ _ _ (c .before .is-end .ensures) (c .if1 .taken) _ (p .1 .1 .1)
+
+pub near-relation-requires : (t : ℕ) → near-lts.Need-relation-requires (measures.near-calls t) (measures.near-at t)
+    near.Post
+near-relation-requires t c κs =
+    let p = c .before .before .before .before .before .before .pre .1 in (scoped _ _ _ _ (p .1 .0), p .1 .1 .0)
+
+pub near-local-requires : (t : ℕ) → near-lts.Need-local-requires (measures.near-calls t) (measures.near-at t) near.Post
+near-local-requires t c κs =
+    let c6 = c .before .before .before .before .before .before in
+    (omega arith, c6 .before .before .before .before .before .pre .1)
+
+pub near-across-requires : (t : ℕ) → near-lts.Need-across-requires (measures.near-calls t) (measures.near-at t)
+    near.Post
+near-across-requires t c κs =
+    let c6 = c .before .before .before .before .before .before in
+    (omega arith, c6 .before .before .before .before .before .pre .1)
+
+pub near-same-length : (t : ℕ) → near-lts.Need-same-length (measures.near-calls t) (measures.near-at t) near.Post
+near-same-length t c =
+    c .before .before .before .before .local .kept .1 .1 .1 .1 .1 .0
+
+pub near-same-length-2 : (t : ℕ) → near-lts.Need-same-length-2 (measures.near-calls t) (measures.near-at t) near.Post
+near-same-length-2 t c =
+    c .before .before .before .before .local .kept .1 .1 .1 .1 .1 .1 .0
+
+pub near-returns-2 : (t : ℕ) → near-lts.Need-returns-2 (measures.near-calls t) (measures.near-at t) near.Post
+near-returns-2 t c =
+    let c5 = c .before .before .before .before .before in
+    let c11 = c5 .before .before .before .before .before .before in
+    let r = c5 .before .before .before .before .relation in
+    near-goes _ _ _ _ (c11 .before .before .before .before .before .pre .1 .1 .0) _ _ _ _ _ _
+    (c5 .before .before .before .before .before .before .is-end .ensures)
+    (c5 .before .before .before .before .before .if1 .left) (relIn Local)
+    (told _ _ _ _ _ _ (r .result) Local
+    (c .before .before .before .before .before .before .before .enum-told .given .1) (r .ensures)) _ _ _
+    (c .before .before .before .before .local .ensures)
+
+pub near-same-length-3 : (t : ℕ) → near-lts.Need-same-length-3 (measures.near-calls t) (measures.near-at t) near.Post
+near-same-length-3 t c =
+    c .before .before .before .before .across .kept .1 .1 .1 .1 .1 .0
+
+pub near-same-length-4 : (t : ℕ) → near-lts.Need-same-length-4 (measures.near-calls t) (measures.near-at t) near.Post
+near-same-length-4 t c =
+    c .before .before .before .before .across .kept .1 .1 .1 .1 .1 .1 .0
+
+pub near-returns-3 : (t : ℕ) → near-lts.Need-returns-3 (measures.near-calls t) (measures.near-at t) near.Post
+near-returns-3 t c =
+    let c5 = c .before .before .before .before .before in
+    let c11 = c5 .before .before .before .before .before .before in
+    let r = c5 .before .before .before .before .relation in
+    near-goes _ _ _ _ (c11 .before .before .before .before .before .pre .1 .1 .0) _ _ _ _ _ _
+    (c5 .before .before .before .before .before .before .is-end .ensures)
+    (c5 .before .before .before .before .before .if1 .left) (relIn Deeper)
+    (told _ _ _ _ _ _ (r .result) Deeper
+    (c .before .before .before .before .before .before .before .enum-told2 .given .1) (r .ensures)) _ _ _
+    (c .before .before .before .before .across .ensures)
+
+pub near-returns-4 : (t : ℕ) → near-lts.Need-returns-4 (measures.near-calls t) (measures.near-at t) near.Post
+near-returns-4 t c =
+    let c5 = c .before .before .before .before .before in
+    let c9 = c5 .before .before .before .before in
+    let r = c .before .before .relation in
+    near-goes _ _ _ _ (c9 .pre .1 .1 .0) _ _ _ _ _ _ (c .before .before .before .before .is-end .ensures)
+    (c .before .before .before .if1 .left) (relIn Outside)
+    (told _ _ _ _ _ _ (r .result) Outside (c .enum-told3 .given .1) (r .ensures)) _ _ _
+    (walk-start _ _ _ _ (c9 .pre .1 .1 .0) _ _ _ _ _ (c9 .pre .1 .1 .1 .1))
+
+-- ---- `local`
+
+pub local-loop-holds : (t : ℕ) → local-lts.Need-loop-holds
+    (measures.local-calls t) (measures.local-at t) local.Post measures.local-Inv-loop measures.local-μ-loop
+local-loop-holds t c =
+    let p = c .before .before .before .before .before .before .before .pre .1 in
+    (omega arith, refl, refl, words-begin _ _ _ _ (p .1 .0) _ _ _ _ _ _ (p .1 .1 .1))
+
+pub local-add-d : (t : ℕ) → local-lts.Need-add-d (measures.local-calls t) (measures.local-at t) local.Post
+    measures.local-Inv-loop measures.local-μ-loop
+local-add-d t c =
+    let c5 = c .before .before .before .before .before in
+    let p = c5 .before .before .before .before .pre .1 in
+    omega (arith, kids-lower _ _ _ _ _ (p .1 .0) (p .1 .1 .0) _ (c .before .before .before .before .load .ensures) .fit)
+
+pub local-shared-slice-read-d : (t : ℕ) → local-lts.Need-shared-slice-read-d
+    (measures.local-calls t) (measures.local-at t) local.Post measures.local-Inv-loop measures.local-μ-loop
+local-shared-slice-read-d t c =
+    let c5 = c .before .before .before .before .before in
+    let p = c5 .before .before .before .before .before .pre .1 in
+    omega (
+      arith,
+      p .1 .0 .words,
+      kids-lower _ _ _ _ _ (p .1 .0) (p .1 .1 .0) _
+          (c .before .before .before .before .before .load .ensures) .fit,
+    )
+
+pub local-cast-d : (t : ℕ) → local-lts.Need-cast-d (measures.local-calls t) (measures.local-at t) local.Post
+    measures.local-Inv-loop measures.local-μ-loop
+local-cast-d t c =
+    let c5 = c .before .before .before .before .before in
+    let p = c5 .before .before .before .before .before .pre .1 in
+    omega (
+      arith,
+      p .1 .0 .few,
+      kids-lower _ _ _ _ _ (p .1 .0) (p .1 .1 .0) _
+          (c .before .before .before .before .before .load .ensures) .low (c .before .before .loop .k)
+          (c .before .loop-test .taken),
+    )
+
+pub local-visit-requires : (t : ℕ) → local-lts.Need-visit-requires
+    (measures.local-calls t) (measures.local-at t) local.Post measures.local-Inv-loop measures.local-μ-loop
+local-visit-requires t c κs =
+    let c6 = c .before .before .before .before .before .before in
+    let p = c6 .before .before .before .before .before .before .pre .1 in
+    let l = c .before .before .before .before .loop in
+    let lower = kids-down _ _ _ _ _ (p .1 .0) (p .1 .1 .0) _
+    (c .before .before .before .before .before .before .before .load .ensures) (l .k)
+    (c .before .before .before .loop-test .taken) in
+    (omega (arith, lower), (p .0, (p .1 .0, (omega (arith, lower, p .1 .1 .0), l .inv .3 .lent))))
+
+pub local-loop-again : (t : ℕ) → local-lts.Need-loop-again
+    (measures.local-calls t) (measures.local-at t) local.Post measures.local-Inv-loop measures.local-μ-loop
+local-loop-again t c =
+    let c5 = c .before .before .before .before .before in
+    let c11 = c5 .before .before .before .before .before .before in
+    let l = c5 .before .before .before .before .loop in
+    let v = c .before .before .before .before .visit in (
+      omega arith,
+      v .kept .1 .1 .1 .1 .1 .0 ∙ l .inv .1,
+      v .kept .1 .1 .1 .1 .1 .1 .0 ∙ l .inv .2,
+      words-go _ _ _ _ (c11 .before .before .before .before .before .before .pre .1 .1 .0) _ _ _ _ _ (l .k) _ refl _ _
+          _ _ _ _ (l .inv .3) (v .ensures),
+    )
+
+pub local-same-length : (t : ℕ) → local-lts.Need-same-length
+    (measures.local-calls t) (measures.local-at t) local.Post measures.local-Inv-loop measures.local-μ-loop
+local-same-length t c =
+    c .before .loop .inv .1
+
+pub local-same-length-2 : (t : ℕ) → local-lts.Need-same-length-2
+    (measures.local-calls t) (measures.local-at t) local.Post measures.local-Inv-loop measures.local-μ-loop
+local-same-length-2 t c =
+    c .before .loop .inv .2
+
+pub local-returns : (t : ℕ) → local-lts.Need-returns (measures.local-calls t) (measures.local-at t) local.Post
+    measures.local-Inv-loop measures.local-μ-loop
+local-returns t c =
+    let c5 = c .before .before .before .before .before in
+    let p = c5 .before .before .before .before .pre .1 in
+    let l = c .before .loop in
+    words-done _ _ _ _ (p .1 .0) _ _ _ _ _ (p .1 .1 .0) _ (c .before .before .before .before .load .ensures) (l .k)
+    (omega arith) _ _ _ (l .inv .3)
+
+-- ---- `across`
+
+pub across-free-requires : (t : ℕ) → across-lts.Need-free-requires
+    (measures.across-calls t) (measures.across-at t) across.Post measures.across-Inv-loop measures.across-μ-loop
+across-free-requires t c κs =
+    let p = c .before .before .before .before .before .before .pre .1 in (
+      omega arith,
+      (
+        p .0,
+        (
+          p .1 .0,
+          (
+            p .1 .1 .0,
+            search needs,
+          ),
+        ),
+      ),
+    )
+
+pub across-loop-holds : (t : ℕ) → across-lts.Need-loop-holds
+    (measures.across-calls t) (measures.across-at t) across.Post measures.across-Inv-loop measures.across-μ-loop
+across-loop-holds t c =
+    let p = c .before .before .before .before .before .before .before .before .pre .1 in (
+      omega arith,
+      refl,
+      refl,
+      walk-start _ _ _ _ (p .1 .0) _ _ _ _ _ (p .1 .1 .1),
+    )
+
+pub across-array-read-wide : (t : ℕ) → across-lts.Need-array-read-wide
+    (measures.across-calls t) (measures.across-at t) across.Post measures.across-Inv-loop measures.across-μ-loop
+across-array-read-wide t c =
+    omega (arith, c .before .before .before .free .ensures .fit)
+
+pub across-visit-requires : (t : ℕ) → across-lts.Need-visit-requires
+    (measures.across-calls t) (measures.across-at t) across.Post measures.across-Inv-loop measures.across-μ-loop
+across-visit-requires t c κs =
+    let c7 = c .before .before .before .before .before .before .before in
+    let p = c7 .before .before .before .before .before .before .pre .1 in
+    let l = c .before .before .before .before .loop in
+    let lower = c .before .before .before .before .before .before .free .ensures .low (l .k)
+    (c .before .before .before .loop-test .taken) in
+    let d = c .before .before .wide .ensures .0 in
+    (omega (arith, lower, d), (p .0, (p .1 .0, (omega (arith, lower, d, p .1 .1 .0), l .inv .3 .lent))))
+
+pub across-loop-again : (t : ℕ) → across-lts.Need-loop-again
+    (measures.across-calls t) (measures.across-at t) across.Post measures.across-Inv-loop measures.across-μ-loop
+across-loop-again t c =
+    let c5 = c .before .before .before .before .before in
+    let c12 = c5 .before .before .before .before .before .before .before in
+    let l = c5 .before .before .before .before .loop in
+    let f = c5 .before .before .before .before .before .before .free in
+    let v = c .before .before .before .before .visit in
+    let long : length (f .last .1 .1 .1 .1 .0) ≡ 512 = search needs in (
+      omega arith,
+      v .kept .1 .1 .1 .1 .1 .0 ∙ l .inv .1,
+      v .kept .1 .1 .1 .1 .1 .1 .0 ∙ l .inv .2,
+      list-go _ _ _ _ (c12 .before .before .before .before .before .before .pre .1 .1 .0) _ _ _ _ _ (l .k) _ (omega
+          (arith, f .ensures .fit, long))
+          (c .before .before .before .before .before .before .before .wide .ensures .0) _ _ _ _ _ _ (l .inv .3)
+          (v .ensures),
+    )
+
+pub across-same-length : (t : ℕ) → across-lts.Need-same-length
+    (measures.across-calls t) (measures.across-at t) across.Post measures.across-Inv-loop measures.across-μ-loop
+across-same-length t c =
+    c .before .loop .inv .1
+
+pub across-same-length-2 : (t : ℕ) → across-lts.Need-same-length-2
+    (measures.across-calls t) (measures.across-at t) across.Post measures.across-Inv-loop measures.across-μ-loop
+across-same-length-2 t c =
+    c .before .loop .inv .2
+
+pub across-returns : (t : ℕ) → across-lts.Need-returns
+    (measures.across-calls t) (measures.across-at t) across.Post measures.across-Inv-loop measures.across-μ-loop
+across-returns t c =
+    let c5 = c .before .before .before .before .before in
+    let p = c5 .before .before .before .before .before .pre .1 in
+    let l = c .before .loop in
+    let f = c .before .before .before .free in
+    list-done _ _ _ _ (p .1 .0) _ _ _ _ _ _ (f .result) (f .ensures .is) (l .k) (omega arith) _ _ _ (l .inv .3)
