@@ -186,7 +186,7 @@ module _ (bs : List ℕ) (count : ℕ) (sound : Sound bs) (e : count ≡ treeCou
   pub trees-there : count ≤ many (treesFrom bs 0)
   trees-there = omega (arith, e, tree-count bs (sound .closed), ap many (trees-all bs))
 
-  trees-whole : takeT count (treesFrom bs 0) ≡ treesOf bs
+  pub trees-whole : takeT count (treesFrom bs 0) ≡ treesOf bs
   trees-whole =
       let c : count ≡ many (treesOf bs) = e ∙ sym (tree-count bs (sound .closed)) in
       rw (c, trees-all bs) (take-all (treesOf bs))

@@ -1,0 +1,270 @@
+-- Record i by its kind, as the definitions have it.
+-- In order: the definitions unfolded; a record that is not counted, and a use; definitions, blocks and other records;
+-- a SelectField; a lambda.
+-- Assumes nothing.
+use Prim.Native.Nat.{ℕ, _+_, _-_, _<_, _≤_}
+use mathlib.Core.Path.{_≡_, refl, sym, ap, _∙_, subst}
+use mathlib.Core.Bool.{Bool, true, false}
+use mathlib.Core.Option.{some}
+use mathlib.Core.List.{List}
+use native.Mathlib.Omega.{arith}
+use borrow.Author.Tests.{eqb-true, eqb-false, ne-eqb, lt-ltb, le-ltb}
+use lib.Dec.{eqb}
+use lib.ListN.{length}
+use Rattle.model.specs.Answer.{refused, good, _>>=_, guard}
+use Rattle.model.specs.Shape.{shapes}
+use Rattle.model.specs.Tree.{Rec, Tree, nil, takeT, dropT, size, sizes, depth}
+use Rattle.model.specs.Forest.{recordCount}
+use Rattle.model.specs.Binding.{Kind, kind, valUse, valDef, block, lambda, field, other, isBlock, idOf, argsOf}
+use Rattle.model.specs.Intern.{Out, Outs, Env, resolve, finish, func, withOpts, allocArgs, bindArgs, openScope, read}
+use Rattle.model.specs.Intern.{internField, internFunc, internKind, intern}
+use Rattle.model.specs.Intern as intern
+use Rattle.record.specs.Record.{rowAt}
+use Rattle.shape.proofs.Fitting.{fitting}
+use Rattle.walk.specs.Walk.{treesFrom, recAt, kidsAt, restAt, treeAt, Sound}
+use Rattle.walk.proofs.Bridge.{row-fits, records-few}
+use Rattle.bindings.specs.Bindings.{envOf}
+use Rattle.interner.specs.declared.State.{State}
+use Rattle.interner.specs.declared.Step.{Step}
+use Rattle.interner.specs.State.{absOf}
+use Rattle.interner.specs.Step.{outOf, given}
+use Rattle.opening.specs.Opening.{withReading}
+use Rattle.opening.proofs.Counts.{reading-abs, reading-rep}
+use Rattle.concluding.specs.Concluding.{Uses}
+use Rattle.theory.proofs.Acceptance.Records.{kind-shape, op-field}
+use Rattle.standing.specs.Standing.{WellAll}
+use Rattle.standing.proofs.Enter.{no-args, kids-well}
+use Rattle.intern.specs.declared.Here.{Here}
+use Rattle.intern.specs.declared.Read.{Read}
+use Rattle.intern.specs.declared.Kids.{Kids}
+use Rattle.intern.specs.Steps.{refusedRead}
+use Rattle.intern.specs.Words.{Kept}
+use Rattle.intern.specs.Intern.{Stands, Past, Reads, Legible, Counted, kidsRead, concluded, WellKids}
+use Rattle.intern.proofs.Kept.{kept-none}
+use Rattle.intern.proofs.After.{out-good}
+use Rattle.intern.proofs.Bodies.{lambda-kind}
+use Rattle.intern.proofs.Records.{reads-refused, concluded-10, concluded-11, concluded-other}
+
+-- ---- the definitions unfolded
+
+module _ (at cur : ℕ) (r : Rec) (env : Env) (kids : intern.Kids) (st : intern.State) where
+  kind-keyed : (r .shape ≡ 7 → ⊥) → (r .shape ≡ 12 → ⊥) → (r .shape ≡ 17 → ⊥) →
+      internKind (kind (r .shape)) at cur r env kids st ≡ concluded at cur r (kids cur env st)
+  unfolding kind internKind
+  kind-keyed a b c = go (eqb (r .shape) 10) (eqb (r .shape) 11) refl refl
+    where
+      m : Outs
+      m = kids cur env st
+
+      go : (u v : Bool) → eqb (r .shape) 10 ≡ u → eqb (r .shape) 11 ≡ v →
+          internKind (kind (r .shape)) at cur r env kids st ≡ concluded at cur r (kids cur env st)
+      go true v e f =
+          let s : r .shape ≡ 10 = eqb-true (r .shape) 10 e in
+          let k : kind (r .shape) ≡ valDef = rw s in
+          rw k (sym (concluded-10 at cur r m s))
+      go false true e f =
+          let s : r .shape ≡ 11 = eqb-true (r .shape) 11 f in
+          let k : kind (r .shape) ≡ block = rw s in
+          rw k (sym (concluded-11 at cur r m s))
+      go false false e f =
+          let k : kind (r .shape) ≡ other =
+          rw (ne-eqb (r .shape) 7 a, e, f, ne-eqb (r .shape) 12 b, ne-eqb (r .shape) 17 c, kind) in
+          rw k (sym (concluded-other at cur r m (eqb-false (r .shape) 10 e) (eqb-false (r .shape) 11 f)))
+
+  pub field-refused : (n p : ℕ) → kids cur env st ≡ refused n p → internKind field at cur r env kids st ≡ refused n p
+  unfolding internKind _>>=_
+  field-refused n p e = rw e
+
+  pub field-good : (os : List ℕ × List ℕ × intern.State) → kids cur env st ≡ good os →
+      internKind field at cur r env kids st ≡ internField at cur r env kids (os .0) (os .2)
+  unfolding internKind _>>=_
+  field-good os e = rw e
+
+  abbrev xs : List (ℕ × List ℕ)
+  xs = argsOf (r .aux) (r .lit)
+
+  pub func-refused : (n p : ℕ) → allocArgs at cur r xs st ≡ refused n p → internFunc at cur r env kids st ≡ refused n p
+  unfolding internFunc _>>=_
+  func-refused n p e = rw e
+
+  module _ (made : List ℕ × List ℕ × intern.State) (e : allocArgs at cur r xs st ≡ good made) where
+    abbrev body : Outs
+    body =
+        kids (length (made .2 .scopes)) (bindArgs xs (made .0) env)
+        (openScope cur (some (made .0)) (made .2 .tables) (made .2))
+
+    pub func-kids-refused : (n p : ℕ) → body ≡ refused n p → internFunc at cur r env kids st ≡ refused n p
+    unfolding internFunc _>>=_
+    func-kids-refused n p f = rw (e, f)
+
+    pub func-good : (os : List ℕ × List ℕ × intern.State) → body ≡ good os →
+        internFunc at cur r env kids st
+        ≡ finish at cur r (os .0) (made .0) (func (withOpts xs (made .0)) (length (made .2 .scopes))) (os .2)
+    unfolding internFunc _>>=_
+    func-good os f = rw (e, f)
+
+module _ (bs : List ℕ) (i cur : ℕ) (env : Env) (s : intern.State) where
+  abbrev t : Tree
+  t = treeAt bs i
+
+  intern-full : 2048 ≤ s .readings → intern t i cur env s ≡ refused 11 i
+  unfolding intern guard
+  intern-full l = rw (le-ltb (s .readings) 2048 l, guard)
+
+  module _ (l : s .readings < 2048) where
+    intern-read : intern t i cur env s
+        ≡ internKind (kind (recAt bs i .shape)) i cur (recAt bs i) env (kidsRead bs i) (read s)
+    unfolding intern guard
+    intern-read = rw (lt-ltb (s .readings) 2048 l, guard)
+
+    intern-use : recAt bs i .shape ≡ 7 → intern t i cur env s ≡ good (resolve env (idOf (recAt bs i)), read s)
+    unfolding kind internKind
+    intern-use e =
+        let k : kind (recAt bs i .shape) ≡ valUse = rw e in
+        intern-read ∙ ap (λ (z : Kind). internKind z i cur (recAt bs i) env (kidsRead bs i) (read s)) k
+
+    intern-lambda : recAt bs i .shape ≡ 12 →
+        intern t i cur env s ≡ internFunc i cur (recAt bs i) env (kidsRead bs i) (read s)
+    unfolding internKind
+    intern-lambda e =
+        intern-read
+        ∙ ap (λ (z : Kind). internKind z i cur (recAt bs i) env (kidsRead bs i) (read s)) (lambda-kind _ e)
+
+    intern-field : recAt bs i .shape ≡ 17 →
+        intern t i cur env s ≡ internKind field i cur (recAt bs i) env (kidsRead bs i) (read s)
+    unfolding kind
+    intern-field e =
+        let k : kind (recAt bs i .shape) ≡ field = rw e in
+        intern-read ∙ ap (λ (z : Kind). internKind z i cur (recAt bs i) env (kidsRead bs i) (read s)) k
+
+    intern-keyed : (recAt bs i .shape ≡ 7 → ⊥) → (recAt bs i .shape ≡ 12 → ⊥) → (recAt bs i .shape ≡ 17 → ⊥) →
+        intern t i cur env s ≡ concluded i cur (recAt bs i) (kidsRead bs i cur env (read s))
+    intern-keyed a b c = intern-read ∙ kind-keyed i cur (recAt bs i) env (kidsRead bs i) (read s) a b c
+
+-- ---- a record of any kind
+
+module _ (bs ws : List ℕ) (st : State) (i : ℕ) (at : Here) (sound : Sound bs) (lt : i < recordCount bs)
+    (stands : Stands bs ws st i (depth (treeAt bs i)) at)
+    (legible : Legible (treeAt bs i) (at .scope) (envOf ws (at .top)) (absOf bs ws st)) where
+  abbrev env₀ : Env
+  env₀ = envOf ws (at .top)
+
+  abbrev whole : Out
+  whole = intern (treeAt bs i) i (at .scope) env₀ (absOf bs ws st)
+
+  -- no reading is left
+  pub record-full : (r : Read) → st .readings ≡ 2048 → r ≡ refusedRead st 11 i i → Reads bs ws st i at whole ws r
+  record-full r e f =
+      subst (Reads bs ws st i at whole ws) (sym f)
+      (reads-refused i at whole (kept-none at ws st) (stands .rep) 11 i i (λ z. omega arith)
+      (intern-full bs i (at .scope) env₀ (absOf bs ws st) (omega arith)))
+
+  module _ (unread : st .readings ≡ 2048 → ⊥) where
+    left : st .readings < 2048
+    left = let few = stands .rep .few-readings in omega (arith, few, unread)
+
+    pub record-left : st .readings < 2048
+    record-left = left
+
+    module _ (counted : State) (is : counted ≡ withReading st) where
+      pub counted-stands : Stands bs ws counted i (depth (treeAt bs i)) at
+      counted-stands = rw is (record {
+        rep = reading-rep bs ws st (stands .rep) left;
+        scope = stands .scope;
+        held = stands .held;
+        top = stands .top;
+        level = stands .level;
+        tables = stands .tables;
+      })
+
+      counted-abs : absOf bs ws counted ≡ read (absOf bs ws st)
+      counted-abs = ap (absOf bs ws) is ∙ reading-abs bs ws st
+
+      pub counted-well : Counted (treeAt bs i) (at .scope) env₀ (absOf bs ws counted)
+      counted-well = record { before = absOf bs ws st; legible = legible; few = left; is = counted-abs }
+
+      pub counted-kids : (recAt bs i .shape ≡ 12 → ⊥) → WellKids bs ws counted i at
+      counted-kids n =
+          subst (λ (z : intern.State). WellAll (kidsAt bs i) (isBlock (recAt bs i)) (recAt bs i .opcode) 0 (at .scope)
+          env₀ z 1) (sym counted-abs)
+          (kids-well (legible .well) (no-args (recAt bs i) (λ e. n (kind-shape _ lambda e .shape))) left)
+
+      pub counted-opcode : recAt bs i .shape ≡ 17 → recAt bs i .opcode ≡ 0x8C
+      counted-opcode e = op-field (recAt bs i) e (legible .well .checked .fine .1)
+
+      -- the answer of its kind is the record's
+      counted-reads : (o o′ : Out) (ws′ : List ℕ) (r : Read) → o′ ≡ o → Reads bs ws counted i at o ws′ r →
+          Reads bs ws st i at o′ ws′ r
+      counted-reads o o′ ws′ r e v = record {
+        rep = v .rep;
+        is = v .is ∙ sym e;
+        past = v .past;
+        kept = subst (λ (z : State). Kept at ws ws′ z (r .step .st) → Kept at ws ws′ st (r .step .st)) (sym is)
+            (λ k. record { words = k .words; depth = k .depth; scopes = k .scopes }) (v .kept);
+      }
+
+      module _ (ws′ : List ℕ) (r : Read) where
+        pub record-lambda : recAt bs i .shape ≡ 12 →
+            Reads bs ws counted i at
+            (internFunc i (at .scope) (recAt bs i) env₀ (kidsRead bs i) (absOf bs ws counted)) ws′ r →
+            Reads bs ws st i at whole ws′ r
+        record-lambda e v =
+            counted-reads _ whole ws′ r
+            (intern-lambda bs i (at .scope) env₀ (absOf bs ws st) left e
+            ∙ ap (internFunc i (at .scope) (recAt bs i) env₀ (kidsRead bs i)) (sym counted-abs)) v
+
+        pub record-field : recAt bs i .shape ≡ 17 →
+            Reads bs ws counted i at
+            (internKind field i (at .scope) (recAt bs i) env₀ (kidsRead bs i) (absOf bs ws counted)) ws′ r →
+            Reads bs ws st i at whole ws′ r
+        record-field e v =
+            counted-reads _ whole ws′ r
+            (intern-field bs i (at .scope) env₀ (absOf bs ws st) left e
+            ∙ ap (internKind field i (at .scope) (recAt bs i) env₀ (kidsRead bs i)) (sym counted-abs)) v
+
+        pub record-keyed : (recAt bs i .shape ≡ 7 → ⊥) → (recAt bs i .shape ≡ 12 → ⊥) →
+            (recAt bs i .shape ≡ 17 → ⊥) →
+            Reads bs ws counted i at
+            (concluded i (at .scope) (recAt bs i) (kidsRead bs i (at .scope) env₀ (absOf bs ws counted))) ws′ r →
+            Reads bs ws st i at whole ws′ r
+        record-keyed a b c v =
+            counted-reads _ whole ws′ r
+            (intern-keyed bs i (at .scope) env₀ (absOf bs ws st) left a b c
+            ∙ ap (λ (z : intern.State). concluded i (at .scope) (recAt bs i) (kidsRead bs i (at .scope) env₀ z))
+            (sym counted-abs)) v
+
+      -- a use
+      pub record-uses : recAt bs i .shape ≡ 7 → Uses bs ws i (at .top)
+      unfolding depth
+      record-uses e = record {
+        from = lt;
+        shape = e;
+        words = omega (arith, stands .top, stands .rep .words, lt, records-few bs sound);
+      }
+
+      use-kids : recAt bs i .shape ≡ 7 → rowAt bs i .kids ≡ 0
+      unfolding shapes
+      use-kids e =
+          let f = fitting (rowAt bs i) (row-fits bs i (sound .fit) lt) in
+          let m = rw e at (f .many) in omega (arith, m)
+
+      use-past : recAt bs i .shape ≡ 7 → Past bs i (size (treeAt bs i)) (restAt bs i) (i + 1)
+      unfolding size kidsAt restAt takeT dropT
+      use-past e =
+          let z : takeT (rowAt bs i .kids) (treesFrom bs (i + 1)) ≡ nil = rw (use-kids e) in
+          (omega (arith, ap sizes z), rw (use-kids e))
+
+      pub record-use : (r : Step) → recAt bs i .shape ≡ 7 →
+          r ≡ given counted (resolve env₀ (idOf (recAt bs i))) →
+          Reads bs ws st i at whole ws (record { step = r; next = i + 1 })
+      record-use r e f =
+          counted-reads _ whole ws (record { step = r; next = i + 1 }) refl (record {
+            rep = rw f (counted-stands .rep);
+            is =
+                ap (outOf bs ws) f
+                ∙ out-good bs ws (given counted (resolve env₀ (idOf (recAt bs i)))) refl
+                ∙ ap (λ (z : intern.State). good (resolve env₀ (idOf (recAt bs i)), z)) counted-abs
+                ∙ sym (intern-use bs i (at .scope) env₀ (absOf bs ws st) left e);
+            past = λ z. use-past e;
+            kept = rw f (kept-none at ws counted);
+          })

@@ -1,0 +1,184 @@
+-- What a record gives once its children were read, or read twice.
+-- In order: definitions, blocks and other records; a SelectField.
+-- Assumes nothing.
+use Prim.Native.Nat.{ℕ, _+_, _<_}
+use mathlib.Core.Path.{_≡_, sym, ap, _∙_, subst}
+use mathlib.Core.Bool.{Bool, true, false}
+use mathlib.Core.List.{List}
+use native.Mathlib.Omega.{arith}
+use lib.ListN.{getD}
+use Rattle.model.specs.Tree.{Rec, depth}
+use Rattle.model.specs.Forest.{recordCount}
+use Rattle.model.specs.Binding.{field, isBlock}
+use Rattle.model.specs.Intern.{Out, Env, internGeneral, internField, internKind}
+use Rattle.record.specs.Record.{rowAt}
+use Rattle.shape.proofs.Fitting.{fits-field}
+use Rattle.walk.specs.Walk.{recAt, treeAt, Sound}
+use Rattle.walk.proofs.Bridge.{row-fits}
+use Rattle.symbols.specs.Words.{pendingFrom}
+use Rattle.bindings.specs.Bindings.{envOf}
+use Rattle.bindings.proofs.Laws.{env-words}
+use Rattle.interner.specs.declared.State.{State}
+use Rattle.interner.specs.declared.Step.{Step}
+use Rattle.interner.specs.State.{absOf}
+use Rattle.interner.specs.Step.{Answers}
+use Rattle.concluding.specs.Concluding.{readsAgain, Concludes, Selects, Input}
+use Rattle.concluding.proofs.Selecting.{selects-input, field-again}
+use Rattle.intern.specs.declared.Here.{Here}
+use Rattle.intern.specs.declared.Read.{Read}
+use Rattle.intern.specs.declared.Kids.{Kids}
+use Rattle.intern.specs.Steps.{refusedRead}
+use Rattle.intern.specs.Intern.{Stands, Reads, kidsRead, concluded, WellKids, Operands, kidsAnswer, ReadsAll}
+use Rattle.intern.proofs.Kept.{kept-then}
+use Rattle.intern.proofs.Records.{reads-refused, reads-answers, concluded-other, concluded-refused, Below, Gave}
+use Rattle.intern.proofs.Records.{stands-below, stands-later, kids-operands, kids-fail, kids-gave}
+use Rattle.intern.proofs.Cases.{field-refused, field-good}
+
+module _ (bs ws : List ℕ) (st : State) (i : ℕ) (at : Here) (sound : Sound bs) (lt : i < recordCount bs)
+    (stands : Stands bs ws st i (depth (treeAt bs i)) at) (well : WellKids bs ws st i at) where
+  abbrev r : Rec
+  r = recAt bs i
+
+  abbrev env : Env
+  env = envOf ws (at .top)
+
+  below : Below bs ws st i at
+  below = stands-below bs ws st i at stands
+
+  -- ---- definitions, blocks and other records
+
+  module _ (n op : ℕ) (en : n ≡ rowAt bs i .kids) (eo : op ≡ recAt bs i .opcode) where
+    pub keyed-operands : Operands bs ws st (i + 1) n op at
+    keyed-operands =
+        kids-operands bs i sound lt ws st at (isBlock r) below well n op en eo
+
+    module _ (ws₁ : List ℕ) (k : Kids) (v : ReadsAll bs ws st (i + 1) n op at ws₁ k) where
+      abbrev keyedOut : Out
+      keyedOut = concluded i (at .scope) r (kidsRead bs i (at .scope) env (absOf bs ws st))
+
+      pub keyed-refused : (z : Read) → z ≡ refusedRead (k .st) (k .number) (k .place) i → (k .number ≡ 0 → ⊥) →
+          Reads bs ws st i at keyedOut ws₁ z
+      keyed-refused z e h =
+          subst (Reads bs ws st i at keyedOut ws₁) (sym e)
+          (reads-refused i at keyedOut (v .kept) (v .rep) (k .number) (k .place) i h
+          (ap (concluded i (at .scope) r)
+          (kids-fail bs i sound lt ws st at (isBlock r) below well n op en eo ws₁ k v h)
+          ∙ concluded-refused i (at .scope) r (k .number) (k .place)))
+
+      module _ (ok : k .number ≡ 0) where
+        gave : Gave bs ws st i at (isBlock r) n ws₁ k
+        gave = kids-gave bs i sound lt ws st at (isBlock r) below well n op en eo ws₁ k v ok
+
+        pub keyed-conclude :
+            Concludes bs ws₁ (k .st) i (at .scope) (at .scope) (at .held) (rowAt bs i .kids)
+        keyed-conclude =
+            subst (Concludes bs ws₁ (k .st) i (at .scope) (at .scope) (at .held)) en
+            (gave .conclude (at .scope)
+            (stands .scope))
+
+        pub keyed-done : (ws₂ : List ℕ) (step : Step) →
+            Answers bs ws₁ (k .st)
+            (concluded i (at .scope) r (kidsAnswer bs ws₁ (at .held) (rowAt bs i .kids) k)) ws₂ step →
+            Reads bs ws st i at keyedOut ws₂ (record { step = step; next = k .next })
+        keyed-done ws₂ step a =
+            reads-answers i at keyedOut (v .kept) (v .rep) ws₂ step (k .next)
+            (gave .past)
+            (record {
+              rep = a .rep;
+              leaves = a .leaves;
+              low = a .low;
+              is =
+                  a .is
+                  ∙ ap (λ (z : ℕ). concluded i (at .scope) r (kidsAnswer bs ws₁ (at .held) z k)) (sym en)
+                  ∙ ap (concluded i (at .scope) r)
+                  (sym (gave .is));
+            })
+
+  -- ---- a SelectField
+
+  module _ (shape : recAt bs i .shape ≡ 17) where
+    pub field-one : _≡_ {A = ℕ} 1 (rowAt bs i .kids)
+    field-one = sym (fits-field (rowAt bs i) (row-fits bs i (sound .fit) lt) shape .0)
+
+    module _ (code : recAt bs i .opcode ≡ 0x8C) (op : ℕ) (eo : op ≡ recAt bs i .opcode) (ws₁ : List ℕ) (k : Kids)
+        (v : ReadsAll bs ws st (i + 1) 1 op at ws₁ k) where
+      abbrev fieldOut : Out
+      fieldOut = internKind field i (at .scope) r env (kidsRead bs i) (absOf bs ws st)
+
+      pub field-fails : (z : Read) → z ≡ refusedRead (k .st) (k .number) (k .place) i → (k .number ≡ 0 → ⊥) →
+          Reads bs ws st i at fieldOut ws₁ z
+      field-fails z e h =
+          subst (Reads bs ws st i at fieldOut ws₁) (sym e)
+          (reads-refused i at fieldOut (v .kept) (v .rep) (k .number) (k .place) i h
+          (field-refused i (at .scope) r env (kidsRead bs i) (absOf bs ws st) (k .number) (k .place)
+          (kids-fail bs i sound lt ws st at (isBlock r) below well 1 op field-one eo ws₁ k
+          v h)))
+
+      module _ (ok : k .number ≡ 0) where
+        gave₁ : Gave bs ws st i at (isBlock r) 1 ws₁ k
+        gave₁ = kids-gave bs i sound lt ws st at (isBlock r) below well 1 op field-one eo ws₁ k v ok
+
+        pub field-selects : Selects bs ws₁ (k .st) i (at .scope) (at .held)
+        field-selects = record {
+          concludes =
+              gave₁ .conclude (at .scope) (stands .scope);
+          shape = shape;
+          opcode = code;
+          slots =
+              gave₁ .slots;
+        }
+
+        pub field-input : Input bs ws₁ i (at .held)
+        field-input = selects-input bs ws₁ (k .st) i (at .scope) (at .held) (v .rep) field-selects
+
+        -- what is said of any number of symbols that has the input is so of the state's
+        input-low : getD ws₁ (8200 + at .held) 0 < k .st .symbols
+        input-low =
+            let e : 8200 + at .held + 0 ≡ 8200 + at .held = omega arith in
+            rw e at (field-selects .concludes .lower 0 (omega arith))
+
+        field-is : fieldOut
+            ≡ internField i (at .scope) r env (kidsRead bs i) (pendingFrom ws₁ (at .held) 1) (absOf bs ws₁ (k .st))
+        field-is = field-good i (at .scope) r env (kidsRead bs i) (absOf bs ws st) _ (gave₁ .is)
+
+        module _ (b : Bool)
+            (told : (n : ℕ) → getD ws₁ (8200 + at .held) 0 < n → b ≡ readsAgain bs ws₁ n i (at .held)) where
+          pub field-once : b ≡ false → readsAgain bs ws₁ (k .st .symbols) i (at .held) ≡ false
+          field-once e = sym (told (k .st .symbols) input-low) ∙ e
+
+          pub field-done : (ws₂ : List ℕ) (step : Step) →
+              Answers bs ws₁ (k .st)
+              (internField i (at .scope) r env (kidsRead bs i) (pendingFrom ws₁ (at .held) 1) (absOf bs ws₁ (k .st)))
+              ws₂ step → Reads bs ws st i at fieldOut ws₂ (record { step = step; next = k .next })
+          field-done ws₂ step a =
+              reads-answers i at fieldOut (v .kept) (v .rep) ws₂ step (k .next)
+              (gave₁ .past)
+              (record { rep = a .rep; leaves = a .leaves; low = a .low; is = a .is ∙ sym field-is })
+
+          -- read again
+          pub again-stands : Stands bs ws₁ (k .st) i (depth (treeAt bs i)) at
+          again-stands = stands-later stands (v .rep) (v .kept)
+
+          pub again-kids : WellKids bs ws₁ (k .st) i at
+          again-kids =
+              gave₁ .again
+
+          pub again-done : b ≡ true → (ws₂ : List ℕ) (z : Read) →
+              Reads bs ws₁ (k .st) i at
+              (concluded i (at .scope) r
+              (kidsRead bs i (at .scope) (envOf ws₁ (at .top)) (absOf bs ws₁ (k .st)))) ws₂ z →
+              Reads bs ws st i at fieldOut ws₂ z
+          again-done e ws₂ z w = record {
+            rep = w .rep;
+            is =
+                w .is
+                ∙ concluded-other i (at .scope) r _ (λ q. omega (arith, shape, q)) (λ q. omega (arith, shape, q))
+                ∙ ap (λ (x : Env). internGeneral i (at .scope) r
+                (kidsRead bs i (at .scope) x (absOf bs ws₁ (k .st)))) (env-words ws₁ ws (at .top)
+                (v .kept .words .bound))
+                ∙ sym (field-again bs ws₁ (k .st) i (at .scope) (at .held) env (kidsRead bs i)
+                (sym (told (k .st .symbols) input-low) ∙ e))
+                ∙ sym field-is;
+            past = w .past;
+            kept = kept-then (omega arith) (omega arith) (v .kept) (w .kept);
+          }

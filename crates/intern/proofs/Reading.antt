@@ -1,0 +1,380 @@
+-- The loop over operands: what is read and what is left give the whole.
+-- In order: the start; the next child; a child that is refused; a child read; the end; from the loop's first state.
+-- Assumes nothing.
+use Prim.Native.Nat.{ℕ, zero, suc, _+_, _-_, _<_, _≤_, max}
+use mathlib.Core.Path.{_≡_, refl, sym, ap, _∙_, subst}
+use mathlib.Core.Bool.{Bool, not, _&&_}
+use mathlib.Core.List.{List, [], _∷_, _++_}
+use native.Mathlib.Omega.{arith}
+use native.Mathlib.Numerals.{add-one}
+use lib.ListN.{length, set}
+use Rattle.model.specs.Answer.{good}
+use Rattle.model.specs.Tree.{Tree, Trees, cons, isNil, many, takeT, dropT, size, sizes, depth, depths}
+use Rattle.model.specs.Forest.{recordCount}
+use Rattle.model.specs.Intern.{bindDef, thunked, internScoped, branch, intern, internAll}
+use Rattle.model.specs.Intern as intern
+use Rattle.walk.specs.Walk.{treesFrom, restAt, treeAt}
+use Rattle.walk.proofs.Bridge.{trees-at, trees-left}
+use Rattle.symbols.specs.Words.{wordsFrom, pendingFrom}
+use Rattle.symbols.proofs.Words.{words-agree}
+use Rattle.scopes.specs.Scopes.{scopeWord, levelOf}
+use Rattle.bindings.specs.Bindings.{envOf}
+use Rattle.bindings.specs.Made.{DefBound}
+use Rattle.bindings.proofs.Laws.{env-words}
+use Rattle.interner.specs.declared.State.{State}
+use Rattle.interner.specs.State.{absOf}
+use Rattle.interner.specs.Step.{outOf}
+use Rattle.opening.proofs.Counts.{scopes-count}
+use Rattle.concluding.specs.Concluding.{branchesOf}
+use Rattle.standing.specs.Standing.{Well, WellAll}
+use Rattle.standing.proofs.Enter.{child-plain, child-thunk}
+use Rattle.standing.proofs.Next.{next-well}
+use Rattle.intern.specs.declared.Here.{Here}
+use Rattle.intern.specs.declared.Read.{Read}
+use Rattle.intern.specs.declared.Kids.{Kids}
+use Rattle.intern.specs.Steps.{childAt, noted, unread, withChild, failed}
+use Rattle.intern.specs.Words.{Kept}
+use Rattle.intern.specs.Intern.{Stands, Reads, Child, trees, Operands, kidsAnswer, ReadsAll}
+use Rattle.intern.proofs.Remains.{size-some, well-moved, Remains, Reading}
+use Rattle.intern.proofs.Kept.{kept-none, kept-then, Stored, stored}
+use Rattle.intern.proofs.After.{out-good, out-refused, kids-good, kids-refused, after, after-none, after-end}
+use Rattle.intern.proofs.After.{after-turn, after-refused, after-same, Thunks}
+use Rattle.intern.proofs.After.{noted-list, noted-branched, noted-thunks}
+use Rattle.intern.proofs.After.{thunk-few}
+
+module _ (bs : List ℕ) (i count op : ℕ) (at : Here) (ws₀ : List ℕ) (st₀ : State) (few-records : recordCount bs ≤ 256)
+    (h₀ : Operands bs ws₀ st₀ i count op at) where
+  abbrev D : ℕ
+  D = depths (trees bs i count)
+
+  -- ---- the start
+
+  pub reading-start : (k : Kids) → k ≡ unread st₀ i → Reading bs i count op at ws₀ st₀ ws₀ k (at .top) 0
+  unfolding wordsFrom
+  reading-start k e = subst (λ (z : Kids). Reading bs i count op at ws₀ st₀ ws₀ z (at .top) 0) (sym e) (record {
+    left = count;
+    remains = record {
+      sum = omega arith;
+      rep = h₀ .stands .rep;
+      number = refl;
+      there = h₀ .there;
+      is = after-none _;
+      place = refl;
+      rest = refl;
+      shallow = omega arith;
+      block = h₀ .block;
+      paid = h₀ .paid;
+      well = h₀ .well;
+      onward = omega arith;
+      held = omega (arith, h₀ .stands .held);
+      pending = omega (arith, h₀ .stands .held, h₀ .within);
+      more = omega arith;
+      few = h₀ .stands .top;
+      branched = record { few = omega arith; first = omega arith; second = omega arith };
+      thunks = record { none-first = λ l. refl; one-then = λ l. omega arith };
+      kept = kept-none at ws₀ st₀;
+    };
+  })
+
+  module _ (ws : List ℕ) (k : Kids) (top j : ℕ) where
+    -- ---- the next child: what is left is not nothing
+
+    module _ (m : ℕ) (h : Remains bs i count op at ws₀ st₀ ws k top j (suc m)) where
+      abbrev t : Tree
+      t = treeAt bs (k .next)
+
+      abbrev us : Trees
+      us = takeT m (restAt bs (k .next))
+
+      left-there : k .next < recordCount bs
+      left-there = trees-left bs (k .next) (omega (arith, h .there))
+
+      left-is : trees bs (k .next) (suc m) ≡ cons t us
+      unfolding takeT
+      left-is = ap (takeT (suc m)) (trees-at bs (k .next) left-there)
+
+      left-rest : dropT (suc m) (treesFrom bs (k .next)) ≡ dropT m (restAt bs (k .next))
+      unfolding dropT
+      left-rest = ap (dropT (suc m)) (trees-at bs (k .next) left-there)
+
+      left-many : m ≤ many (restAt bs (k .next))
+      unfolding many
+      left-many = omega (arith, h .there, ap many (trees-at bs (k .next) left-there))
+
+      left-sizes : sizes (trees bs (k .next) (suc m)) ≡ size t + sizes us
+      unfolding sizes
+      left-sizes = ap sizes left-is
+
+      left-depths : depths (trees bs (k .next) (suc m)) ≡ max (depth t) (depths us)
+      unfolding depths
+      left-depths = ap depths left-is
+
+      left-deep : depth t ≤ D
+      left-deep = omega (arith, left-depths, h .shallow)
+
+      left-well : WellAll (cons t us) (h .block) op j (at .scope) (envOf ws top) (absOf bs ws (k .st)) (h .paid)
+      left-well = well-moved (sym left-is) refl refl refl (h .well)
+
+      scope-low : at .scope < k .st .scopes
+      scope-low = omega (arith, h₀ .stands .scope, h .kept .scopes)
+
+      scope-kept : scopeWord ws (at .scope) ≡ scopeWord ws₀ (at .scope)
+      scope-kept = h .kept .words .scopes (5120 + at .scope) (omega arith) (omega (arith, h₀ .stands .scope))
+
+      next-stands : Stands bs ws (k .st) (k .next) (depth t) (childAt at j top)
+      next-stands = record {
+        rep = h .rep;
+        scope = scope-low;
+        held = h .held;
+        top = omega (arith, h .few, left-deep);
+        level = omega (arith, ap levelOf scope-kept, h₀ .stands .level, left-deep);
+        tables = omega (arith, h .kept .depth, h₀ .stands .tables, left-deep);
+      }
+
+      next-child : (thunk : Bool) → thunk ≡ thunked op j → Child bs ws (k .st) (k .next) thunk (childAt at j top)
+      next-child thunk e = record {
+        stands = next-stands;
+        def = h .block && not (isNil us);
+        plain = λ f. child-plain left-well (sym e ∙ f);
+        room = λ f. omega (arith, h .kept .depth, h₀ .room j (sym e ∙ f), left-deep);
+        few = λ f. omega (arith, child-thunk left-well (sym e ∙ f) .0, scopes-count bs ws (k .st));
+        inside = λ f.
+            subst (λ (z : ℕ). Well t (h .block && not (isNil us)) z (envOf ws top)
+            (intern.openThunk (at .scope) (absOf bs ws (k .st)))) (scopes-count bs ws (k .st))
+            (child-thunk left-well (sym e ∙ f) .1);
+      }
+
+      pub next-there : k .next < recordCount bs
+      next-there = left-there
+
+      deep-some : 1 ≤ D
+      unfolding depth
+      deep-some = omega (arith, left-deep)
+
+      pub next-room : (at .held + j < 256) × (top < 1200)
+      next-room = (omega (arith, h .held, left-there), omega (arith, h .few, left-there, deep-some))
+
+      left-whole : after (pendingFrom ws (at .held) j) (branchesOf (k .branches))
+          (internAll (cons t us) op j (k .next) (at .scope) (envOf ws top) (absOf bs ws (k .st)))
+          ≡ internAll (trees bs i count) op 0 i (at .scope) (envOf ws₀ (at .top)) (absOf bs ws₀ st₀)
+      left-whole =
+          ap (λ (z : Trees). after (pendingFrom ws (at .held) j) (branchesOf (k .branches))
+          (internAll z op j (k .next) (at .scope) (envOf ws top) (absOf bs ws (k .st)))) (sym left-is)
+          ∙ h .is
+
+      module _ (thunk : Bool) (et : thunk ≡ thunked op j) (ws₁ : List ℕ) (r : Read)
+          (v : Reads bs ws (k .st) (k .next) (childAt at j top)
+          (internScoped thunk (at .scope) (λ c s. intern t (k .next) c (envOf ws top) s) (absOf bs ws (k .st))) ws₁ r)
+        where
+          scoped-is : internScoped (thunked op j) (at .scope) (λ c s. intern t (k .next) c (envOf ws top) s)
+              (absOf bs ws (k .st)) ≡ outOf bs ws₁ (r .step)
+          scoped-is = sym (v .is ∙ rw et)
+
+          child-kept : Kept at ws₀ ws₁ st₀ (r .step .st)
+          child-kept = kept-then (omega arith) (h .more) (h .kept) (v .kept)
+
+          -- ---- a child that is refused
+
+          pub next-refused : (r .step .number ≡ 0 → ⊥) → ReadsAll bs ws₀ st₀ i count op at ws₁ (failed k r)
+          next-refused n = record {
+            rep = v .rep;
+            is =
+                kids-refused bs ws₁ (at .held) count (failed k r) n
+                ∙ sym (after-refused _ _ op j (k .next) (at .scope) (envOf ws top) (absOf bs ws (k .st)) t us
+                (r .step .number) (r .step .place) (scoped-is ∙ out-refused bs ws₁ (r .step) n))
+                ∙ left-whole;
+            past = λ e. absurd (n e);
+            pending = λ e. absurd (n e);
+            branched = h .branched;
+            kept = child-kept;
+          }
+
+          -- ---- a child read
+
+          module _ (ok : r .step .number ≡ 0) (ws₂ : List ℕ) (top′ : ℕ)
+              (d₀ : DefBound bs (k .next) top (r .step .symbol) (set ws₁ (8200 + at .held + j) (r .step .symbol)) ws₂
+              top′)
+            where
+              abbrev s : ℕ
+              s = r .step .symbol
+
+              d : DefBound bs (k .next) top s (set ws₁ (8200 + (at .held + j)) s) ws₂ top′
+              d = let e : 8200 + (at .held + j) ≡ 8200 + at .held + j = omega arith in rw e d₀
+
+              next-is : r .next ≡ k .next + size t
+              next-is = v .past ok .0
+
+              rest-is : treesFrom bs (r .next) ≡ restAt bs (k .next)
+              rest-is = v .past ok .1
+
+              us-is : trees bs (r .next) m ≡ us
+              us-is = ap (takeT m) rest-is
+
+              forward : k .next + 1 ≤ r .next
+              forward = omega (arith, next-is, size-some t)
+
+              abbrev st₁ : State
+              st₁ = r .step .st
+
+              gives : internScoped (thunked op j) (at .scope) (λ c s. intern t (k .next) c (envOf ws top) s)
+                  (absOf bs ws (k .st)) ≡ good (s, absOf bs ws₁ st₁)
+              gives = scoped-is ∙ out-good bs ws₁ (r .step) ok
+
+              after₁ : Stored bs ws₁ st₁ (k .next) (at .held + j) top s ws₂ top′
+              after₁ =
+                  stored bs ws₁ st₁ (k .next) (at .held + j) top s ws₂ top′ (v .rep) (next-room .0) (next-room .1) d
+
+              abs₂ : absOf bs ws₂ st₁ ≡ absOf bs ws₁ st₁
+              abs₂ = after₁ .abs
+
+              env₂ : envOf ws₂ top′ ≡ bindDef t s (envOf ws top)
+              env₂ = after₁ .env ∙ ap (bindDef t s) (env-words ws₁ ws top (v .kept .words .bound))
+
+              pending₂ : pendingFrom ws₂ (at .held) (suc j) ≡ pendingFrom ws (at .held) j ++ (s ∷ [])
+              pending₂ =
+                  after₁ .pending (at .held) j refl
+                  ∙ ap (λ (z : List ℕ). z ++ (s ∷ []))
+                  (words-agree ws ws₁ (8200 + at .held) j
+                  (λ x l y. v .kept .words .pending x (omega arith) (omega arith)))
+
+              branches₂ : branchesOf (noted thunk (k .branches) (k .st .scopes))
+                  ≡ branchesOf (k .branches) ++ branch (thunked op j) (length (absOf bs ws (k .st) .scopes)) []
+              branches₂ =
+                  noted-list (k .branches) (k .st .scopes) thunk
+                  (thunk-few (k .branches) (k .st .scopes) op j thunk et (h .thunks))
+                  ∙ rw (et, scopes-count bs ws (k .st))
+
+              is₂ : after (pendingFrom ws₂ (at .held) (j + 1)) (branchesOf (noted thunk (k .branches) (k .st .scopes)))
+                  (internAll (trees bs (r .next) m) op (j + 1) (r .next) (at .scope) (envOf ws₂ top′)
+                  (absOf bs ws₂ st₁))
+                  ≡ internAll (trees bs i count) op 0 i (at .scope) (envOf ws₀ (at .top)) (absOf bs ws₀ st₀)
+              is₂ =
+                  after-same op (at .scope) (ap (pendingFrom ws₂ (at .held)) (add-one j) ∙ pending₂) branches₂ us-is
+                  (add-one j) next-is env₂ abs₂
+                  ∙ sym (after-turn _ _ op j (k .next) (at .scope) (envOf ws top) (absOf bs ws (k .st)) t us
+                  (s, absOf bs ws₁ st₁) gives)
+                  ∙ left-whole
+
+              step₂ : Kept (childAt at j top) ws₁ ws₂ st₁ st₁
+              step₂ = record {
+                words = after₁ .words (st₁ .scopes) (v .rep .few-scopes);
+                depth = refl;
+                scopes = omega arith;
+              }
+
+              turned : Reading bs i count op at ws₀ st₀ ws₂ (withChild k thunk r) top′ (j + 1)
+              turned = record {
+                left = m;
+                remains = record {
+                  sum = omega (arith, h .sum);
+                  rep = after₁ .rep;
+                  number = refl;
+                  there = rw rest-is left-many;
+                  is = is₂;
+                  place = omega (arith, ap sizes us-is, next-is, left-sizes, h .place);
+                  rest = ap (dropT m) rest-is ∙ sym left-rest ∙ h .rest;
+                  shallow = omega (arith, ap depths us-is, left-depths, h .shallow);
+                  block = h .block;
+                  paid = suc (h .paid);
+                  well =
+                      well-moved us-is (add-one j) env₂ abs₂
+                      (next-well left-well (k .next) (s, absOf bs ws₁ st₁) gives);
+                  onward = omega (arith, forward, h .onward);
+                  held = omega (arith, forward, h .held);
+                  pending = omega (arith, next-room .0);
+                  more = omega (arith, h .more, d .least);
+                  few = omega (arith, forward, h .few, d .most);
+                  branched = noted-branched (k .branches) (k .st .scopes) thunk (h .branched) (h .rep .few-scopes);
+                  thunks =
+                      subst (λ (z : ℕ). Thunks z (noted thunk (k .branches) (k .st .scopes) .count)) (sym (add-one j))
+                      (noted-thunks (k .branches) (k .st .scopes) op j thunk et (h .thunks));
+                  kept = kept-then (omega arith) (h .more) child-kept step₂;
+                };
+              }
+
+    -- ---- the end
+
+    at-end : Remains bs i count op at ws₀ st₀ ws k top j zero → ReadsAll bs ws₀ st₀ i count op at ws k
+    unfolding takeT dropT sizes
+    at-end h =
+        let e : j ≡ count = omega (arith, h .sum) in
+        record {
+          rep = h .rep;
+          is =
+              kids-good bs ws (at .held) count k (h .number)
+              ∙ ap (λ (z : ℕ). kidsAnswer bs ws (at .held) z k) (sym e)
+              ∙ sym (after-end (pendingFrom ws (at .held) j) (branchesOf (k .branches)) op j (k .next) (at .scope)
+              (envOf ws top) (absOf bs ws (k .st)))
+              ∙ h .is;
+          past = λ n. (omega (arith, h .place), h .rest);
+          pending = λ n. omega (arith, h .pending);
+          branched = h .branched;
+          kept = h .kept;
+        }
+
+    module _ (g : Reading bs i count op at ws₀ st₀ ws k top j) where
+      pub reading-end : count ≤ j → ReadsAll bs ws₀ st₀ i count op at ws k
+      reading-end l =
+          let e : g .left ≡ 0 = omega (arith, g .remains .sum) in
+          at-end (subst (λ (z : ℕ). Remains bs i count op at ws₀ st₀ ws k top j z) e (g .remains))
+
+      module _ (lt : j < count) where
+        some : Remains bs i count op at ws₀ st₀ ws k top j (suc (g .left - 1))
+        some =
+            let e : g .left ≡ suc (g .left - 1) = omega (arith, g .remains .sum) in
+            subst (λ (z : ℕ). Remains bs i count op at ws₀ st₀ ws k top j z) e (g .remains)
+
+        pub reading-there : k .next < recordCount bs
+        reading-there = next-there (g .left - 1) some
+
+        pub reading-room : (at .held + j < 256) × (top < 1200)
+        reading-room = next-room (g .left - 1) some
+
+        pub reading-child : (thunk : Bool) → thunk ≡ thunked op j → (c : Here) → c ≡ childAt at j top →
+            Child bs ws (k .st) (k .next) thunk c
+        reading-child thunk e c f =
+            subst (Child bs ws (k .st) (k .next) thunk) (sym f) (next-child (g .left - 1) some thunk e)
+
+        module _ (thunk : Bool) (et : thunk ≡ thunked op j) (ws₁ : List ℕ) (r : Read) (c : Here)
+            (ec : c ≡ childAt at j top)
+            (v₀ : Reads bs ws (k .st) (k .next) c
+            (internScoped thunk (c .scope) (λ c′ s. intern (treeAt bs (k .next)) (k .next) c′ (envOf ws (c .top)) s)
+            (absOf bs ws (k .st))) ws₁ r) where
+          v : Reads bs ws (k .st) (k .next) (childAt at j top)
+              (internScoped thunk (at .scope) (λ c′ s. intern (treeAt bs (k .next)) (k .next) c′ (envOf ws top) s)
+              (absOf bs ws (k .st))) ws₁ r
+          v = subst (λ (z : Here). Reads bs ws (k .st) (k .next) z
+              (internScoped thunk (z .scope) (λ c′ s. intern (treeAt bs (k .next)) (k .next) c′ (envOf ws (z .top)) s)
+              (absOf bs ws (k .st))) ws₁ r) ec v₀
+
+          pub reading-refused : (z : Kids) → z ≡ failed k r → (r .step .number ≡ 0 → ⊥) →
+              ReadsAll bs ws₀ st₀ i count op at ws₁ z
+          reading-refused z e n =
+              subst (λ (y : Kids). ReadsAll bs ws₀ st₀ i count op at ws₁ y) (sym e)
+              (next-refused (g .left - 1) some thunk et ws₁ r v n)
+
+          pub reading-turn : r .step .number ≡ 0 → (ws₂ : List ℕ) (top′ : ℕ) →
+              DefBound bs (k .next) top (r .step .symbol) (set ws₁ (8200 + at .held + j) (r .step .symbol)) ws₂ top′ →
+              (z : Kids) → z ≡ withChild k thunk r → Reading bs i count op at ws₀ st₀ ws₂ z top′ (j + 1)
+          reading-turn ok ws₂ top′ d z e =
+              subst (λ (y : Kids). Reading bs i count op at ws₀ st₀ ws₂ y top′ (j + 1)) (sym e)
+              (turned (g .left - 1) some thunk et ws₁ r v ok ws₂ top′ d)
+
+-- ---- the loop begins with no child read
+
+module _ (bs : List ℕ) (i count op : ℕ) (at : Here) (ws₀ : List ℕ) (st : State) (few-records : recordCount bs ≤ 256)
+    (h : Operands bs ws₀ st i count op at) (k₀ : Kids) (e : k₀ ≡ unread st i) where
+  first-state : k₀ .st ≡ st
+  first-state = ap (λ (z : Kids). z .st) e
+
+  pub loop-operands : Operands bs ws₀ (k₀ .st) i count op at
+  loop-operands = subst (λ (z : State). Operands bs ws₀ z i count op at) (sym first-state) h
+
+  pub loop-start : Reading bs i count op at ws₀ (k₀ .st) ws₀ k₀ (at .top) 0
+  loop-start =
+      reading-start bs i count op at ws₀ (k₀ .st) few-records loop-operands k₀
+      (e ∙ ap (λ (z : State). unread z i) (sym first-state))
+
+  pub loop-reads : (ws′ : List ℕ) (k : Kids) → ReadsAll bs ws₀ (k₀ .st) i count op at ws′ k →
+      ReadsAll bs ws₀ st i count op at ws′ k
+  loop-reads ws′ k v = subst (λ (z : State). ReadsAll bs ws₀ z i count op at ws′ k) first-state v

@@ -1,0 +1,296 @@
+-- What a record gives, once its children are read.
+-- In order: a step's answer; definitions and blocks, and any other record; the children of a record: that they may be
+-- read, and what is known once they are.
+-- Assumes nothing.
+use Prim.Native.Nat.{ℕ, zero, suc, _+_, _-_, _*_, _<_, _≤_}
+use mathlib.Core.Path.{_≡_, refl, sym, ap, _∙_, subst}
+use mathlib.Core.Logic.{inl, inr}
+use mathlib.Core.Bool.{Bool, true, false}
+use mathlib.Core.List.{List, []}
+use native.Mathlib.Omega.{arith}
+use native.Mathlib.Numerals.{add-one}
+use borrow.Author.Tests.{eq-eqb, ne-eqb}
+use lib.Dec.{eqb}
+use lib.ListN.{getD}
+use Rattle.model.specs.Answer.{refused, _>>=_}
+use Rattle.model.specs.Lists.{last}
+use Rattle.model.specs.Tree.{Rec, many, size, sizes, depth, depths}
+use Rattle.model.specs.Forest.{recordCount}
+use Rattle.model.specs.Intern.{Out, Outs, Env, nodeOf, finish, internLast, internGeneral}
+use Rattle.model.specs.Intern as intern
+use Rattle.laws.proofs.Members.{In}
+use Rattle.record.specs.Record.{rowAt}
+use Rattle.shape.proofs.Fitting.{fits-def, fits-block}
+use Rattle.walk.specs.Walk.{recAt, kidsAt, restAt, treeAt, Sound}
+use Rattle.walk.proofs.Bridge.{row-fits, kids-there}
+use Rattle.symbols.specs.Words.{wordsFrom, pendingFrom}
+use Rattle.symbols.proofs.Words.{words-length}
+use Rattle.scopes.specs.Scopes.{scopeWord, levelOf}
+use Rattle.bindings.specs.Bindings.{envOf}
+use Rattle.bindings.proofs.Laws.{env-words}
+use Rattle.interner.specs.declared.State.{State}
+use Rattle.interner.specs.declared.Step.{Step}
+use Rattle.interner.specs.State.{absOf, Rep}
+use Rattle.interner.specs.Step.{given, Answers}
+use Rattle.opening.proofs.Counts.{symbols-count}
+use Rattle.concluding.specs.Concluding.{branchesOf, Concludes}
+use Rattle.concluding.proofs.Children.{last-low, given-answers}
+use Rattle.standing.specs.Standing.{WellAll, AllRead}
+use Rattle.standing.proofs.Forced.{union-forced}
+use Rattle.standing.proofs.Next.{all-results, again-well}
+use Rattle.intern.specs.declared.Here.{Here}
+use Rattle.intern.specs.declared.Kids.{Kids}
+use Rattle.intern.specs.Steps.{refusedRead}
+use Rattle.intern.specs.Words.{Kept}
+use Rattle.intern.specs.Intern.{Stands, Past, Reads, kidsRead, concluded, trees, Operands, kidsAnswer}
+use Rattle.intern.specs.Intern.{kidsOf, ReadsAll}
+use Rattle.intern.proofs.Kept.{kept-then, leaves-kept}
+use Rattle.intern.proofs.After.{out-refused, kids-good, kids-refused}
+
+-- ---- a step's answer
+
+module _ {bs ws ws₁ : List ℕ} {st st₁ : State} (i : ℕ) (at : Here) (o : Out) (kept : Kept at ws ws₁ st st₁)
+    (rep : Rep bs ws₁ st₁) where
+  pub reads-refused : (n p next : ℕ) → (n ≡ 0 → ⊥) → o ≡ refused n p →
+      Reads bs ws st i at o ws₁ (refusedRead st₁ n p next)
+  reads-refused n p next h e = record {
+    rep = rep;
+    is = out-refused bs ws₁ (refusedRead st₁ n p next .step) h ∙ sym e;
+    past = λ z. absurd (h z);
+    kept = kept;
+  }
+
+  pub reads-answers : (ws₂ : List ℕ) (r : Step) (next : ℕ) → Past bs i (size (treeAt bs i)) (restAt bs i) next →
+      Answers bs ws₁ st₁ o ws₂ r → Reads bs ws st i at o ws₂ (record { step = r; next = next })
+  reads-answers ws₂ r next p a = record {
+    rep = a .rep;
+    is = a .is;
+    past = λ z. p;
+    kept = kept-then (omega arith) (omega arith) kept (leaves-kept at (rep .few-scopes) (a .leaves));
+  }
+
+-- ---- definitions and blocks, and any other record
+
+module _ (at cur : ℕ) (r : Rec) (m : Outs) where
+  pub concluded-10 : r .shape ≡ 10 → concluded at cur r m ≡ internLast m
+  unfolding concluded
+  concluded-10 e = rw (eq-eqb (r .shape) 10 e, concluded)
+
+  pub concluded-11 : r .shape ≡ 11 → concluded at cur r m ≡ internLast m
+  unfolding concluded
+  concluded-11 e = rw (ne-eqb (r .shape) 10 (λ z. omega arith), eq-eqb (r .shape) 11 e, concluded)
+
+  pub concluded-other : (r .shape ≡ 10 → ⊥) → (r .shape ≡ 11 → ⊥) → concluded at cur r m ≡ internGeneral at cur r m
+  unfolding concluded
+  concluded-other a b = rw (ne-eqb (r .shape) 10 a, ne-eqb (r .shape) 11 b, concluded)
+
+pub concluded-refused : (at cur : ℕ) (r : Rec) (n p : ℕ) → concluded at cur r (refused n p) ≡ refused n p
+unfolding concluded internLast internGeneral _>>=_
+concluded-refused at cur r n p = go (eqb (r .shape) 10) (eqb (r .shape) 11)
+  where
+    go : (a b : Bool) →
+        _≡_ {A = Out} (elim a [ true ↦ refused n p | false ↦ elim b [ true ↦ refused n p | false ↦ refused n p ] ])
+        (refused n p)
+    go true b = refl
+    go false true = refl
+    go false false = refl
+
+module _ (bs : List ℕ) (i : ℕ) (sound : Sound bs) (lt : i < recordCount bs) where
+  pub def-last : recAt bs i .shape ≡ 10 → 1 ≤ rowAt bs i .kids
+  def-last e = omega (arith, fits-def (rowAt bs i) (row-fits bs i (sound .fit) lt) e .0)
+
+  pub block-last : recAt bs i .shape ≡ 11 → 1 ≤ rowAt bs i .kids
+  block-last e = fits-block (rowAt bs i) (row-fits bs i (sound .fit) lt) e
+
+module _ (bs ws : List ℕ) (i : ℕ) (at : Here) (k : Kids) where
+  abbrev read : Outs
+  read = kidsAnswer bs ws (at .held) (rowAt bs i .kids) k
+
+  abbrev Gives : List ℕ → Step → Type 0
+  Gives ws′ r = Answers bs ws (k .st) (concluded i (at .scope) (recAt bs i) read) ws′ r
+
+  answers-as : {o : Out} (ws′ : List ℕ) (r : Step) → concluded i (at .scope) (recAt bs i) read ≡ o →
+      Answers bs ws (k .st) o ws′ r → Gives ws′ r
+  answers-as ws′ r e a = record { rep = a .rep; leaves = a .leaves; low = a .low; is = a .is ∙ sym e }
+
+  module _ (rep : Rep bs ws (k .st))
+      (h : Concludes bs ws (k .st) i (at .scope) (at .scope) (at .held) (rowAt bs i .kids)) (r : Step) (n : ℕ)
+      (en : n ≡ rowAt bs i .kids) (is : r ≡ given (k .st) (last (pendingFrom ws (at .held) n))) where
+    last-gives : 1 ≤ rowAt bs i .kids → concluded i (at .scope) (recAt bs i) read ≡ internLast read → Gives ws r
+    unfolding internLast _>>=_
+    last-gives some e =
+        answers-as ws r e
+        (given-answers bs ws (k .st) (last (pendingFrom ws (at .held) (rowAt bs i .kids))) r rep
+        (last-low ws (at .held) (rowAt bs i .kids) (k .st .symbols) some (h .lower)) (is ∙ rw en))
+
+    pub last-answers-10 : Sound bs → recAt bs i .shape ≡ 10 → Gives ws r
+    last-answers-10 sound e =
+        last-gives (def-last bs i sound (h .from) e) (concluded-10 i (at .scope) (recAt bs i) read e)
+
+    pub last-answers-11 : Sound bs → recAt bs i .shape ≡ 11 → Gives ws r
+    last-answers-11 sound e =
+        last-gives (block-last bs i sound (h .from) e) (concluded-11 i (at .scope) (recAt bs i) read e)
+
+  pub general-answers : (recAt bs i .shape ≡ 10 → ⊥) → (recAt bs i .shape ≡ 11 → ⊥) → (n : ℕ) →
+      n ≡ rowAt bs i .kids → (ws′ : List ℕ) (r : Step) →
+      Answers bs ws (k .st)
+      (finish i (at .scope) (recAt bs i) (pendingFrom ws (at .held) n) [] (nodeOf (recAt bs i) (branchesOf
+      (k .branches)))
+      (absOf bs ws (k .st))) ws′ r → Gives ws′ r
+  unfolding internGeneral _>>=_
+  general-answers a b n en ws′ r g =
+      answers-as ws′ r (concluded-other i (at .scope) (recAt bs i) read a b ∙ rw (← en)) g
+
+-- ---- the children of a record
+
+-- a pending symbol
+pending-in : (ws : List ℕ) (at n j : ℕ) → j < n → In (getD ws (at + j) 0) (wordsFrom ws at n)
+unfolding wordsFrom
+pending-in ws at zero j l = absurd (omega arith)
+pending-in ws at (suc n) zero l = let e : at + 0 ≡ at = omega arith in inl (rw e)
+pending-in ws at (suc n) (suc j) l =
+    let e : at + suc j ≡ suc at + j = omega arith in inr (rw e (pending-in ws (suc at) n j (omega arith)))
+
+-- where the children of record i are read
+pub record Below (bs ws : List ℕ) (st : State) (i : ℕ) (at : Here) : Type 0 where
+  pub rep : Rep bs ws st
+  pub scope : at .scope < st .scopes
+  pub held : at .held ≤ i
+  pub top : at .top ≤ 14 * (64 - depths (kidsAt bs i)) + (i + 1)
+  pub level : levelOf (scopeWord ws (at .scope)) + depths (kidsAt bs i) ≤ 64
+  pub tables : st .tables .depth + depths (kidsAt bs i) < 65
+
+pub stands-below : (bs ws : List ℕ) (st : State) (i : ℕ) (at : Here) → Stands bs ws st i (depth (treeAt bs i)) at →
+    Below bs ws st i at
+unfolding depth
+stands-below bs ws st i at h = record {
+  rep = h .rep;
+  scope = h .scope;
+  held = h .held;
+  top = omega (arith, h .top);
+  level = omega (arith, h .level);
+  tables = omega (arith, h .tables);
+}
+
+-- the same place, later
+pub stands-later : {bs ws ws₁ : List ℕ} {st st₁ : State} {i d : ℕ} {at : Here} → Stands bs ws st i d at →
+    Rep bs ws₁ st₁ → Kept at ws ws₁ st st₁ → Stands bs ws₁ st₁ i d at
+stands-later {at} h rep kept = record {
+  rep = rep;
+  scope = omega (arith, h .scope, kept .scopes);
+  held = h .held;
+  top = h .top;
+  level =
+      omega (
+        arith,
+        h .level,
+        ap levelOf (kept .words .scopes (5120 + at .scope) (omega arith) (omega (arith, h .scope))),
+      );
+  tables = omega (arith, h .tables, kept .depth);
+}
+
+-- the children of record i were read: what they gave, where the next record is, and what their symbols are
+pub record Gave (bs ws : List ℕ) (st : State) (i : ℕ) (at : Here) (b : Bool) (n : ℕ) (ws₁ : List ℕ) (k : Kids) : Type 0
+  where
+    pub is : kidsRead bs i (at .scope) (envOf ws (at .top)) (absOf bs ws st) ≡ kidsAnswer bs ws₁ (at .held) n k
+    pub past : Past bs i (size (treeAt bs i)) (restAt bs i) (k .next)
+    pub slots : k .st .slots + (1 + n) ≤ 2560
+    pub conclude : (cur : ℕ) → cur < st .scopes → Concludes bs ws₁ (k .st) i cur (at .scope) (at .held) n
+    pub again : WellAll (kidsAt bs i) b (recAt bs i .opcode) 0 (at .scope) (envOf ws₁ (at .top))
+        (absOf bs ws₁ (k .st)) 1
+
+module _ (bs : List ℕ) (i : ℕ) (sound : Sound bs) (lt : i < recordCount bs) (ws : List ℕ) (st : State) (at : Here)
+    (b : Bool) (below : Below bs ws st i at)
+    (well : WellAll (kidsAt bs i) b (recAt bs i .opcode) 0 (at .scope) (envOf ws (at .top)) (absOf bs ws st) 1)
+    (n op : ℕ) (en : n ≡ rowAt bs i .kids) (eo : op ≡ recAt bs i .opcode) where
+  abbrev env : Env
+  env = envOf ws (at .top)
+
+  abbrev A : intern.State
+  A = absOf bs ws st
+
+  trees-are : trees bs (i + 1) n ≡ kidsAt bs i
+  unfolding kidsAt
+  trees-are = rw en
+
+  -- that they may be read
+  pub kids-operands : Operands bs ws st (i + 1) n op at
+  kids-operands =
+      let d : depths (trees bs (i + 1) n) ≡ depths (kidsAt bs i) = ap depths trees-are in
+      record {
+        there = omega (arith, en, kids-there bs i (sound .closed) lt);
+        within = omega arith;
+        stands = record {
+          rep = below .rep;
+          scope = below .scope;
+          held = omega (arith, below .held);
+          top = omega (arith, below .top, d);
+          level = omega (arith, below .level, d);
+          tables = omega (arith, below .tables, d);
+        };
+        room = λ j e. omega (arith, below .tables, d);
+        block = b;
+        paid = 1;
+        well = rw (trees-are, eo) well;
+      }
+
+  -- what is known once they are
+  module _ (ws₁ : List ℕ) (k : Kids) (v : ReadsAll bs ws st (i + 1) n op at ws₁ k) where
+    all-is : kidsOf bs ws₁ (at .held) n k ≡ kidsRead bs i (at .scope) env A
+    all-is = v .is ∙ rw (trees-are, eo, add-one i)
+
+    pub kids-fail : (k .number ≡ 0 → ⊥) → kidsRead bs i (at .scope) env A ≡ refused (k .number) (k .place)
+    kids-fail h = sym all-is ∙ kids-refused bs ws₁ (at .held) n k h
+
+    module _ (ok : k .number ≡ 0) where
+      kids-give : kidsRead bs i (at .scope) env A ≡ kidsAnswer bs ws₁ (at .held) n k
+      kids-give = sym all-is ∙ kids-good bs ws₁ (at .held) n k ok
+
+      kids-past : Past bs i (size (treeAt bs i)) (restAt bs i) (k .next)
+      unfolding size restAt
+      kids-past =
+          let p = v .past ok in
+          (omega (arith, p .0, ap sizes trees-are), p .1 ∙ rw en)
+
+      kids-all : AllRead (kidsAt bs i) (at .scope) A 1
+          (pendingFrom ws₁ (at .held) n, branchesOf (k .branches), absOf bs ws₁ (k .st))
+      kids-all = all-results well (suc i) _ kids-give
+
+      kids-count : many (kidsAt bs i) ≡ n
+      kids-count = sym (kids-all .count) ∙ words-length ws₁ (8200 + at .held) n
+
+      kids-slots : k .st .slots + (1 + n) ≤ 2560
+      kids-slots = omega (arith, kids-all .slots, kids-count, v .rep .slots-used)
+
+      kids-conclude : (cur : ℕ) → cur < st .scopes → Concludes bs ws₁ (k .st) i cur (at .scope) (at .held) n
+      kids-conclude cur l = record {
+        from = lt;
+        children = sym en;
+        current = omega (arith, v .kept .scopes);
+        slots = omega (arith, kids-slots);
+        pending = v .pending ok;
+        lower = λ j m.
+            omega (
+              arith,
+              kids-all .results (getD ws₁ (8200 + at .held + j) 0) (pending-in ws₁ (8200 + at .held) n j m) .low,
+              symbols-count bs ws₁ (k .st),
+            );
+        forced = union-forced (absOf bs ws₁ (k .st)) (at .scope) (pendingFrom ws₁ (at .held) n) (kids-all .results);
+      }
+
+      -- they may be read again
+      kids-again : WellAll (kidsAt bs i) b (recAt bs i .opcode) 0 (at .scope) (envOf ws₁ (at .top))
+          (absOf bs ws₁ (k .st)) 1
+      kids-again =
+          subst (λ (z : Env). WellAll (kidsAt bs i) b (recAt bs i .opcode) 0 (at .scope) z (absOf bs ws₁ (k .st)) 1)
+          (sym (env-words ws₁ ws (at .top) (v .kept .words .bound)))
+          (again-well well (suc i) _ kids-give)
+
+      pub kids-gave : Gave bs ws st i at b n ws₁ k
+      kids-gave = record {
+        is = kids-give;
+        past = kids-past;
+        slots = kids-slots;
+        conclude = kids-conclude;
+        again = kids-again;
+      }

@@ -1,0 +1,67 @@
+-- What is left of the operands of a record, once some are read: the loop's invariant.
+-- In order: a tree has a record; operands that may be read, seen otherwise; what is left.
+-- Assumes nothing.
+use Prim.Native.Nat.{ℕ, _+_, _-_, _*_, _≤_}
+use mathlib.Core.Path.{_≡_, sym, subst}
+use mathlib.Core.Bool.{Bool}
+use mathlib.Core.List.{List}
+use native.Mathlib.Omega.{arith}
+use Rattle.model.specs.Tree.{Tree, Trees, node, many, dropT, size, sizes, depths}
+use Rattle.model.specs.Intern.{Env, intern, internAll}
+use Rattle.model.specs.Intern as intern
+use Rattle.walk.specs.Walk.{treesFrom}
+use Rattle.symbols.specs.Words.{pendingFrom}
+use Rattle.bindings.specs.Bindings.{envOf}
+use Rattle.interner.specs.declared.State.{State}
+use Rattle.interner.specs.State.{absOf, Rep}
+use Rattle.concluding.specs.Concluding.{branchesOf, Branched}
+use Rattle.standing.specs.Standing.{WellAll}
+use Rattle.intern.specs.declared.Here.{Here}
+use Rattle.intern.specs.declared.Kids.{Kids}
+use Rattle.intern.specs.Words.{Kept}
+use Rattle.intern.specs.Intern.{trees}
+use Rattle.intern.proofs.After.{after}
+use Rattle.intern.proofs.After.{Thunks}
+
+pub size-some : (t : Tree) → 1 ≤ size t
+unfolding size
+size-some (node r ts) = omega arith
+
+-- the same operands, seen otherwise
+pub well-moved : {ts us : Trees} {b : Bool} {op j m cur : ℕ} {env env′ : Env} {s s′ : intern.State} {k : ℕ} → us ≡ ts →
+    m ≡ j → env′ ≡ env → s′ ≡ s → WellAll ts b op j cur env s k → WellAll us b op m cur env′ s′ k
+well-moved {ts} {us} {b} {op} {j} {m} {cur} {env} {env′} {s} {s′} {k} e f g h w =
+    subst (λ (z : intern.State). WellAll us b op m cur env′ z k) (sym h)
+    (subst (λ (z : Env). WellAll us b op m cur z s k) (sym g)
+    (subst (λ (z : ℕ). WellAll us b op z cur env s k) (sym f)
+    (subst (λ (z : Trees). WellAll z b op j cur env s k) (sym e) w)))
+
+-- of `count` operands from record i on, j are read and `left` are left, from record k .next on
+pub record Remains (bs : List ℕ) (i count op : ℕ) (at : Here) (ws₀ : List ℕ) (st₀ : State) (ws : List ℕ) (k : Kids)
+    (top j left : ℕ) : Type 0 where
+  pub sum : j + left ≡ count
+  pub rep : Rep bs ws (k .st)
+  pub number : k .number ≡ 0
+  pub there : left ≤ many (treesFrom bs (k .next))
+  pub is : after (pendingFrom ws (at .held) j) (branchesOf (k .branches))
+      (internAll (trees bs (k .next) left) op j (k .next) (at .scope) (envOf ws top) (absOf bs ws (k .st)))
+      ≡ internAll (trees bs i count) op 0 i (at .scope) (envOf ws₀ (at .top)) (absOf bs ws₀ st₀)
+  pub place : k .next + sizes (trees bs (k .next) left) ≡ i + sizes (trees bs i count)
+  pub rest : dropT left (treesFrom bs (k .next)) ≡ dropT count (treesFrom bs i)
+  pub shallow : depths (trees bs (k .next) left) ≤ depths (trees bs i count)
+  pub block : Bool
+  pub paid : ℕ
+  pub well : WellAll (trees bs (k .next) left) block op j (at .scope) (envOf ws top) (absOf bs ws (k .st)) paid
+  pub onward : i ≤ k .next
+  pub held : at .held + j ≤ k .next
+  pub pending : at .held + j ≤ 256
+  pub more : at .top ≤ top
+  pub few : top ≤ 14 * (64 - depths (trees bs i count)) + k .next
+  pub branched : Branched (k .branches)
+  pub thunks : Thunks j (k .branches .count)
+  pub kept : Kept at ws₀ ws st₀ (k .st)
+
+pub record Reading (bs : List ℕ) (i count op : ℕ) (at : Here) (ws₀ : List ℕ) (st₀ : State) (ws : List ℕ) (k : Kids)
+    (top j : ℕ) : Type 0 where
+  pub left : ℕ
+  pub remains : Remains bs i count op at ws₀ st₀ ws k top j left

@@ -1,0 +1,190 @@
+-- A forest: its trees are read as operands of no opcode, and the last of them is the root.
+-- In order: how deep an accepted forest is; before its trees are read; after.
+-- Assumes nothing.
+use Prim.Native.Nat.{ℕ, suc, _+_, _-_, _<_, _≤_}
+use mathlib.Core.Path.{_≡_, refl, sym, ap, _∙_, subst}
+use mathlib.Core.Bool.{true, false}
+use mathlib.Core.Option.{none}
+use mathlib.Core.List.{List, []}
+use native.Mathlib.Omega.{arith}
+use borrow.Author.Tests.{ltb-false}
+use lib.ListN.{length, getD}
+use Rattle.model.specs.Answer.{refused, good, _>>=_}
+use Rattle.model.specs.Lists.{last}
+use Rattle.model.specs.Tree.{Tree, Trees, node, nil, cons, many, depth, depths}
+use Rattle.model.specs.Forest.{treeCount, treesOf, deep, deeps, check7}
+use Rattle.model.specs.Accept.{accept}
+use Rattle.model.specs.Intern.{Outs, Env, start, thunked, internLast, internAll, internForest}
+use Rattle.model.specs.Intern as intern
+use Rattle.model.specs.Call.{interned}
+use Rattle.laws.proofs.Clear.{Clear, clear-left, clear-right, first-clear}
+use Rattle.laws.proofs.Header.{header-of}
+use Rattle.walk.specs.Walk.{Sound}
+use Rattle.walk.proofs.Bridge.{tree-count}
+use Rattle.walk.proofs.Walking.{trees-there, trees-whole}
+use Rattle.codec.proofs.Accepting.{Passed, accept-passed}
+use Rattle.symbols.specs.Words.{pendingFrom}
+use Rattle.scopes.specs.Scopes.{scopeWord, levelOf}
+use Rattle.bindings.specs.Bindings.{envOf}
+use Rattle.interner.specs.declared.State.{State}
+use Rattle.interner.specs.declared.Step.{Step}
+use Rattle.interner.specs.State.{absOf, Rep, Started}
+use Rattle.interner.specs.Step.{given}
+use Rattle.opening.proofs.Counts.{symbols-count, tables-count}
+use Rattle.standing.specs.Standing.{WellAll}
+use Rattle.standing.proofs.Enter.{forest-well}
+use Rattle.standing.proofs.Next.{last-result}
+use Rattle.intern.specs.declared.Here.{Here}
+use Rattle.intern.specs.declared.Kids.{Kids}
+use Rattle.intern.specs.Intern.{trees, Operands, ReadsAll, Interned}
+use Rattle.intern.proofs.After.{out-good, out-refused, kids-good, kids-refused}
+
+-- ---- how deep an accepted forest is
+
+mutual
+  unfolding deep depth
+
+  tree-flat : (t : Tree) (d : ℕ) → Clear (deep t d) → depth t + d ≤ 65
+  tree-flat (node r ts) d h =
+      let l = ltb-false 64 d (h .0) in omega (arith, trees-flat ts (suc d) (omega arith) (h .1))
+
+  trees-flat : (ts : Trees) (d : ℕ) → d ≤ 65 → Clear (deeps ts d) → depths ts + d ≤ 65
+  trees-flat nil d l h = omega arith
+  trees-flat (cons t ts) d l h =
+      omega (
+        arith,
+        tree-flat t d (clear-left (deep t d) (deeps ts d) h),
+        trees-flat ts d l (clear-right (deep t d) (deeps ts d) h),
+      )
+
+forest-flat : (bs : List ℕ) → check7 bs ≡ none → depths (treesOf bs) ≤ 64
+unfolding check7
+forest-flat bs e = omega (arith, trees-flat (treesOf bs) 1 (omega arith) (first-clear (deeps (treesOf bs) 1) e))
+
+-- ---- before its trees are read
+
+-- no opcode 00 has thunks
+none-thunked : (j : ℕ) → thunked 0 j ≡ true → ⊥
+unfolding thunked
+none-thunked j h = let z : _≡_ {A = ℕ} 0 1 = cc in omega arith
+
+module _ (bs ws : List ℕ) (accepted : accept bs ≡ good (treesOf bs)) where
+  passed : Passed bs (treesOf bs)
+  passed = accept-passed bs (treesOf bs) accepted
+
+  pub forest-sound : Sound bs
+  forest-sound = passed .shaped .sound
+
+  pub forest-header : 4 ≤ length bs
+  forest-header = header-of bs (forest-sound .laid .header) .least
+
+  abbrev origin : Here
+  origin = record { scope = 0; held = 0; top = 0 }
+
+  module _ (ws₁ : List ℕ) (st : State) (started : Started ws ws₁ st) (count : ℕ) (is : count ≡ treeCount bs) where
+    whole : trees bs 0 count ≡ treesOf bs
+    whole = trees-whole bs count forest-sound is
+
+    rep : Rep bs ws₁ st
+    rep = started .rep bs
+
+    one-table : st .tables .depth ≡ 1
+    unfolding start
+    one-table =
+        sym (tables-count bs ws₁ st)
+        ∙ ap (λ (z : intern.State). length (z .tables)) (started .is bs)
+
+    no-ids : envOf ws₁ 0 ≡ []
+    unfolding envOf
+    no-ids = refl
+
+    shallow : depths (trees bs 0 count) ≤ 64
+    shallow = rw whole (forest-flat bs (passed .shallow))
+
+    outermost : levelOf (scopeWord ws₁ 0) ≡ 0
+    outermost = ap levelOf (rep .nested .outermost)
+
+    pub forest-operands : Operands bs ws₁ st 0 count 0 origin
+    forest-operands = record {
+      there = trees-there bs count forest-sound is;
+      within = omega arith;
+      stands = record {
+        rep = rep;
+        scope = rep .some-scope;
+        held = omega arith;
+        top = omega arith;
+        level = omega (arith, outermost, shallow);
+        tables = omega (arith, one-table, shallow);
+      };
+      room = λ j e. absurd (none-thunked j e);
+      block = false;
+      paid = 0;
+      well =
+          subst (λ (z : intern.State). WellAll (trees bs 0 count) false 0 0 0 (envOf ws₁ 0) z 0) (sym (started .is bs))
+          (subst (λ (z : Env). WellAll (trees bs 0 count) false 0 0 0 z start 0) (sym no-ids)
+          (subst (λ (z : Trees). WellAll z false 0 0 0 [] start 0) (sym whole)
+          (forest-well bs (treesOf bs) accepted)));
+    }
+
+    -- ---- after
+
+    module _ (ws₂ : List ℕ) (k : Kids) (v : ReadsAll bs ws₁ st 0 count 0 origin ws₂ k) where
+      all-read : internAll (trees bs 0 count) 0 0 0 0 (envOf ws₁ 0) (absOf bs ws₁ st) ≡ internForest (treesOf bs)
+      unfolding internForest
+      all-read =
+          ap (λ (z : intern.State). internAll (trees bs 0 count) 0 0 0 0 (envOf ws₁ 0) z) (started .is bs)
+          ∙ ap (λ (z : Env). internAll (trees bs 0 count) 0 0 0 0 z start) no-ids
+          ∙ ap (λ (z : Trees). internAll z 0 0 0 0 [] start) whole
+
+      interned-is : (m : Outs) → internForest (treesOf bs) ≡ m → interned bs ≡ internLast m
+      unfolding interned _>>=_
+      interned-is m e = rw (accepted, e)
+
+      later₂ : (j : ℕ) → 10856 ≤ j → getD ws₂ j 0 ≡ getD ws j 0
+      later₂ j l = v .kept .words .later j l ∙ started .later j (omega arith)
+
+      pub forest-refused : (k .number ≡ 0 → ⊥) →
+          Interned bs ws ws₂ (record { st = k .st; symbol = 0; number = k .number; place = k .place })
+      unfolding internLast _>>=_
+      forest-refused h = record {
+        rep = v .rep;
+        is =
+            out-refused bs ws₂ (record { st = k .st; symbol = 0; number = k .number; place = k .place }) h
+            ∙ sym (interned-is (refused (k .number) (k .place))
+            (sym (v .is ∙ all-read) ∙ kids-refused bs ws₂ 0 count k h));
+        low = λ e. absurd (h e);
+        later = later₂;
+      }
+
+      module _ (ok : k .number ≡ 0) where
+        pub forest-last : (0 < count) × (0 + count ≤ 256) × (8456 ≤ length ws₂)
+        forest-last = (
+          omega (arith, is, header-of bs (forest-sound .laid .header) .trees-least),
+          v .pending ok,
+          omega (arith, v .rep .words),
+        )
+
+        root-low : last (pendingFrom ws₂ 0 count) < k .st .symbols
+        root-low =
+            let some : 1 ≤ many (trees bs 0 count) = omega (
+              arith,
+              ap many whole,
+              tree-count bs (forest-sound .closed),
+              header-of bs (forest-sound .laid .header) .trees-least,
+            ) in
+            omega (
+              arith,
+              last-result (forest-operands .well) 0 _ (sym (v .is) ∙ kids-good bs ws₂ 0 count k ok) some .low,
+              symbols-count bs ws₂ (k .st),
+            )
+
+        pub forest-done : (r : Step) → r ≡ given (k .st) (last (pendingFrom ws₂ 0 count)) → Interned bs ws ws₂ r
+        unfolding internLast _>>=_
+        forest-done r e = subst (Interned bs ws ws₂) (sym e) (record {
+          rep = v .rep;
+          is =
+              out-good bs ws₂ (given (k .st) (last (pendingFrom ws₂ 0 count))) refl
+              ∙ sym (interned-is _ (sym (v .is ∙ all-read) ∙ kids-good bs ws₂ 0 count k ok));
+          low = λ z. root-low;
+          later = later₂;
+        })

@@ -1,0 +1,187 @@
+-- A child in a thunk of its own.
+-- In order: an answer whose state is closed; the thunk opened; what a child gives.
+-- Assumes nothing.
+use Prim.Native.Nat.{ℕ, _+_, _<_, _≤_}
+use mathlib.Core.Path.{_≡_, refl, sym, ap, _∙_, subst}
+use mathlib.Core.Bool.{Bool, true, false}
+use mathlib.Core.List.{List}
+use native.Mathlib.Omega.{arith}
+use lib.ListN.{length, length-set, getD}
+use lib.Seq.{getD-set-other}
+use lib.Dec.{eqb}
+use Rattle.model.specs.Answer.{refused, good, _>>=_}
+use Rattle.model.specs.Tree.{depth}
+use Rattle.model.specs.Intern.{Out, Env, openThunk, closeThunk, internScoped, intern}
+use Rattle.model.specs.Intern as intern
+use Rattle.walk.specs.Walk.{treeAt}
+use Rattle.scopes.specs.Scopes.{scopeWord, levelOf, thunkWord, withThunk}
+use Rattle.tables.specs.Tables.{opened}
+use Rattle.bindings.specs.Bindings.{envOf}
+use Rattle.bindings.proofs.Laws.{env-words}
+use Rattle.interner.specs.declared.State.{State}
+use Rattle.interner.specs.State.{absOf, Rep}
+use Rattle.interner.specs.Step.{outOf}
+use Rattle.opening.specs.Opening.{thunkOpened, thunkClosed}
+use Rattle.opening.proofs.Counts.{scopes-count}
+use Rattle.opening.proofs.Thunks.{thunk-level, thunk-abs, thunk-rep, closed-abs, closed-rep}
+use Rattle.intern.specs.declared.Here.{Here}
+use Rattle.intern.specs.declared.Read.{Read}
+use Rattle.intern.specs.Steps.{closedRead}
+use Rattle.intern.specs.Words.{Words}
+use Rattle.intern.specs.Intern.{Stands, Reads, Legible, Child}
+use Rattle.intern.proofs.Kept.{words-then}
+
+-- ---- an answer whose state is closed
+
+abbrev closing : Out → Out
+closing o = o >>= (λ (z : ℕ × intern.State). good (z .0, closeThunk (z .1)))
+
+out-closed : (bs ws : List ℕ) (r : Read) → Rep bs ws (r .step .st) → 1 < r .step .st .tables .depth →
+    outOf bs ws (closedRead r (thunkClosed (r .step .st)) .step) ≡ closing (outOf bs ws (r .step))
+unfolding outOf _>>=_
+out-closed bs ws r rep two = go (eqb (r .step .number) 0)
+  where
+    go : (b : Bool) →
+        _≡_ {A = Out} (elim b [
+          | true ↦ good (r .step .symbol, absOf bs ws (thunkClosed (r .step .st)))
+          | false ↦ refused (r .step .number) (r .step .place)
+        ]) (closing (elim b [
+          | true ↦ good (r .step .symbol, absOf bs ws (r .step .st))
+          | false ↦ refused (r .step .number) (r .step .place)
+        ]))
+    go true =
+        ap (λ (z : intern.State). good (r .step .symbol, z)) (closed-abs bs ws (r .step .st) rep two)
+    go false = refl
+
+-- ---- the thunk opened
+
+module _ (bs ws : List ℕ) (st : State) (i : ℕ) (thunk : Bool) (at : Here) (h : Child bs ws st i thunk at) where
+  abbrev childOut : Out
+  childOut =
+      internScoped thunk (at .scope) (λ c s. intern (treeAt bs i) i c (envOf ws (at .top)) s) (absOf bs ws st)
+
+  pub child-legible : thunk ≡ false →
+      Legible (treeAt bs i) (at .scope) (envOf ws (at .top)) (absOf bs ws st)
+  child-legible e = record { def = h .def; well = h .plain e }
+
+  pub child-plainly : thunk ≡ false → (ws′ : List ℕ) (r : Read) →
+      Reads bs ws st i at (intern (treeAt bs i) i (at .scope) (envOf ws (at .top)) (absOf bs ws st)) ws′ r →
+      Reads bs ws st i at childOut ws′ r
+  unfolding internScoped
+  child-plainly e ws′ r v = record { rep = v .rep; is = v .is ∙ sym (rw e); past = v .past; kept = v .kept }
+
+  module _ (is : thunk ≡ true) where
+    tables-room : st .tables .depth < 64
+    unfolding depth
+    tables-room = omega (arith, h .room is)
+
+    pub child-room : (10856 ≤ length ws) × (at .scope < st .scopes) × (st .scopes ≤ 2048) × (st .tables .depth < 64)
+        × (st .entries ≤ 512)
+    child-room = (
+      h .stands .rep .words,
+      h .stands .scope,
+      h .few is,
+      tables-room,
+      omega (arith, h .stands .rep .few-entries, h .stands .rep .few-symbols),
+    )
+
+    module _ (ws₁ : List ℕ) (inside : State) (wrote : ws₁ ≡ withThunk ws (st .scopes) (at .scope))
+        (isOpen : inside ≡ thunkOpened st) where
+      abbrev own : Here
+      own = record { scope = st .scopes; held = at .held; top = at .top }
+
+      other : (k : ℕ) → (k ≡ 5120 + st .scopes → ⊥) → getD ws₁ k 0 ≡ getD ws k 0
+      other k n = rw wrote (getD-set-other ws (5120 + st .scopes) k (thunkWord ws (at .scope)) 0 n)
+
+      words₁ : Words (st .scopes) (at .held) (at .top) ws ws₁
+      words₁ = record {
+        long = ap length wrote ∙ length-set ws (5120 + st .scopes) (thunkWord ws (at .scope));
+        scopes = λ k l r. other k (λ e. omega arith);
+        pending = λ k l r. other k (λ e. omega (arith, h .few is));
+        bound = λ k l r. other k (λ e. omega (arith, h .few is));
+        later = λ k l. other k (λ e. omega (arith, h .few is));
+      }
+
+      rep₁ : Rep bs ws₁ inside
+      rep₁ =
+          rw (wrote, isOpen)
+          (thunk-rep bs ws st (at .scope) (h .stands .rep) (h .few is) (h .stands .scope) tables-room)
+
+      abs₁ : absOf bs ws₁ inside ≡ openThunk (at .scope) (absOf bs ws st)
+      abs₁ =
+          ap (λ (z : List ℕ). absOf bs z inside) wrote
+          ∙ ap (absOf bs (withThunk ws (st .scopes) (at .scope))) isOpen
+          ∙ thunk-abs bs ws st (at .scope) (h .stands .rep) (h .few is) (h .stands .scope) tables-room
+
+      level₁ : levelOf (scopeWord ws₁ (st .scopes)) ≡ levelOf (scopeWord ws (at .scope))
+      level₁ =
+          ap (λ (z : List ℕ). levelOf (scopeWord z (st .scopes))) wrote
+          ∙ thunk-level bs ws st (at .scope) (h .stands .rep) (h .few is) (h .stands .scope)
+
+      scopes₁ : inside .scopes ≡ st .scopes + 1
+      scopes₁ = ap (λ (z : State). z .scopes) isOpen
+
+      depth₁ : inside .tables .depth ≡ st .tables .depth + 1
+      depth₁ = ap (λ (z : State). z .tables .depth) isOpen
+
+      pub thunk-stands : Stands bs ws₁ inside i (depth (treeAt bs i)) own
+      thunk-stands = record {
+        rep = rep₁;
+        scope = omega (arith, scopes₁);
+        held = h .stands .held;
+        top = h .stands .top;
+        level = omega (arith, level₁, h .stands .level);
+        tables = omega (arith, depth₁, h .room is);
+      }
+
+      env₁ : envOf ws₁ (at .top) ≡ envOf ws (at .top)
+      env₁ = env-words ws₁ ws (at .top) (words₁ .bound)
+
+      pub thunk-legible : Legible (treeAt bs i) (st .scopes) (envOf ws₁ (at .top)) (absOf bs ws₁ inside)
+      thunk-legible =
+          subst (λ (z : Env). Legible (treeAt bs i) (st .scopes) z (absOf bs ws₁ inside)) (sym env₁)
+          (subst (Legible (treeAt bs i) (st .scopes) (envOf ws (at .top))) (sym abs₁)
+          (record { def = h .def; well = h .inside is }))
+
+      -- ---- what a child gives
+
+      module _ (ws₂ : List ℕ) (r : Read)
+          (v : Reads bs ws₁ inside i own
+          (intern (treeAt bs i) i (st .scopes) (envOf ws₁ (at .top)) (absOf bs ws₁ inside)) ws₂ r) where
+        depth₂ : r .step .st .tables .depth ≡ st .tables .depth + 1
+        depth₂ = v .kept .depth ∙ depth₁
+
+        some-table : 0 < st .tables .depth
+        some-table = h .stands .rep .opened .some
+
+        pub thunk-depth : (1 < r .step .st .tables .depth) × (r .step .st .tables .depth ≤ 64)
+        thunk-depth = (omega (arith, depth₂, some-table), omega (arith, depth₂, tables-room))
+
+        scoped-is : childOut
+            ≡ closing (intern (treeAt bs i) i (st .scopes) (envOf ws₁ (at .top)) (absOf bs ws₁ inside))
+        unfolding internScoped
+        scoped-is =
+            ap (λ (b : Bool). internScoped b (at .scope) (λ c s. intern (treeAt bs i) i c (envOf ws (at .top)) s)
+            (absOf bs ws st)) is
+            ∙ ap (λ (z : ℕ). closing (intern (treeAt bs i) i z (envOf ws (at .top))
+            (openThunk (at .scope) (absOf bs ws st)))) (scopes-count bs ws st)
+            ∙ ap (λ (z : Env). closing (intern (treeAt bs i) i (st .scopes) z
+            (openThunk (at .scope) (absOf bs ws st)))) (sym env₁)
+            ∙ ap (λ (z : intern.State). closing (intern (treeAt bs i) i (st .scopes) (envOf ws₁ (at .top)) z)) (sym
+            abs₁)
+
+        closed₂ : Reads bs ws st i at childOut ws₂ (closedRead r (thunkClosed (r .step .st)))
+        closed₂ = record {
+          rep = closed-rep bs ws₂ (r .step .st) (v .rep) (thunk-depth .0);
+          is = out-closed bs ws₂ r (v .rep) (thunk-depth .0) ∙ ap closing (v .is) ∙ sym scoped-is;
+          past = v .past;
+          kept = record {
+            words = words-then (omega (arith, scopes₁)) (omega arith) (omega arith) words₁ (v .kept .words);
+            depth = omega (arith, depth₂);
+            scopes = omega (arith, v .kept .scopes, scopes₁);
+          };
+        }
+
+        pub thunk-done : (last : State) → last ≡ thunkClosed (r .step .st) →
+            Reads bs ws st i at childOut ws₂ (closedRead r last)
+        thunk-done last e = rw e closed₂

@@ -1,0 +1,332 @@
+// The walk over records that interns them (intern.rs). A record's children are read first; their symbols are pending
+// in work words, from `held` on. The ids in force stand in work words too.
+// In order: what a walk is given and gives; a lambda's body; what a record gives; the walk; a forest. Its small steps
+// are in small.rt.
+mod small;
+
+use concluding::Branches;
+use interner::State;
+use interner::Step;
+use symbols::PENDING;
+ghost use mathlib.Core.Path.{_≡_};
+ghost use Prim.Native.Nat.{_<_, _≤_};
+ghost use lib.ListN.{length};
+ghost use Rattle.model.specs.Answer.{good};
+ghost use Rattle.model.specs.Forest.{recordCount, treesOf};
+ghost use Rattle.model.specs.Accept.{accept};
+ghost use Rattle.walk.specs.Walk.{recAt, Sound};
+ghost use Rattle.interner.specs.State.{Rep};
+ghost use Rattle.concluding.specs.Concluding.{Branched};
+ghost use Rattle.intern.specs.Intern.{StandsAt, LegibleAt, CountedAt, WellKids, Child, Operands, Concluding};
+ghost use Rattle.intern.specs.Intern.{RecordRead, LambdaRead, FieldRead, KeyedRead, ChildRead, ReadsAll};
+ghost use Rattle.intern.specs.Intern.{Enters, Concluded, Interned};
+
+// Where a record is read: its scope, how many symbols are pending, how many ids are bound.
+pub struct Here {
+    pub scope: usize,
+    pub held: usize,
+    pub top: usize,
+}
+
+// A record's symbol and the state after it, or a refusal; and the record after its subtree.
+pub struct Read {
+    pub step: Step,
+    pub next: usize,
+}
+
+// Children read: their symbols are pending; the record after them; the scopes of the thunks among them. Or, where
+// `number` is not 0, a refusal.
+pub struct Kids {
+    pub st: State,
+    pub number: u32,
+    pub place: u32,
+    pub next: usize,
+    pub branches: Branches,
+}
+
+// The body of a lambda, opened: where it is read, and the first of the arguments. Or a refusal.
+pub struct Entered {
+    pub st: State,
+    pub number: u32,
+    pub place: u32,
+    pub at: Here,
+    pub first: u32,
+}
+
+// ---- a lambda's body
+
+// The arguments of lambda i are made and bound, and its body is opened. Rules out: a body in the lambda's own scope;
+// arguments bound in another order.
+fn enter_lambda(forest: &[u8], work: &mut [u32], i: usize, at: Here, st: State) -> Entered
+    requires { ⌜ Sound (now forest) ⌝ }
+    requires { ⌜ (i < recordCount (now forest)) × (recAt (now forest) i .shape ≡ 12) ⌝ }
+    requires { ⌜ StandsAt (now forest) (now work) st i at ⌝ }
+    requires { ⌜ CountedAt (now forest) (now work) st i at ⌝ }
+    ensures { λ e. ⌜ Enters (now (forest .entry)) (now (work .entry)) st i at (now (work .exit)) e ⌝ }
+{
+    let cur = at.scope;
+    let top = at.top;
+    let count = small::wide(record::aux(forest, i));
+    let made = interner::alloc_args(forest, work, st, cur, i as u32, count);
+    let after = made.st;
+    if made.number != 0 {
+        return Entered {
+            st: after,
+            number: made.number,
+            place: made.place,
+            at,
+            first: 0,
+        };
+    }
+    let first = small::first_of(made.symbol, count);
+    let body = after.scopes;
+    let inside = opening::open_body(work, after, cur, first, count as u32);
+    let end = bindings::bind_args(forest, work, i, top, first);
+    let inner = Here {
+        scope: body,
+        held: at.held,
+        top: end,
+    };
+    Entered {
+        st: inside,
+        number: 0,
+        place: 0,
+        at: inner,
+        first,
+    }
+}
+
+// ---- what a record gives
+
+// The symbol of record i, whose children are read: of a definition and a block that of the last.
+fn conclude(forest: &[u8], work: &mut [u32], i: usize, at: Here, k: Kids) -> Step
+    requires { ⌜ Sound (now forest) ⌝ }
+    requires { ⌜ Rep (now forest) (now work) (k .st) ⌝ }
+    requires { ⌜ Concluding (now forest) (now work) i at k ⌝ }
+    requires { ⌜ Branched (k .branches) ⌝ }
+    ensures { λ r. ⌜ Concluded (now (forest .entry)) (now (work .entry)) i at k (now (work .exit)) r ⌝ }
+{
+    let st = k.st;
+    let b = k.branches;
+    let held = at.held;
+    let cur = at.scope;
+    let count = record::kids(forest, i);
+    let shape = record::shape(forest, i);
+    if shape == 10 {
+        return concluding::last(work, st, held, count);
+    }
+    if shape == 11 {
+        return concluding::last(work, st, held, count);
+    }
+    concluding::general(forest, work, st, i, cur, held, count, b)
+}
+
+// ---- the walk
+
+// Record i's subtree. Rules out: a reading that is not counted; the record after i's first child.
+pub fn subtree(forest: &[u8], work: &mut [u32], i: usize, at: Here, st: State) -> Read
+    requires { ⌜ Sound (now forest) ⌝ }
+    requires { ⌜ i < recordCount (now forest) ⌝ }
+    requires { ⌜ StandsAt (now forest) (now work) st i at ⌝ }
+    requires { ⌜ LegibleAt (now forest) (now work) st i at ⌝ }
+    ensures { λ r. ⌜ RecordRead (now (forest .entry)) (now (work .entry)) st i at (now (work .exit)) r ⌝ }
+{
+    if st.readings == 2048 {
+        return small::refused(st, 11, i as u32, i);
+    }
+    let counted = opening::count_reading(st);
+    let shape = record::shape(forest, i);
+    if shape == 7 {
+        let top = at.top;
+        let step = concluding::value_use(forest, work, counted, i, top);
+        return Read { step, next: i + 1 };
+    }
+    if shape == 12 {
+        return lambda(forest, work, i, at, counted);
+    }
+    if shape == 17 {
+        return field(forest, work, i, at, counted);
+    }
+    keyed(forest, work, i, at, counted)
+}
+
+// A lambda. Rules out: arguments in force past its body; a body that is read in the lambda's own scope.
+fn lambda(forest: &[u8], work: &mut [u32], i: usize, at: Here, st: State) -> Read
+    requires { ⌜ Sound (now forest) ⌝ }
+    requires { ⌜ (i < recordCount (now forest)) × (recAt (now forest) i .shape ≡ 12) ⌝ }
+    requires { ⌜ StandsAt (now forest) (now work) st i at ⌝ }
+    requires { ⌜ CountedAt (now forest) (now work) st i at ⌝ }
+    ensures { λ r. ⌜ LambdaRead (now (forest .entry)) (now (work .entry)) st i at (now (work .exit)) r ⌝ }
+{
+    let e = enter_lambda(forest, work, i, at, st);
+    let inside = e.st;
+    if e.number != 0 {
+        return small::refused(inside, e.number, e.place, i);
+    }
+    let inner = e.at;
+    let op = record::opcode(forest, i);
+    let k = operands(forest, work, i + 1, 1, op, inner, inside);
+    let after = k.st;
+    if k.number != 0 {
+        return small::refused(after, k.number, k.place, i);
+    }
+    let step = concluding::lambda(
+        forest,
+        work,
+        after,
+        i,
+        at.scope,
+        at.held,
+        e.first,
+        inner.scope,
+    );
+    Read { step, next: k.next }
+}
+
+// A SelectField. Rules out: the input of a Tuple's field read once; any other input read twice.
+fn field(forest: &[u8], work: &mut [u32], i: usize, at: Here, st: State) -> Read
+    requires { ⌜ Sound (now forest) ⌝ }
+    requires { ⌜ i < recordCount (now forest) ⌝ }
+    requires { ⌜ (recAt (now forest) i .shape ≡ 17) × (recAt (now forest) i .opcode ≡ 0x8C) ⌝ }
+    requires { ⌜ StandsAt (now forest) (now work) st i at ⌝ }
+    requires { ⌜ WellKids (now forest) (now work) st i at ⌝ }
+    ensures { λ r. ⌜ FieldRead (now (forest .entry)) (now (work .entry)) st i at (now (work .exit)) r ⌝ }
+{
+    let op = record::opcode(forest, i);
+    let k = operands(forest, work, i + 1, 1, op, at, st);
+    let after = k.st;
+    if k.number != 0 {
+        return small::refused(after, k.number, k.place, i);
+    }
+    let held = at.held;
+    if concluding::reads_again(forest, work, i, held) {
+        return keyed(forest, work, i, at, after);
+    }
+    let step = concluding::field(forest, work, after, i, at.scope, held);
+    Read { step, next: k.next }
+}
+
+// Any other record; and a SelectField of a Tuple, once more. Rules out: a key with the symbols of other children; a
+// block's own symbol.
+fn keyed(forest: &[u8], work: &mut [u32], i: usize, at: Here, st: State) -> Read
+    requires { ⌜ Sound (now forest) ⌝ }
+    requires { ⌜ i < recordCount (now forest) ⌝ }
+    requires { ⌜ StandsAt (now forest) (now work) st i at ⌝ }
+    requires { ⌜ WellKids (now forest) (now work) st i at ⌝ }
+    ensures { λ r. ⌜ KeyedRead (now (forest .entry)) (now (work .entry)) st i at (now (work .exit)) r ⌝ }
+{
+    let count = record::kids(forest, i);
+    let op = record::opcode(forest, i);
+    let k = operands(forest, work, i + 1, count, op, at, st);
+    if k.number != 0 {
+        let after = k.st;
+        return small::refused(after, k.number, k.place, i);
+    }
+    let step = conclude(forest, work, i, at, k);
+    Read { step, next: k.next }
+}
+
+// The operands of an opcode, `count` of them from record i on. Rules out: a symbol stored over an older pending one; a
+// definition in force in its own value; the scope of a thunk not noted.
+fn operands(
+    forest: &[u8],
+    work: &mut [u32],
+    i: usize,
+    count: usize,
+    op: u8,
+    at: Here,
+    st: State,
+) -> Kids
+    requires { ⌜ Sound (now forest) ⌝ }
+    requires { ⌜ Operands (now forest) (now work) st i count op at ⌝ }
+    ensures { λ k. ⌜ ReadsAll (now (forest .entry)) (now (work .entry)) st i count op at (now (work .exit)) k ⌝ }
+{
+    let held = at.held;
+    let mut k = small::unread(st, i);
+    let mut top = at.top;
+    let mut j = 0;
+    while j < count {
+        let thunk = small::thunked(op, j);
+        let next = k.next;
+        let before = k.st;
+        let r = child(
+            forest,
+            work,
+            next,
+            thunk,
+            small::child_at(at, j, top),
+            before,
+        );
+        let step = r.step;
+        if step.number != 0 {
+            return small::failed(k, r);
+        }
+        work[PENDING + held + j] = step.symbol;
+        top = bindings::bind_def(forest, work, next, top, step.symbol);
+        k = small::with_child(k, thunk, r);
+        j += 1;
+    }
+    k
+}
+
+// A child, in a thunk of its own or in the scope of its parent. Rules out: a thunk's table left open; a symbol made in
+// the thunk that is found after it.
+fn child(forest: &[u8], work: &mut [u32], i: usize, thunk: bool, at: Here, st: State) -> Read
+    requires { ⌜ Sound (now forest) ⌝ }
+    requires { ⌜ i < recordCount (now forest) ⌝ }
+    requires { ⌜ Child (now forest) (now work) st i thunk at ⌝ }
+    ensures { λ r. ⌜ ChildRead (now (forest .entry)) (now (work .entry)) st i thunk at (now (work .exit)) r ⌝ }
+{
+    if !thunk {
+        return subtree(forest, work, i, at, st);
+    }
+    let scope = st.scopes;
+    let cur = at.scope;
+    let inside = opening::open_thunk(work, st, cur);
+    let own = Here {
+        scope,
+        held: at.held,
+        top: at.top,
+    };
+    let r = subtree(forest, work, i, own, inside);
+    let step = r.step;
+    let last = step.st;
+    let closed = Step {
+        st: opening::close_thunk(last),
+        symbol: step.symbol,
+        number: step.number,
+        place: step.place,
+    };
+    Read {
+        step: closed,
+        next: r.next,
+    }
+}
+
+// ---- a forest
+
+// The root's symbol: the last tree is the root. Rules out: the first tree's symbol; words from 10,856 on changed.
+pub fn forest(forest: &[u8], work: &mut [u32]) -> Step
+    requires { ⌜ accept (now forest) ≡ good (treesOf (now forest)) ⌝ }
+    requires { ⌜ 10856 ≤ length (now work) ⌝ }
+    ensures { λ r. ⌜ Interned (now (forest .entry)) (now (work .entry)) (now (work .exit)) r ⌝ }
+{
+    let st = interner::start(work);
+    let count = record::tree_count(forest);
+    let at = Here {
+        scope: 0,
+        held: 0,
+        top: 0,
+    };
+    let k = operands(forest, work, 0, count, 0, at, st);
+    let after = k.st;
+    if k.number != 0 {
+        return Step {
+            st: after,
+            symbol: 0,
+            number: k.number,
+            place: k.place,
+        };
+    }
+    concluding::last(work, after, 0, count)
+}

@@ -1,0 +1,156 @@
+// The small steps of the walk: refusals, where a child is read, thunks, children read, a lambda's first argument.
+use crate::Here;
+use crate::Kids;
+use crate::Read;
+use concluding::Branches;
+use interner::State;
+use interner::Step;
+ghost use mathlib.Core.Path.{_≡_};
+ghost use mathlib.Core.Bool.{true};
+ghost use Prim.Native.Nat.{_+_, _<_, _≤_};
+ghost use Rattle.model.specs.Intern.{thunked};
+ghost use Rattle.laws.specs.Range.{range};
+ghost use Rattle.intern.specs.Steps.{refusedRead, childAt, noted, unread, withChild, failed};
+
+pub fn wide(x: u8) -> usize
+    ensures { λ r. ⌜ (r ≡ x) × (r < 256) ⌝ }
+{
+    x as usize
+}
+
+pub fn refused(st: State, number: u32, place: u32, next: usize) -> Read
+    ensures { λ r. ⌜ r ≡ refusedRead st number place next ⌝ }
+{
+    let step = Step {
+        st,
+        symbol: 0,
+        number,
+        place,
+    };
+    Read { step, next }
+}
+
+// Whether operand j of an opcode is read in a thunk of its own.
+pub fn thunked(op: u8, j: usize) -> bool
+    ensures { λ r. ⌜ r ≡ thunked op j ⌝ }
+{
+    if op == 0x95 {
+        if j == 1 {
+            return true;
+        }
+        return j == 2;
+    }
+    if op == 0xED {
+        return j == 1;
+    }
+    if op == 0xEC {
+        return j == 1;
+    }
+    false
+}
+
+// Where child j is read, with `top` ids bound.
+pub fn child_at(at: Here, j: usize, top: usize) -> Here
+    requires { ⌜ at .held + j ≤ 256 ⌝ }
+    ensures { λ r. ⌜ r ≡ childAt at j top ⌝ }
+{
+    Here {
+        scope: at.scope,
+        held: at.held + j,
+        top,
+    }
+}
+
+// The scopes of thunks, with one more where there is one or none.
+pub fn one_more(b: Branches, scope: usize) -> Branches
+    requires { ⌜ scope ≤ 2049 ⌝ }
+    ensures { λ r. ⌜ r ≡ noted true b scope ⌝ }
+{
+    if b.count == 0 {
+        return Branches {
+            count: 1,
+            first: scope as u32,
+            second: b.second,
+        };
+    }
+    Branches {
+        count: 2,
+        first: b.first,
+        second: scope as u32,
+    }
+}
+
+// The scopes of thunks, after a child that was or was not read in one.
+pub fn note(thunk: bool, b: Branches, scope: usize) -> Branches
+    requires { ⌜ scope ≤ 2049 ⌝ }
+    ensures { λ r. ⌜ r ≡ noted thunk b scope ⌝ }
+{
+    if thunk {
+        return one_more(b, scope);
+    }
+    b
+}
+
+// No child is read yet; the first is record i.
+pub fn unread(st: State, i: usize) -> Kids
+    ensures { λ r. ⌜ r ≡ unread st i ⌝ }
+{
+    let branches = Branches {
+        count: 0,
+        first: 0,
+        second: 0,
+    };
+    Kids {
+        st,
+        number: 0,
+        place: 0,
+        next: i,
+        branches,
+    }
+}
+
+// One child more is read.
+pub fn with_child(k: Kids, thunk: bool, r: Read) -> Kids
+    requires { ⌜ k .st .scopes ≤ 2049 ⌝ }
+    ensures { λ z. ⌜ z ≡ withChild k thunk r ⌝ }
+{
+    let before = k.st;
+    let b = k.branches;
+    let branches = note(thunk, b, before.scopes);
+    let step = r.step;
+    let st = step.st;
+    Kids {
+        st,
+        number: 0,
+        place: 0,
+        next: r.next,
+        branches,
+    }
+}
+
+// A child that is refused.
+pub fn failed(k: Kids, r: Read) -> Kids
+    ensures { λ z. ⌜ z ≡ failed k r ⌝ }
+{
+    let step = r.step;
+    let st = step.st;
+    let branches = k.branches;
+    Kids {
+        st,
+        number: step.number,
+        place: step.place,
+        next: r.next,
+        branches,
+    }
+}
+
+// The first of a lambda's arguments; 0 where it has none.
+pub fn first_of(symbol: u32, count: usize) -> u32
+    requires { ⌜ symbol + count ≤ 512 ⌝ }
+    ensures { λ r. ⌜ (range r count ≡ range symbol count) × (r < 512) ⌝ }
+{
+    if count == 0 {
+        return 0;
+    }
+    symbol
+}
