@@ -1,0 +1,232 @@
+-- What is left to show of `thunk` and `lambda`: scopes with ids of their own. Assumes nothing.
+use Prim.Native.Nat.{ℕ, _+_}
+use mathlib.Core.Path.{ap, _∙_}
+use native.Mathlib.Omega.{arith}
+use lib.ListN.{length, getD}
+use Rattle.planner.proofs.Keeping.{buildable-kept}
+use Rattle.planner.proofs.Loaded.{source-low, slots-loaded}
+use Rattle.record.specs.Record.{rowAt}
+use Rattle.key.specs.declared.Symbol.{Symbol}
+use Rattle.planner.proofs.Nodes.{grew-few}
+use Rattle.planner.proofs.Nodes.{plans-copied}
+use Rattle.planner.proofs.Binding.{lambda-fits, lambda-writable, body-low, plans-lambda}
+use Rattle.materialize.proofs.lambda.Reads as lambda
+use Rattle.materialize.proofs.+build+define+definition+definitions+fresh+lambda+operand+operands+thunk.Lts-lambda as lambda-lts
+use Rattle.materialize.proofs.thunk.Reads as thunk
+use Rattle.materialize.proofs.+build+define+definition+definitions+fresh+lambda+operand+operands+thunk.Lts-thunk as thunk-lts
+use Rattle.materialize.proofs.+build+define+definition+definitions+fresh+lambda+operand+operands+thunk.Proof.Cycle as cycle
+
+-- ---- thunk
+
+pub thunk-copied-requires : (t : ℕ) → thunk-lts.Need-copied-requires (cycle.thunk-claims t) (cycle.thunk-at t)
+    thunk.Post
+thunk-copied-requires t c κs = c .before .before .before .pre .1 .1 .1 .0 .long
+
+pub thunk-define-requires : (t : ℕ) → thunk-lts.Need-define-requires (cycle.thunk-claims t) (cycle.thunk-at t)
+    thunk.Post
+thunk-define-requires t c κs =
+    let z = c .before .before .before .before .before .before in
+    let b = z .pre .1 .1 .0 in
+    let at = z .pre .1 .1 .1 .0 in (
+      omega (arith, z .pre .0),
+      (
+        z .pre .1 .0,
+        (
+          b,
+          (
+            record {
+              low = at .low;
+              long = ap length (c .before .before .copied .ensures) ∙ at .long;
+              room = omega (arith, at .room);
+              count = at .count;
+            },
+            z .pre .1 .1 .1 .1,
+          ),
+        ),
+      ),
+    )
+
+pub thunk-returns : (t : ℕ) → thunk-lts.Need-returns (cycle.thunk-claims t) (cycle.thunk-at t) thunk.Post
+thunk-returns t c =
+    let c3 = c .before .before .before in
+    let c6 = c3 .before .before .before in
+    plans-copied (c6 .copied .ensures) (c3 .define .ensures)
+
+-- ---- lambda
+
+pub lambda-aux-requires : (t : ℕ) → lambda-lts.Need-aux-requires (cycle.lambda-claims t) (cycle.lambda-at t) lambda.Post
+lambda-aux-requires t c κs =
+    let z = c .before .before .before .before in
+    let b = z .pre .1 .1 .0 in
+    let at = z .pre .1 .1 .1 .0 in
+    let e = z .pre .1 .1 .1 .1 in
+    (z .pre .1 .0, omega (arith, c .wide .ensures, source-low b _ (at .low) _ e))
+
+pub lambda-load-requires : (t : ℕ) → lambda-lts.Need-load-requires (cycle.lambda-claims t) (cycle.lambda-at t)
+    lambda.Post
+lambda-load-requires t c κs =
+    let z = c .before .before .before .before .before .before .before in
+    let b = z .pre .1 .1 .0 in
+    let at = z .pre .1 .1 .1 .0 in
+    omega (arith, at .low, b .arena .few, b .arena .words)
+
+pub lambda-slice-read-wide : (t : ℕ) → lambda-lts.Need-slice-read-wide (cycle.lambda-claims t) (cycle.lambda-at t)
+    lambda.Post
+lambda-slice-read-wide t c =
+    let z = c .before .before .before .before .before .before .before .before .before .before in
+    let b = z .pre .1 .1 .0 in
+    let at = z .pre .1 .1 .1 .0 in
+    let e = z .pre .1 .1 .1 .1 in
+    let slots = slots-loaded b _ (at .low) (c .before .before .load .ensures) in
+    omega (arith, c .before .wide2 .ensures, slots, b .arena .words)
+
+pub lambda-put-requires : (t : ℕ) → lambda-lts.Need-put-requires (cycle.lambda-claims t) (cycle.lambda-at t) lambda.Post
+lambda-put-requires t c κs =
+    let z = c .before .before .before .before .before .before .before .before .before .before .before .before in
+    let b = z .pre .1 .1 .0 in
+    let at = z .pre .1 .1 .1 .0 in
+    (omega (arith, b .arena .words), at .count, omega (arith, at .room))
+
+pub lambda-copied-requires : (t : ℕ) → lambda-lts.Need-copied-requires (cycle.lambda-claims t) (cycle.lambda-at t)
+    lambda.Post
+lambda-copied-requires t c κs =
+    c .before .before .before .before .before .before .before .before .before .before .before .before .before .before
+    .before .pre .1 .1 .1 .0 .long
+
+pub lambda-number-requires : (t : ℕ) → lambda-lts.Need-number-requires (cycle.lambda-claims t) (cycle.lambda-at t)
+    lambda.Post
+lambda-number-requires t c κs =
+    let c3 = c .before .before .before in
+    let c13 = c3 .before .before .before .before .before .before .before .before .before .before in
+    let c14 = c13 .before in
+    let c15 = c14 .before in
+    let z = c15 .before .before .before .before in
+    let b = z .pre .1 .1 .0 in
+    let at = z .pre .1 .1 .1 .0 in
+    let e = z .pre .1 .1 .1 .1 in
+    let ec = c13 .wide8 .ensures
+    ∙ (c14 .aux .ensures ∙ ap (λ (i : ℕ). rowAt (z .args .forest .now) i .rec .aux) (c15 .wide .ensures)) in
+    let fit = lambda-fits b _ (at .low) _ e in (
+      λ some. omega (
+        arith,
+        c .before .wide4 .ensures,
+        c .wide5 .ensures,
+        ec,
+        fit .first (omega (arith, some, c .wide5 .ensures, ec)),
+        at .low,
+        b .arena .few,
+        ap length
+            (c3 .copied .ensures),
+        at .long,
+      ),
+      omega (arith, c .wide5 .ensures, ec, fit .few, at .room),
+    )
+
+pub lambda-add-define : (t : ℕ) → lambda-lts.Need-add-define (cycle.lambda-claims t) (cycle.lambda-at t) lambda.Post
+lambda-add-define t c =
+    let c18 = c .before .before .before .before .before .before .before .before .before .before .before .before .before
+    .before .before .before .before .before in
+    let c19 = c18 .before in
+    let c20 = c19 .before in
+    let z = c20 .before .before .before .before in
+    let b = z .pre .1 .1 .0 in
+    let at = z .pre .1 .1 .1 .0 in
+    let e = z .pre .1 .1 .1 .1 in
+    let ec = c18 .wide8 .ensures
+    ∙ (c19 .aux .ensures ∙ ap (λ (i : ℕ). rowAt (z .args .forest .now) i .rec .aux) (c20 .wide .ensures)) in
+    let fit = lambda-fits b _ (at .low) _ e in
+    omega (arith, ec, fit .few, at .room)
+
+pub lambda-add-define-2 : (t : ℕ) → lambda-lts.Need-add-define-2 (cycle.lambda-claims t) (cycle.lambda-at t) lambda.Post
+lambda-add-define-2 t c =
+    let c18 = c .before .before .before .before .before .before .before .before .before .before .before .before .before
+    .before .before .before .before .before in
+    let c19 = c18 .before in
+    let c20 = c19 .before in
+    let z = c20 .before .before .before .before in
+    let b = z .pre .1 .1 .0 in
+    let at = z .pre .1 .1 .1 .0 in
+    let e = z .pre .1 .1 .1 .1 in
+    let ec = c18 .wide8 .ensures
+    ∙ (c19 .aux .ensures ∙ ap (λ (i : ℕ). rowAt (z .args .forest .now) i .rec .aux) (c20 .wide .ensures)) in
+    let fit = lambda-fits b _ (at .low) _ e in
+    omega (arith, ec, fit .few, at .room)
+
+pub lambda-add-define-3 : (t : ℕ) → lambda-lts.Need-add-define-3 (cycle.lambda-claims t) (cycle.lambda-at t) lambda.Post
+lambda-add-define-3 t c =
+    let z = c .before .before .before .before .before .before .before .before .before .before .before .before .before
+    .before .before .before .before .before .before .before .before .before .before .before in
+    let b = z .pre .1 .1 .0 in
+    let at = z .pre .1 .1 .1 .0 in
+    omega (arith, at .room)
+
+pub lambda-define-requires : (t : ℕ) → lambda-lts.Need-define-requires (cycle.lambda-claims t) (cycle.lambda-at t)
+    lambda.Post
+lambda-define-requires t c κs =
+    let c4 = c .before .before .before .before in
+    let c8 = c4 .before .before .before .before in
+    let c11 = c8 .before .before .before in
+    let c13 = c11 .before .before in
+    let c15 = c13 .before .before in
+    let c16 = c15 .before in
+    let c18 = c16 .before .before in
+    let c19 = c18 .before in
+    let c20 = c19 .before in
+    let z = c20 .before .before .before .before in
+    let b = z .pre .1 .1 .0 in
+    let at = z .pre .1 .1 .1 .0 in
+    let e = z .pre .1 .1 .1 .1 in
+    let ec = c18 .wide8 .ensures
+    ∙ (c19 .aux .ensures ∙ ap (λ (i : ℕ). rowAt (z .args .forest .now) i .rec .aux) (c20 .wide .ensures)) in
+    let fit = lambda-fits b _ (at .low) _ e in
+    let h = c11 .put .ensures (z .args .forest .now) (lambda-writable b _ (at .low) _ e _ (omega (arith, at .room))) in
+    let er = c13 .wide3 .ensures
+    ∙ ap (λ (k : ℕ). getD (z .args .work .now) (2560 + k) 0) (c15 .wide2 .ensures ∙ ap (λ (y : Symbol). y .kids)
+    (c16 .load .ensures)) in
+    let low = body-low b _ (at .low) _ e in (
+      omega (arith, z .pre .0, er, low),
+      (
+        z .pre .1 .0,
+        (
+          buildable-kept (h .kept) b,
+          (
+            record {
+              low = omega (arith, er, low, at .low);
+              long = c4 .number .kept .0 ∙ (ap length (c8 .copied .ensures) ∙ at .long);
+              room = omega (arith, er, low, ec, fit .few, at .room);
+              count = grew-few h;
+            },
+            omega (arith, c .before .wide6 .ensures, fit .body),
+          ),
+        ),
+      ),
+    )
+
+pub lambda-returns : (t : ℕ) → lambda-lts.Need-returns (cycle.lambda-claims t) (cycle.lambda-at t) lambda.Post
+lambda-returns t c =
+    let c3 = c .before .before .before in
+    let c5 = c3 .before .before in
+    let c8 = c5 .before .before .before in
+    let c9 = c8 .before in
+    let c10 = c9 .before in
+    let c12 = c10 .before .before in
+    let c15 = c12 .before .before .before in
+    let c17 = c15 .before .before in
+    let c19 = c17 .before .before in
+    let c20 = c19 .before in
+    let c22 = c20 .before .before in
+    let c23 = c22 .before in
+    let c24 = c23 .before in
+    let z = c24 .before .before .before .before in
+    let b = z .pre .1 .1 .0 in
+    let at = z .pre .1 .1 .1 .0 in
+    let e = z .pre .1 .1 .1 .1 in
+    let ec = c22 .wide8 .ensures
+    ∙ (c23 .aux .ensures ∙ ap (λ (i : ℕ). rowAt (z .args .forest .now) i .rec .aux) (c24 .wide .ensures)) in
+    let h = c15 .put .ensures (z .args .forest .now) (lambda-writable b _ (at .low) _ e _ (omega (arith, at .room))) in
+    let er = c17 .wide3 .ensures
+    ∙ ap (λ (k : ℕ). getD (z .args .work .now) (2560 + k) 0) (c19 .wide2 .ensures ∙ ap (λ (y : Symbol). y .kids)
+    (c20 .load .ensures)) in
+    plans-lambda b _ (at .low) _ _ e (at .long) ec er (c12 .copied .ensures) (c10 .wide4 .ensures) (c9 .wide5 .ensures)
+    (c5 .wide6 .ensures)
+    (c8 .number .ensures) h (c3 .define .ensures)

@@ -1,0 +1,183 @@
+-- What is left to show of `definitions` and `definition`. Assumes nothing.
+use Prim.Native.Nat.{ℕ, _-_, _≤_}
+use mathlib.Core.Path.{_≡_, _∙_}
+use native.Mathlib.Omega.{arith}
+use lib.ListN.{length, take}
+use Rattle.planner.specs.Planning.{Defines}
+use Rattle.planner.proofs.Keeping.{buildable-kept}
+use Rattle.planner.proofs.Nodes.{grew-few}
+use Rattle.planner.proofs.Scoping.{defines-none, defines-one, defines-other, defines-more}
+use Rattle.materialize.proofs.definition.Reads as definition
+use Rattle.materialize.proofs.+build+define+definition+definitions+fresh+lambda+operand+operands+thunk.Lts-definition as definition-lts
+use Rattle.materialize.proofs.definitions.Reads as definitions
+use Rattle.materialize.proofs.+build+define+definition+definitions+fresh+lambda+operand+operands+thunk.Lts-definitions as definitions-lts
+use Rattle.materialize.proofs.+build+define+definition+definitions+fresh+lambda+operand+operands+thunk.Proof.Cycle as cycle
+
+-- ---- definitions
+
+abbrev pub definitions-Inv-loop : definitions-lts.InvT-loop
+definitions-Inv-loop forest work₀ g root sc order count map₀ last above d₀ i₀ work map d i =
+    (i ≤ count)
+    × (length map ≡ 512)
+    × Defines forest work₀ g map₀ (d₀ .plan) above sc (take i order) last i work map (d .plan) (d .last)
+
+abbrev pub definitions-μ-loop : definitions-lts.MeasureT-loop
+definitions-μ-loop forest work₀ g root sc order count map₀ last above d₀ i₀ work map d i = count - i
+
+pub definitions-loop-holds : (t : ℕ) → definitions-lts.Need-loop-holds (cycle.definitions-claims t)
+    (cycle.definitions-at t) definitions.Post definitions-Inv-loop definitions-μ-loop
+definitions-loop-holds t c =
+    let z = c .before .before .before .before in
+    let b = z .pre .1 .1 .0 in
+    let at = z .pre .1 .1 .1 .0 in
+    (omega arith, at .long, defines-none (at .count))
+
+pub definitions-shared-slice-read-wide16 : (t : ℕ) → definitions-lts.Need-shared-slice-read-wide16
+    (cycle.definitions-claims t) (cycle.definitions-at t) definitions.Post definitions-Inv-loop definitions-μ-loop
+definitions-shared-slice-read-wide16 t c =
+    let z = c .before .before .before .before .before .before .before in
+    let b = z .pre .1 .1 .0 in
+    let at = z .pre .1 .1 .1 .0 in
+    omega (arith, z .pre .1 .1 .1 .1 .0 .0, z .pre .1 .1 .1 .1 .0 .1)
+
+pub definitions-definition-requires : (t : ℕ) → definitions-lts.Need-definition-requires (cycle.definitions-claims t)
+    (cycle.definitions-at t) definitions.Post definitions-Inv-loop definitions-μ-loop
+definitions-definition-requires t c κs =
+    let c2 = c .before .before in
+    let c4 = c2 .before .before in
+    let c5 = c4 .before in
+    let z = c5 .before .before .before .before .before in
+    let b = z .pre .1 .1 .0 in
+    let at = z .pre .1 .1 .1 .0 in
+    let inv = c5 .loop .inv in
+    let low = z .pre .1 .1 .1 .1 .1 _ (c4 .loop-test .taken) in (
+      omega (arith, z .pre .0, c2 .wide16 .ensures, low),
+      (
+        z .pre .1 .0,
+        (
+          buildable-kept (inv .2 .kept) b,
+          record {
+            low = omega (arith, c2 .wide16 .ensures, low, at .low);
+            long = inv .1;
+            room = omega (arith, c2 .wide16 .ensures, low, inv .0, inv .2 .few, at .room, z .pre .1 .1 .1 .1 .0 .0);
+            count = inv .2 .full;
+          },
+        ),
+      ),
+    )
+
+pub definitions-loop-again : (t : ℕ) → definitions-lts.Need-loop-again (cycle.definitions-claims t)
+    (cycle.definitions-at t) definitions.Post definitions-Inv-loop definitions-μ-loop
+definitions-loop-again t c =
+    let c4 = c .before .before .before .before in
+    let c7 = c4 .before .before .before in
+    let c9 = c7 .before .before in
+    let c10 = c9 .before in
+    let z = c10 .before .before .before .before .before in
+    let b = z .pre .1 .1 .0 in
+    let at = z .pre .1 .1 .1 .0 in
+    let inv = c10 .loop .inv in (
+      omega (arith, c9 .loop-test .taken),
+      c4 .definition .kept .1 .1 .1 .1 .1 .0 ∙ inv .1,
+      defines-more (z .args .order .now) b (omega (
+        arith,
+        c9 .loop-test .taken,
+        z .pre .1 .1 .1 .1 .0 .0,
+        z .pre .1 .1 .1 .1 .0 .1,
+      )) (c7 .wide16 .ensures) (inv .2) (c4 .definition .ensures),
+    )
+
+pub definitions-returns : (t : ℕ) → definitions-lts.Need-returns (cycle.definitions-claims t) (cycle.definitions-at t)
+    definitions.Post definitions-Inv-loop definitions-μ-loop
+definitions-returns t c =
+    let e : c .before .loop .i ≡ c .before .before .before .before .before .before .args .count = omega (
+      arith,
+      c .before .loop .inv .0,
+    ) in
+    rw (← e) (c .before .loop .inv .2)
+
+-- ---- definition
+
+pub definition-member-requires : (t : ℕ) → definition-lts.Need-member-requires (cycle.definition-claims t)
+    (cycle.definition-at t) definition.Post
+definition-member-requires t c κs =
+    let z = c .before .before .before .before .before in
+    let b = z .pre .1 .1 .0 in
+    let at = z .pre .1 .1 .1 in
+    (z .pre .1 .0, (b, (at .low, at .long)))
+
+pub definition-add-id : (t : ℕ) → definition-lts.Need-add-id (cycle.definition-claims t) (cycle.definition-at t)
+    definition.Post
+definition-add-id t c =
+    let z = c .before .before .before .before .before .before .before in
+    let b = z .pre .1 .1 .0 in
+    let at = z .pre .1 .1 .1 in
+    omega (arith, at .room)
+
+pub definition-put-requires : (t : ℕ) → definition-lts.Need-put-requires (cycle.definition-claims t)
+    (cycle.definition-at t) definition.Post
+definition-put-requires t c κs =
+    let z = c .before .before .before .before .before .before .before .before in
+    let b = z .pre .1 .1 .0 in
+    let at = z .pre .1 .1 .1 in
+    (omega (arith, b .arena .words), at .count, omega (arith, at .room))
+
+pub definition-add-build : (t : ℕ) → definition-lts.Need-add-build (cycle.definition-claims t) (cycle.definition-at t)
+    definition.Post
+definition-add-build t c =
+    let z = c .before .before .before .before .before .before .before .before .before .before .before .before .before in
+    let b = z .pre .1 .1 .0 in
+    let at = z .pre .1 .1 .1 in
+    omega (arith, at .room)
+
+pub definition-build-requires : (t : ℕ) → definition-lts.Need-build-requires (cycle.definition-claims t)
+    (cycle.definition-at t) definition.Post
+definition-build-requires t c κs =
+    let c4 = c .before .before .before .before in
+    let z = c4 .before .before .before .before .before .before .before .before .before in
+    let b = z .pre .1 .1 .0 in
+    let at = z .pre .1 .1 .1 in
+    let h = c4 .put .ensures (z .args .forest .now) tt in (
+      omega (arith, z .pre .0),
+      (
+        z .pre .1 .0,
+        (
+          buildable-kept (h .kept) b,
+          record {
+            low = at .low;
+            long = at .long;
+            room = omega (arith, at .room);
+            count = grew-few h;
+          },
+        ),
+      ),
+    )
+
+pub definition-slice-write-map : (t : ℕ) → definition-lts.Need-slice-write-map (cycle.definition-claims t)
+    (cycle.definition-at t) definition.Post
+definition-slice-write-map t c =
+    let z = c .before .before .before .before .before .before .before .before .before .before .before .before .before
+    .before .before .before in
+    let b = z .pre .1 .1 .0 in
+    let at = z .pre .1 .1 .1 in
+    omega (arith, at .low, at .long, b .arena .few)
+
+pub definition-returns : (t : ℕ) → definition-lts.Need-returns (cycle.definition-claims t) (cycle.definition-at t)
+    definition.Post
+definition-returns t c =
+    let c2 = c .before .before in
+    let c7 = c2 .before .before .before .before .before in
+    let c9 = c7 .before .before in
+    let c10 = c9 .before in
+    let z = c10 .before .before .before .before .before .before in
+    let b = z .pre .1 .1 .0 in
+    let at = z .pre .1 .1 .1 in
+    defines-one _ _ b (c9 .if1 .taken) (c10 .member .ensures) (omega (arith, at .low, at .long, b .arena .few))
+    (c7 .put .ensures (z .args .forest .now) tt)
+    (c2 .build .ensures)
+
+pub definition-returns-2 : (t : ℕ) → definition-lts.Need-returns-2 (cycle.definition-claims t) (cycle.definition-at t)
+    definition.Post
+definition-returns-2 t c =
+    defines-other _ _ (c .if1 .left) (c .before .member .ensures)
+    (c .before .before .before .before .before .before .before .pre .1 .1 .1 .count)

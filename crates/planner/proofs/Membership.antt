@@ -1,0 +1,148 @@
+-- Which symbols get a definition. In order: the graph's symbol s from its words, and as the code
+-- tests it; the tests of `member` one by one; one
+-- symbol more of an order.
+-- Assumes nothing.
+use Prim.Native.Nat.{ℕ, zero, suc, _+_, _<_, _≤_}
+use mathlib.Core.Path.{_≡_, refl, sym, ap, ap₂, _∙_}
+use mathlib.Core.Bool.{Bool, true, false, not, _&&_}
+use mathlib.Core.Option.{Option, none, some}
+use mathlib.Core.List.{List, [], _∷_}
+use native.Mathlib.Omega.{arith}
+use native.Mathlib.Numerals.{add-one}
+use lib.Dec.{eqb}
+use lib.ListN.{length, getD, take}
+use lib.Seq.{take-suc}
+use borrow.Author.Tests.{eq-eqb, ne-eqb}
+use Rattle.model.specs.Intern.{Sym, Env, symAt}
+use Rattle.model.specs.Gate.{Graph, symOf, usage, shouldHoist}
+use Rattle.model.specs.Schedule.{isArg}
+use Rattle.model.specs.Materialize.{idGiven, member}
+use Rattle.laws.specs.Defining.{membersIn}
+use Rattle.laws.proofs.Defining.{members-append, members-member, members-other}
+use Rattle.key.specs.declared.Symbol.{Symbol}
+use Rattle.key.specs.Key.{symbolAt}
+use Rattle.symbols.specs.Symbols.{symsOf, symFrom}
+use Rattle.symbols.specs.Symbols as words
+use Rattle.symbols.proofs.Laws.{sym-at}
+use Rattle.graph.specs.Graph.{Arena, Scoped, Tests, graphOf}
+use Rattle.planner.specs.Building.{Stands, Maps, given, more}
+
+-- ---- the graph in the words
+
+module _ {bs ws : List ℕ} {n m : ℕ} {gr : Graph} (st : Stands bs ws n m gr) where
+  pub graph-is : gr ≡ graphOf bs ws n m (gr .slots)
+  graph-is = rw (← st .syms, ← st .scopes)
+
+  module _ (s : ℕ) (lt : s < n) where
+    pub sym-is : symOf gr s ≡ symFrom bs (symsOf bs ws s) ws s
+    sym-is = ap (λ (ss : List Sym). symAt ss s) (st .syms) ∙ sym-at bs ws n s lt
+
+    pub scope-is : symOf gr s .scope ≡ symbolAt ws s .scope
+    unfolding words.symOf
+    scope-is = ap (λ (y : Sym). y .scope) sym-is
+
+    -- what the code has loaded and tested
+    pub scope-not : {y : Symbol} {k sc : ℕ} → y ≡ symbolAt ws s → k ≡ y .scope → (k ≡ sc → ⊥)
+        → symOf gr s .scope ≡ sc → ⊥
+    scope-not e f other is = other (f ∙ ap (λ (y : Symbol). y .scope) e ∙ sym scope-is ∙ is)
+
+    pub scope-yes : {y : Symbol} {k sc : ℕ} → y ≡ symbolAt ws s → k ≡ y .scope → k ≡ sc → symOf gr s .scope ≡ sc
+    scope-yes e f is = scope-is ∙ (sym (f ∙ ap (λ (y : Symbol). y .scope) e) ∙ is)
+
+    pub arg-is : {r : Bool} → Tests ws n m (λ h. isArg (symOf h s .node)) r → isArg (symOf gr s .node) ≡ r
+    arg-is t = ap (λ (h : Graph). isArg (symOf h s .node)) graph-is ∙ sym (t bs (gr .slots))
+
+    pub hoist-is : {r : Bool}
+        → ((k : ℕ) → s < k → r ≡ shouldHoist (symAt (symsOf bs ws k) s) (getD ws (8456 + s) 0))
+        → r ≡ shouldHoist (symOf gr s) (usage gr s)
+    hoist-is h =
+        h n lt ∙ ap₂ shouldHoist (sym (ap (λ (ss : List Sym). symAt ss s) (st .syms))) (st .uses s lt)
+
+pub arena-scoped : {bs ws : List ℕ} {n m : ℕ} → Arena bs ws n m → Scoped ws n m
+arena-scoped a = record {
+  few = a .few;
+  words = a .words;
+  few-scopes = a .few-scopes;
+  nested = a .nested;
+  placed = a .placed;
+}
+
+-- ---- a member's four tests
+
+and-false : (x : Bool) → false ≡ (x && false)
+and-false true = refl
+and-false false = refl
+
+and-true : (x : Bool) → x ≡ (x && true)
+and-true true = refl
+and-true false = refl
+
+-- without an id
+isNew : Option ℕ → Bool
+isNew o = elim o [ none ↦ true | some i ↦ false ]
+
+given-old : (i : ℕ) → (i ≡ 0 → ⊥) → isNew (given i) ≡ false
+unfolding isNew
+given-old zero n = absurd (n refl)
+given-old (suc i) n = refl
+
+module _ (gr : Graph) (sc : ℕ) (ids : List ℕ) (env : Env) (s : ℕ) (few : s < 512) (maps : Maps ids env) where
+  pub member-given : (getD ids s 0 ≡ 0 → ⊥) → false ≡ member gr sc env s
+  unfolding member isNew
+  member-given n =
+      let e : isNew (idGiven env s) ≡ false = ap isNew (maps .is s few) ∙ given-old (getD ids s 0) n in
+      rw (e, member)
+      (and-false
+      (eqb (symOf gr s .scope) sc && not (isArg (symOf gr s .node)) && shouldHoist (symOf gr s) (usage gr s)))
+
+  pub member-elsewhere : (symOf gr s .scope ≡ sc → ⊥) → false ≡ member gr sc env s
+  unfolding member
+  member-elsewhere n = rw (ne-eqb (symOf gr s .scope) sc n, member)
+
+  pub member-arg : isArg (symOf gr s .node) ≡ true → false ≡ member gr sc env s
+  unfolding member
+  member-arg e = rw (e, member) (go (eqb (symOf gr s .scope) sc) (shouldHoist (symOf gr s) (usage gr s)) _)
+    where
+      go : (a h d : Bool) → false ≡ (((a && false) && h) && d)
+      go true h d = refl
+      go false h d = refl
+
+  pub member-hoisted : getD ids s 0 ≡ 0 → symOf gr s .scope ≡ sc → isArg (symOf gr s .node) ≡ false
+      → shouldHoist (symOf gr s) (usage gr s) ≡ member gr sc env s
+  unfolding member
+  member-hoisted z e f =
+      let id : idGiven env s ≡ none = maps .is s few ∙ ap given z in
+      rw (eq-eqb (symOf gr s .scope) sc e, f, id, member) (and-true (shouldHoist (symOf gr s) (usage gr s)))
+
+-- ---- one symbol more
+
+pub counted-true : (b : Bool) (k : ℕ) → b ≡ true → k + 1 ≡ more b k
+counted-true b k e = rw e
+
+pub counted-false : (b : Bool) (k : ℕ) → b ≡ false → k ≡ more b k
+counted-false b k e = rw e
+
+pub members-none : (gr : Graph) (sc : ℕ) (env : Env) → 0 ≡ membersIn gr sc env []
+unfolding membersIn
+members-none gr sc env = refl
+
+pub counted-few : (b : Bool) (k i : ℕ) → k ≤ i → more b k ≤ i + 1
+counted-few true k i l = omega arith
+counted-few false k i l = omega arith
+
+pub members-more : (gr : Graph) (sc : ℕ) (env : Env) (order : List ℕ) (i s k : ℕ) (b : Bool) → i < length order
+    → s ≡ getD order i 0 → b ≡ member gr sc env s → k ≡ membersIn gr sc env (take i order)
+    → more b k ≡ membersIn gr sc env (take (i + 1) order)
+unfolding membersIn
+members-more gr sc env order i s k b lt e f g =
+    rw (add-one i, take-suc order i 0 lt)
+    (go b (sym (f ∙ ap (member gr sc env) e))
+    ∙ sym (members-append gr sc env (take i order) (getD order i 0 ∷ [])))
+  where
+    x : ℕ
+    x = getD order i 0
+
+    go : (b : Bool) → member gr sc env x ≡ b
+        → more b k ≡ membersIn gr sc env (take i order) + membersIn gr sc env (x ∷ [])
+    go true h = omega (arith, g, members-member gr sc x [] env h)
+    go false h = omega (arith, g, members-other gr sc x [] env h)

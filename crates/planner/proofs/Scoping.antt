@@ -1,0 +1,225 @@
+-- A scope planned. In order: definitions side by side; one symbol of the order, defined or not; one symbol more; a
+-- scope
+-- without definitions; a block.
+-- Assumes nothing.
+use Prim.Native.Nat.{ℕ, suc, _+_, _<_, _≤_, max}
+use mathlib.Core.Path.{_≡_, refl, sym, ap, ap₂, _∙_, subst}
+use mathlib.Core.Bool.{Bool, true, false}
+use mathlib.Core.List.{List, [], _∷_, _++_}
+use native.Mathlib.Omega.{arith}
+use native.Mathlib.Numerals.{add-one}
+use lib.ListN.{length, getD, set, take}
+use lib.Seq.{take-suc}
+use Rattle.model.specs.Tree.{Row, Tree, Trees, nil, cons, rows, rowsOf, depth}
+use Rattle.model.specs.Intern.{Env}
+use Rattle.model.specs.Gate as model
+use Rattle.model.specs.Schedule.{schedule}
+use Rattle.model.specs.Materialize.{valDefOf, member, buildValue, processScope}
+use Rattle.laws.specs.Defining.{joinT, defsOf, envFrom, lastFrom, membersIn}
+use Rattle.laws.proofs.Trees.{rows-join, def-rows, def-depth}
+use Rattle.laws.proofs.Defining.{defs-member, env-member, last-member, members-member, defs-other, env-other}
+use Rattle.laws.proofs.Defining.{last-other, members-other, defs-append, env-append, last-append}
+use Rattle.laws.proofs.Building.{scope-none, scope-rows, scope-depth}
+use Rattle.graph.specs.declared.Graph.{Graph}
+use Rattle.graph.specs.Graph.{graphOf}
+use Rattle.plan.specs.declared.Planned.the-variants.{ValDef, Block}
+use Rattle.plan.specs.Plan.{rowFor}
+use Rattle.planner.specs.declared.Plan.{Plan}
+use Rattle.planner.specs.Grew.{Grew, Grown, GrownAll, deepIn}
+use Rattle.planner.specs.Building.{Buildable, Stands, Maps, Member, Members}
+use Rattle.planner.specs.Planning.{Plans, DefinesIn, Defines}
+use Rattle.planner.proofs.Growing.{grew-none, grew-then, grew-as, kept-same, kept-then}
+use Rattle.planner.proofs.Ids.{maps-more}
+use Rattle.planner.proofs.Keeping.{stands-kept}
+use Rattle.planner.proofs.Membership.{graph-is}
+use Rattle.planner.proofs.Graphs.{only-arguments, scheduled-once}
+use Rattle.planner.proofs.Applying.{deep-node}
+
+-- ---- definitions side by side
+
+deep-join : (a : ℕ) (ts us : Trees) → deepIn a (joinT ts us) ≡ max (deepIn a ts) (deepIn a us)
+unfolding joinT
+deep-join a nil us = omega arith
+deep-join a (cons t ts) us = omega (arith, deep-join a ts us)
+
+module _ {bs ws : List ℕ} {g : Graph} {map : List ℕ} {p : Plan} {above sc : ℕ} where
+  -- ---- no symbol
+
+  pub defines-none : {last : ℕ} → p .rows ≤ 257 → Defines bs ws g map p above sc [] last 0 ws map p last
+  unfolding defsOf envFrom lastFrom rows
+  defines-none l = record {
+    defined = λ gr env st maps. record { grown = grew-none bs ws p l; maps = maps; last-is = refl };
+    kept = kept-same ws;
+    full = l;
+    few = omega arith;
+  }
+
+  -- ---- one symbol
+
+  module _ (s last : ℕ) where
+    pub defines-other : {t : Bool} → t ≡ false → Member bs ws g map sc s t → p .rows ≤ 257
+        → Defines bs ws g map p above sc (s ∷ []) last 1 ws map p last
+    defines-other isnt m l =
+        let h = defines-none {last = last} l in
+        record {
+          defined = λ gr env st maps.
+              let e = sym (m gr env st maps) ∙ isnt in
+              let d = h .defined gr env st maps in
+              record {
+                grown = subst (λ (ts : Trees). GrownAll bs ws p above ts ws p)
+                    (sym (defs-other gr sc s [] env e (buildValue gr) last)) (d .grown);
+                maps = subst (Maps map) (sym (env-other gr sc s [] env e last)) (d .maps);
+                last-is = d .last-is ∙ sym (last-other gr sc s [] env e last);
+              };
+          kept = h .kept;
+          full = l;
+          few = omega arith;
+        }
+
+    -- the value is built with the ids before its number is given
+    pub defines-one : {t : Bool} {ws₁ ws₂ : List ℕ} {q r : Plan} → Buildable bs ws (g .symbols) (g .scopes)
+        → t ≡ true → Member bs ws g map sc s t → s < length map
+        → Grew bs ws p (rowFor bs (ValDef (last + 1)) ∷ []) (above + 1) ws₁ q
+        → Plans bs ws₁ g map q (above + 1) (λ gr x env. buildValue gr s x env last) ws₂ r
+        → Defines bs ws g map p above sc (s ∷ []) last 1 ws₂ (set map s (last + 1)) r (last + 1)
+    unfolding defsOf envFrom lastFrom rows rowFor
+    defines-one {t} {ws₁} {ws₂} {q} {r} b is m l h v = record {
+      defined = λ gr env st maps.
+          let e = sym (m gr env st maps) ∙ is in
+          let v₁ = buildValue gr s sc env last in
+          let inside = v .grown gr sc env (stands-kept (h .kept) b st) maps in
+          record {
+            grown = subst (λ (ts : Trees). GrownAll bs ws p above ts ws₂ r)
+                (sym (defs-member gr sc s [] env e (buildValue gr) last))
+                (grew-as (grew-then (grew-then h inside) (grew-none bs ws₂ r (v .full)))
+                (ap (λ (x : List Row). x ++ []) (row-def v₁))
+                (omega (arith, def-depth (suc last) v₁)));
+            maps = subst (Maps (set map s (last + 1))) (sym (env-member gr sc s [] env e last))
+                (maps-more map env s last maps l);
+            last-is = omega (arith, last-member gr sc s [] env e last);
+          };
+      kept = kept-then (h .kept) (v .kept);
+      full = v .full;
+      few = omega arith;
+    }
+      where
+        row-def : (t : Tree) → rowFor bs (ValDef (last + 1)) ∷ rows t ≡ rows (valDefOf (suc last) t)
+        row-def t = rw (add-one last) (sym (def-rows (suc last) t))
+
+  -- ---- one symbol more
+
+  pub defines-more : (order : List ℕ) {last i s : ℕ} {ws₁ ws₂ map₁ map₂ : List ℕ} {q r : Plan} {last₁ last₂ : ℕ}
+      → Buildable bs ws (g .symbols) (g .scopes)
+      → i < length order → s ≡ getD order i 0
+      → Defines bs ws g map p above sc (take i order) last i ws₁ map₁ q last₁
+      → Defines bs ws₁ g map₁ q above sc (s ∷ []) last₁ 1 ws₂ map₂ r last₂
+      → Defines bs ws g map p above sc (take (i + 1) order) last (i + 1) ws₂ map₂ r last₂
+  defines-more order {last} {i} {s} {ws₁} {ws₂} {map₁} {map₂} {q} {r} {last₁} {last₂} b lt e h d =
+      let more : take (i + 1) order ≡ take i order ++ (s ∷ []) =
+      rw (add-one i, e) (take-suc order i 0 lt) in
+      record {
+        defined = λ gr env st maps.
+            subst (λ (o : List ℕ). DefinesIn bs ws gr env p above sc o last ws₂ map₂ r last₂) (sym more)
+            (both gr env st maps);
+        kept = kept-then (h .kept) (d .kept);
+        full = d .full;
+        few = omega (arith, h .few, d .few);
+      }
+    where
+      both : (gr : model.Graph) (env : Env) → Stands bs ws (g .symbols) (g .scopes) gr → Maps map env
+          → DefinesIn bs ws gr env p above sc (take i order ++ (s ∷ [])) last ws₂ map₂ r last₂
+      both gr env st maps =
+          let o = take i order in
+          let a = h .defined gr env st maps in
+          let c = d .defined gr (envFrom gr sc o env last) (stands-kept (h .kept) b st) (a .maps) in
+          let f = a .last-is in
+          let ts = defsOf gr (buildValue gr) sc o env last in
+          let us = defsOf gr (buildValue gr) sc (s ∷ []) (envFrom gr sc o env last) last₁ in
+          let all : defsOf gr (buildValue gr) sc (o ++ (s ∷ [])) env last ≡ joinT ts us =
+          defs-append gr (buildValue gr) sc (s ∷ []) o env last ∙ rw (← f) in
+          record {
+            grown = grew-as (grew-then (a .grown) (c .grown)) (sym (ap rowsOf all ∙ rows-join ts us))
+                (sym (ap (deepIn above) all ∙ deep-join above ts us));
+            maps = subst (Maps map₂) (sym (env-append gr sc (s ∷ []) o env last ∙ rw (← f))) (c .maps);
+            last-is = c .last-is ∙ sym (last-append gr sc (s ∷ []) o env last ∙ rw (← f));
+          }
+
+-- ---- a scope without definitions
+
+module _ (gr : model.Graph) (sc : ℕ) where
+  none-defined : (order : List ℕ) (env : Env) (last : ℕ) → membersIn gr sc env order ≡ 0
+      → (envFrom gr sc order env last ≡ env) × (lastFrom gr sc order env last ≡ last)
+  unfolding envFrom lastFrom
+  none-defined [] env last z = (refl, refl)
+  none-defined (s ∷ order) env last z = go (member gr sc env s) refl (none-defined order env last)
+    where
+      go : (t : Bool) → member gr sc env s ≡ t
+          → (membersIn gr sc env order ≡ 0
+          → (envFrom gr sc order env last ≡ env) × (lastFrom gr sc order env last ≡ last))
+          → (envFrom gr sc (s ∷ order) env last ≡ env) × (lastFrom gr sc (s ∷ order) env last ≡ last)
+      go true e rest = absurd (omega (arith, members-member gr sc s order env e, z))
+      go false e rest =
+          let k = rest (sym (members-other gr sc s order env e) ∙ z) in
+          (env-other gr sc s order env e last ∙ k .0, last-other gr sc s order env e last ∙ k .1)
+
+module _ {bs ws : List ℕ} (g : Graph) (map : List ℕ) (b : Buildable bs ws (g .symbols) (g .scopes))
+    (root sc last : ℕ) (list : List ℕ) (k : ℕ)
+    (scheduled : (slots : List ℕ) → list ≡ schedule (graphOf bs ws (g .symbols) (g .scopes) slots) root sc)
+    (members : Members bs ws g map sc list k) where
+  order-is : (gr : model.Graph) → Stands bs ws (g .symbols) (g .scopes) gr → list ≡ schedule gr root sc
+  order-is gr st = scheduled (gr .slots) ∙ ap (λ (h : model.Graph). schedule h root sc) (sym (graph-is st))
+
+  count-is : (gr : model.Graph) (env : Env) → Stands bs ws (g .symbols) (g .scopes) gr → Maps map env
+      → membersIn gr sc env (schedule gr root sc) ≡ k
+  count-is gr env st maps = sym (members gr env st maps ∙ ap (membersIn gr sc env) (order-is gr st))
+
+  pub plans-result : {p : Plan} {above : ℕ} {ws₁ : List ℕ} {r : Plan} → k ≡ 0
+      → Plans bs ws g map p above (λ gr x env. buildValue gr root x env last) ws₁ r
+      → Plans bs ws g map p above (λ gr x env. processScope gr (buildValue gr) root sc env last) ws₁ r
+  plans-result {p} {above} {ws₁} {r} z h = record {
+    grown = λ gr x env st maps.
+        subst (λ (t : Tree). Grown bs ws p above t ws₁ r) (sym (is gr env st maps)) (h .grown gr sc env st maps);
+    kept = h .kept;
+    full = h .full;
+  }
+    where
+      is : (gr : model.Graph) (env : Env) → Stands bs ws (g .symbols) (g .scopes) gr → Maps map env
+          → processScope gr (buildValue gr) root sc env last ≡ buildValue gr root sc env last
+      is gr env st maps =
+          let c = count-is gr env st maps in
+          let w = none-defined gr sc (schedule gr root sc) env last (c ∙ z) in
+          scope-none gr (only-arguments b st) root sc (scheduled-once b st root sc) env last k c z
+          ∙ ap₂ (λ (v : Env) (l : ℕ). buildValue gr root sc v l) (w .0) (w .1)
+
+  -- ---- a block
+
+  pub plans-block : {p : Plan} {above : ℕ} {ws₁ ws₂ ws₃ map₂ : List ℕ} {q q₂ r : Plan} {last₂ count : ℕ} → 0 < k
+      → Grew bs ws p (rowFor bs (Block (k + 1)) ∷ []) (above + 1) ws₁ q
+      → Defines bs ws₁ g map q (above + 1) sc list last count ws₂ map₂ q₂ last₂
+      → Plans bs ws₂ g map₂ q₂ (above + 1) (λ gr x env. buildValue gr root x env last₂) ws₃ r
+      → Plans bs ws g map p above (λ gr x env. processScope gr (buildValue gr) root sc env last) ws₃ r
+  unfolding rowFor
+  plans-block {p} {above} {ws₁} {ws₂} {ws₃} {map₂} {q} {q₂} {r} {last₂} some h d v = record {
+    grown = λ gr x env st maps.
+        let o = schedule gr root sc in
+        let st₁ = stands-kept (h .kept) b st in
+        let a = subst (λ (y : List ℕ). DefinesIn bs ws₁ gr env q (above + 1) sc y last ws₂ map₂ q₂ last₂)
+        (order-is gr st) (d .defined gr env st₁ maps) in
+        let st₂ = stands-kept (kept-then (h .kept) (d .kept)) b st in
+        let w = v .grown gr sc (envFrom gr sc o env last) st₂ (a .maps) in
+        let c = count-is gr env st maps in
+        let once = scheduled-once b st root sc in
+        let defs = defsOf gr (buildValue gr) sc o env last in
+        let res = buildValue gr root sc (envFrom gr sc o env last) last₂ in
+        let f = a .last-is in
+        grew-as (grew-then h (grew-then (a .grown) w))
+        (sym (scope-rows gr (only-arguments b st) root sc once env last k c some ∙ rw (← f)))
+        (omega (
+          arith,
+          deep-node above defs,
+          scope-depth gr (only-arguments b st) root sc once env last k c some,
+          ap (λ (l : ℕ). depth (buildValue gr root sc (envFrom gr sc o env last) l)) f,
+        ));
+    kept = kept-then (h .kept) (kept-then (d .kept) (v .kept));
+    full = v .full;
+  }

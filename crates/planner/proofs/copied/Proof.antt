@@ -1,0 +1,77 @@
+use Prim.Native.Nat.{_-_, _≤_}
+use mathlib.Core.Path.{_≡_, ap, refl}
+use native.Mathlib.Omega.{arith}
+use borrow.Author.Needs.{needs}
+use lib.ListN.{length, take, length-set}
+use Rattle.planner.proofs.Ids.{copy-more, copy-end}
+use Rattle.planner.proofs.copied.Statement.{statement}
+use Rattle.planner.proofs.copied.Tie as tie
+
+abbrev Inv-loop : tie.InvT-loop
+Inv-loop ids map₀ s₀ map s = (s ≤ 512) × (length map ≡ 512) × (length ids ≡ 512) × (take s map ≡ take s ids)
+
+abbrev μ-loop : tie.MeasureT-loop
+μ-loop ids map₀ s₀ map s = 512 - s
+
+-- src/lib.rt:103:19
+no-ids-requires : tie.Need-no-ids-requires Inv-loop μ-loop
+no-ids-requires c κs = search needs
+
+-- src/lib.rt:105:5
+loop-holds : tie.Need-loop-holds Inv-loop μ-loop
+loop-holds c = (omega arith, ap length (c .no-ids .ensures), c .before .before .pre, refl)
+
+-- src/lib.rt:106:18
+mul-map : tie.Need-mul-map Inv-loop μ-loop
+mul-map c = search needs
+
+-- src/lib.rt:106:18
+shared-slice-read-map : tie.Need-shared-slice-read-map Inv-loop μ-loop
+shared-slice-read-map c = search needs
+
+-- src/lib.rt:106:9
+mul-map-2 : tie.Need-mul-map-2 Inv-loop μ-loop
+mul-map-2 c = search needs
+
+-- src/lib.rt:106:9
+array-write-map : tie.Need-array-write-map Inv-loop μ-loop
+array-write-map c = search needs
+
+-- src/lib.rt:107:9
+add-s : tie.Need-add-s Inv-loop μ-loop
+add-s c = search needs
+
+-- src/lib.rt:105:5
+loop-less : tie.Need-loop-less Inv-loop μ-loop
+loop-less c = search needs
+
+-- src/lib.rt:105:5
+loop-again : tie.Need-loop-again Inv-loop μ-loop
+loop-again c = let inv = c .before .before .loop .inv in
+    let m = c .before .before .loop .map in
+    let s = c .before .before .loop .s in
+    let ids = c .before .before .before .before .before .args .ids .now in
+    (omega arith, simp length-set (inv .1), inv .2, copy-more ids m s (inv .3) (omega arith) (omega arith))
+
+-- src/lib.rt:99:1
+returns : tie.Need-returns Inv-loop μ-loop
+returns c = let inv = c .before .loop .inv in
+    copy-end (c .before .before .before .before .args .ids .now) (c .before .loop .map) (c .before .loop .s) (inv .3)
+    (omega (arith, inv .1)) (omega (arith, inv .2))
+
+pub copied-spec : {M : Type 1} → statement M
+copied-spec =
+    tie.close
+    (tie.spec
+    Inv-loop
+    μ-loop
+    no-ids-requires
+    loop-holds
+    mul-map
+    shared-slice-read-map
+    mul-map-2
+    array-write-map
+    add-s
+    loop-less
+    loop-again
+    returns)

@@ -1,0 +1,110 @@
+use Prim.Native.Nat.{_-_, _≤_}
+use mathlib.Core.Path.{_≡_, _∙_}
+use native.Mathlib.Omega.{arith}
+use borrow.Author.Needs.{needs}
+use lib.ListN.{take}
+use Rattle.planner.specs.Building.{Members}
+use Rattle.planner.proofs.Membership.{members-none, members-more, counted-few}
+use Rattle.planner.proofs.members.Statement.{statement}
+use Rattle.planner.proofs.members.Tie as tie
+
+abbrev Inv-loop : tie.InvT-loop
+Inv-loop forest work g order count sc ids k₀ i₀ k i =
+    (i ≤ count)
+    × (k ≤ i)
+    × Members forest work g ids sc (take i order) k
+
+abbrev μ-loop : tie.MeasureT-loop
+μ-loop forest work g order count sc ids k₀ i₀ k i = count - i
+
+-- src/lib.rt:202:5
+loop-holds : tie.Need-loop-holds Inv-loop μ-loop
+loop-holds c = (omega arith, omega arith, λ gr env st maps. members-none gr _ env)
+
+-- src/lib.rt:203:24
+mul-wide16 : tie.Need-mul-wide16 Inv-loop μ-loop
+mul-wide16 c = search needs
+
+-- src/lib.rt:203:24
+shared-slice-read-wide16 : tie.Need-shared-slice-read-wide16 Inv-loop μ-loop
+shared-slice-read-wide16 c = search needs
+
+-- src/lib.rt:203:13
+wide16-requires : tie.Need-wide16-requires Inv-loop μ-loop
+wide16-requires c κs = search needs
+
+-- src/lib.rt:204:21
+member-requires : tie.Need-member-requires Inv-loop μ-loop
+member-requires c κs =
+    let z = c .before .before .before .before .before .before .before .before in (
+      z .pre .0,
+      (
+        z .pre .1 .0,
+        (
+          omega (
+            arith,
+            c .wide16 .ensures,
+            z .pre .1 .1 .1 _
+                (c .before .before .loop-test .taken),
+          ),
+          z .pre .1 .1 .0 .2,
+        ),
+      ),
+    )
+
+-- src/lib.rt:204:9
+counted-requires : tie.Need-counted-requires Inv-loop μ-loop
+counted-requires c κs = search needs
+
+-- src/lib.rt:205:9
+add-i : tie.Need-add-i Inv-loop μ-loop
+add-i c = search needs
+
+-- src/lib.rt:202:5
+loop-less : tie.Need-loop-less Inv-loop μ-loop
+loop-less c = search needs
+
+-- src/lib.rt:202:5
+loop-again : tie.Need-loop-again Inv-loop μ-loop
+loop-again c =
+    let z = c .before .before .before .before .before .before .before .before .before .before in
+    let inv = c .before .before .before .before .before .loop .inv in (
+      omega arith,
+      omega (
+        arith,
+        c .counted .ensures,
+        counted-few (c .before .member .result)
+            (c .before .before .before .before .before .loop .k) (c .before .before .before .before .before .loop .i)
+            (inv .1),
+      ),
+      λ gr env st maps.
+          c .counted .ensures
+          ∙ members-more gr _ env (z .args .order .now) (c .before .before .before .before .before .loop .i) _ _ _
+          (omega (arith, z .pre .1 .1 .0 .1)) (c .before .before .wide16 .ensures)
+          (c .before .member .ensures gr env st maps)
+          (inv .2 gr env st maps),
+    )
+
+-- src/lib.rt:184:1
+returns : tie.Need-returns Inv-loop μ-loop
+returns c =
+    let inv = c .before .loop .inv in
+    let e : c .before .loop .i ≡ c .before .before .before .before .before .before .args .count = omega arith in
+    (omega arith, rw (← e) (inv .2))
+
+pub members-spec : {M : Type 1} → statement M
+members-spec =
+    tie.close
+    (tie.spec
+    Inv-loop
+    μ-loop
+    loop-holds
+    mul-wide16
+    shared-slice-read-wide16
+    wide16-requires
+    member-requires
+    counted-requires
+    add-i
+    loop-less
+    loop-again
+    returns)

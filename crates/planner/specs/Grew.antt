@@ -1,0 +1,39 @@
+-- A plan that grows. In order: what planning leaves as it was; rows planned; a tree planned, and trees side by side.
+-- bs are the forest's bytes, ws the words; the plan stands from word 7,176 on, three words a row, at most 256 rows.
+-- Assumes nothing.
+use Prim.Native.Nat.{ℕ, _+_, _≤_, max, min}
+use mathlib.Core.Path.{_≡_}
+use mathlib.Core.List.{List, _++_}
+use lib.ListN.{length, getD}
+use Rattle.model.specs.Tree.{Row, Tree, Trees, nil, cons, rows, rowsOf, depth}
+use Rattle.key.proofs.Runs.{Agree}
+use Rattle.plan.specs.Plan.{planFrom}
+use Rattle.serialise.specs.Serialise.{AllWritable, plannedRows}
+use Rattle.planner.specs.declared.Plan.{Plan}
+
+-- all words but the plan's
+pub record Kept (ws ws′ : List ℕ) : Type 0 where
+  pub long : length ws′ ≡ length ws
+  pub before : Agree ws ws′ 0 7176
+  pub after : (k : ℕ) → 7944 ≤ k → getD ws′ k 0 ≡ getD ws k 0
+
+-- rows rs, the deepest at depth d, are planned after p. Past 256 rows it is only known that there are more
+pub record Grew (bs ws : List ℕ) (p : Plan) (rs : List Row) (d : ℕ) (ws′ : List ℕ) (r : Plan) : Type 0 where
+  pub count : r .rows ≡ min 257 (p .rows + length rs)
+  pub plan : r .rows ≤ 256 → plannedRows bs ws′ 7176 (r .rows) ≡ plannedRows bs ws 7176 (p .rows) ++ rs
+  pub writable : r .rows ≤ 256 → AllWritable bs (planFrom ws 7176 (p .rows))
+      → AllWritable bs (planFrom ws′ 7176 (r .rows))
+  pub deepest : r .rows ≤ 256 → r .deepest ≡ max (p .deepest) d
+  pub kept : Kept ws ws′
+
+-- a tree with `above` levels above it
+abbrev pub Grown : List ℕ → List ℕ → Plan → ℕ → Tree → List ℕ → Plan → Type 0
+Grown bs ws p above t ws′ r = Grew bs ws p (rows t) (above + depth t) ws′ r
+
+-- the greatest depth of trees with `above` levels above them, 0 of none
+abbrev pub deepIn : ℕ → Trees → ℕ
+deepIn above nil = 0
+deepIn above (cons t ts) = max (above + depth t) (deepIn above ts)
+
+abbrev pub GrownAll : List ℕ → List ℕ → Plan → ℕ → Trees → List ℕ → Plan → Type 0
+GrownAll bs ws p above ts ws′ r = Grew bs ws p (rowsOf ts) (deepIn above ts) ws′ r
