@@ -1,0 +1,202 @@
+-- A tree can be built from the symbols of an accepted forest: what planning asks of them, from what the words hold
+-- (`Rep`) and from the theorems on interning.
+-- In order: a node's scopes and arguments; no node stands for a use; counting; building, in words that agree.
+-- Assumes nothing.
+use Prim.Native.Nat.{ℕ, zero, suc, _+_, _<_, _≤_}
+use mathlib.Core.Path.{_≡_, refl, sym, ap, _∙_, subst}
+use mathlib.Core.Logic.{inl, inr}
+use mathlib.Core.Option.{none}
+use mathlib.Core.List.{List, [], _∷_}
+use native.Mathlib.Omega.{arith}
+use lib.ListN.{length, take}
+use Rattle.model.specs.Answer.{good}
+use Rattle.model.specs.Tree.{Rec}
+use Rattle.model.specs.Shape.{shapes}
+use Rattle.model.specs.Forest.{recordCount, treesOf, check4}
+use Rattle.model.specs.Accept.{accept}
+use Rattle.model.specs.Binding.{argsOf, kind}
+use Rattle.model.specs.Intern.{Sym, Scope, symAt}
+use Rattle.model.specs.Intern as intern
+use Rattle.model.specs.Call.{interned}
+use Rattle.laws.specs.Range.{range}
+use Rattle.laws.proofs.Holds.{holds-good}
+use Rattle.laws.proofs.Members.{clash}
+use Rattle.laws.proofs.ArgLists.{args-length, withOpts-syms}
+use Rattle.laws.proofs.Falls.{Under}
+use Rattle.laws.proofs.Numbering.{range-length}
+use Rattle.theory.proofs.Acceptance.Records.{fits-at}
+use Rattle.theory.proofs.Interning.Good.{isPlain, Plain, NodeOk}
+use Rattle.theory.proofs.Interning.Interned.{Ready, interned-ready}
+use Rattle.theory.proofs.Bounds.Sound.{NodeSound, SymSound}
+use Rattle.theory.proofs.Bounds.Limits.{Any, Leaves, forest-sound}
+use Rattle.record.specs.Record.{rowAt}
+use Rattle.walk.specs.Walk as walk
+use Rattle.walk.proofs.Bridge.{row-fits}
+use Rattle.codec.proofs.Accepting.{accept-passed}
+use Rattle.key.specs.declared.Node.{Node}
+use Rattle.key.specs.declared.Node.the-variants.{Const, Unparsed, Arg, Lambda, Op}
+use Rattle.key.specs.Key.{partsOf, symbolAt}
+use Rattle.key.proofs.Runs.{Agree}
+use Rattle.key.proofs.Laws.{symbol-agree}
+use Rattle.symbols.specs.Symbols.{symsOf, symOf, recOf, nodeOf, kidsAt, AllSound}
+use Rattle.symbols.proofs.Laws.{syms-length, sym-at, rec-at, sounds-agree}
+use Rattle.scopes.specs.Scopes.{scopesOf}
+use Rattle.scopes.proofs.Laws.{scopes-length}
+use Rattle.scopes.proofs.Open.{nested-kept}
+use Rattle.interner.specs.declared.State.{State}
+use Rattle.interner.specs.State.{absOf, Sourced, Rep}
+use Rattle.gate.specs.Gate.{Stored}
+use Rattle.graph.specs.Graph.{Arena}
+use Rattle.planner.specs.Building.{Opens, NoUse, Buildable}
+
+-- ---- a node's scopes and arguments
+
+range-under : (s first n : ℕ) → Under s (range first (suc n)) → first + suc n ≤ s
+unfolding range
+range-under s first zero h = omega (arith, h first (inl refl))
+range-under s first (suc n) h = omega (arith, range-under s (suc first) n (λ x i. h x (inr i)))
+
+args-under : (s first n : ℕ) → Under s (range first n) → 0 < n → first + n ≤ s
+args-under s first zero h l = absurd (omega arith)
+args-under s first (suc n) h l = range-under s first n h
+
+first-under : (m b x y : ℕ) → Under m (take b (x ∷ y ∷ [])) → 0 < b → x < m
+first-under m zero x y h l = absurd (omega arith)
+first-under m (suc b) x y h l = h x (inl refl)
+
+second-under : (m b x y : ℕ) → Under m (take b (x ∷ y ∷ [])) → 1 < b → y < m
+second-under m zero x y h l = absurd (omega arith)
+second-under m (suc zero) x y h l = absurd (omega arith)
+second-under m (suc (suc b)) x y h l = h y (inr (inl refl))
+
+module _ (bs : List ℕ) (fit : check4 bs ≡ none) (m s count : ℕ) (ks : List ℕ) where
+  opens-node : (nd : Node) → partsOf nd .source < recordCount bs → Sourced bs nd count →
+      NodeSound Any s m (recOf bs nd) ks (nodeOf bs nd) → Opens bs m s nd
+  unfolding shapes
+  opens-node (Const l) low from h = tt
+  opens-node (Unparsed l) low from h = tt
+  opens-node (Arg l) low from h = tt
+  opens-node (Lambda f) low from h =
+      let row = rowAt bs (f .source) in
+      let xs = argsOf (row .rec .aux) (row .rec .lit) in
+      let ss = range (f .first) (row .rec .aux) in
+      let parts = fits-at (row .rec) (row .kids) 12 (from .0) (row-fits bs (f .source) fit low) in
+      let count : length ss ≡ length xs =
+      range-length (f .first) (row .rec .aux) ∙ sym (args-length (row .rec .aux) (row .rec .lit)) in
+      record {
+        body = h .0;
+        first = args-under s (f .first) (row .rec .aux) (subst (Under s) (withOpts-syms xs ss count) (h .1));
+        few = parts .aux-is;
+        args = parts .right-is;
+      }
+  opens-node (Op o) low from h = record {
+    first = first-under m (o .branches) (o .first) (o .second) (h .0);
+    second = second-under m (o .branches) (o .first) (o .second) (h .0);
+  }
+
+-- ---- no node stands for a use
+
+module _ (bs : List ℕ) (fin : List Sym) (scs : List Scope) (s : ℕ) where
+  plain-no-use : (r : Rec) → symAt fin s .rec ≡ r → Plain fin s → r .shape ≡ 7 → ⊥
+  unfolding kind
+  plain-no-use r e h seven =
+      clash (isPlain (kind (symAt fin s .rec .shape))) (h .kind-is)
+      (ap (λ (x : Rec). isPlain (kind (x .shape))) e ∙ ap (λ (n : ℕ). isPlain (kind n)) seven)
+
+  no-use-node : (nd : Node) → symAt fin s .rec ≡ recOf bs nd → NodeOk fin scs s (nodeOf bs nd) → NoUse bs nd
+  no-use-node (Const l) e h = plain-no-use _ e (h .0)
+  no-use-node (Unparsed l) e h = plain-no-use _ e (h .0)
+  no-use-node (Arg l) e h = tt
+  no-use-node (Lambda f) e h =
+      λ seven. omega (arith, ap (λ (x : Rec). x .shape) e, h .shape-is, seven)
+  no-use-node (Op o) e h = plain-no-use _ e (h .0)
+
+-- ---- counting
+
+module _ (bs ws : List ℕ) (st : State) (rep : Rep bs ws st) where
+  pub symbols-stored : Stored ws (st .symbols)
+  symbols-stored = record {
+    few = rep .few-symbols;
+    words = omega (arith, rep .words);
+    kids = λ i l.
+        let s = rep .sound i l in
+        record { slots = omega (arith, s .slots, rep .few-slots); lower = s .lower };
+  }
+
+  pub symbols-sound : AllSound bs ws 2560 (st .symbols)
+  symbols-sound i l =
+      let s = rep .sound i l in
+      record { from = s .from; slots = omega (arith, s .slots, rep .few-slots); lower = s .lower }
+
+  -- ---- building
+
+  module _ (root : ℕ) (accepted : accept bs ≡ good (treesOf bs)) (is : interned bs ≡ good (root, absOf bs ws st)) where
+    leaves : Leaves Any (root, absOf bs ws st)
+    leaves = forest-sound bs (treesOf bs) accepted (root, absOf bs ws st) is
+
+    pub root-low : root < st .symbols
+    root-low = omega (arith, leaves .root-low, syms-length bs ws (st .symbols))
+
+    sym-sound : (s : ℕ) → s < st .symbols →
+        SymSound Any s (length (scopesOf ws (st .scopes))) (symAt (symsOf bs ws (st .symbols)) s)
+    sym-sound s l = leaves .sound .syms-sound s (omega (arith, syms-length bs ws (st .symbols)))
+
+    placed-low : (s : ℕ) → s < st .symbols → symbolAt ws s .scope < st .scopes
+    unfolding symOf
+    placed-low s l =
+        omega (
+          arith,
+          sym-sound s l .scope-low,
+          ap (λ (y : Sym). y .scope) (sym-at bs ws (st .symbols) s l),
+          scopes-length ws (st .scopes),
+        )
+
+    opens-at : (s : ℕ) → s < st .symbols → Opens bs (st .scopes) s (symbolAt ws s .node)
+    unfolding symOf
+    opens-at s l =
+        let y = symbolAt ws s in
+        let placed = subst
+        (λ (z : Sym). NodeSound Any s (length (scopesOf ws (st .scopes))) (z .rec) (z .kids) (z .node))
+        (sym-at bs ws (st .symbols) s l) (sym-sound s l .node-sound) in
+        opens-node bs (accept-passed bs (treesOf bs) accepted .shaped .sound .fit) (st .scopes) s (y .count)
+        (kidsAt ws s) (y .node) (rep .sound s l .from) (rep .sourced s l)
+        (subst (λ (m : ℕ). NodeSound Any s m (recOf bs (y .node)) (kidsAt ws s) (nodeOf bs (y .node)))
+        (scopes-length ws (st .scopes)) placed)
+
+    no-use-at : (s : ℕ) → s < st .symbols → NoUse bs (symbolAt ws s .node)
+    unfolding symOf
+    no-use-at s l =
+        let fin = symsOf bs ws (st .symbols) in
+        let scs = scopesOf ws (st .scopes) in
+        let ready = holds-good (λ o. Ready (o .1) (o .0) _) is (interned-ready bs (treesOf bs) accepted) in
+        let ok = ready .inv .good s (omega (arith, syms-length bs ws (st .symbols))) in
+        no-use-node bs fin scs s (symbolAt ws s .node) (rec-at bs ws (st .symbols) s l)
+        (subst (λ (y : Sym). NodeOk fin scs s (y .node)) (sym-at bs ws (st .symbols) s l) (ok .node-is))
+
+    -- in words that are the same below 8,456
+    module _ (ws′ : List ℕ) (long : length ws′ ≡ length ws) (same : Agree ws ws′ 0 8456) where
+      symbol-same : (s : ℕ) → s < st .symbols → symbolAt ws′ s ≡ symbolAt ws s
+      symbol-same s l = symbol-agree ws ws′ s (λ k a b. same k (omega arith) (omega (arith, rep .few-symbols)))
+
+      arena : Arena bs ws′ (st .symbols) (st .scopes)
+      arena = record {
+        few = rep .few-symbols;
+        words = omega (arith, rep .words);
+        sound =
+            sounds-agree bs ws ws′ 2560 (λ k a b. same k (omega arith) (omega arith)) (st .symbols)
+            (λ k a b. same k (omega arith) (omega (arith, rep .few-symbols))) symbols-sound;
+        some-scope = rep .some-scope;
+        few-scopes = rep .few-scopes;
+        nested =
+            nested-kept ws′ ws (st .scopes) (rep .some-scope)
+            (λ k l. same (5120 + k) (omega arith) (omega (arith, rep .few-scopes))) (rep .nested);
+        placed = λ s l. rw (symbol-same s l) (placed-low s l);
+      }
+
+      pub buildable : Buildable bs ws′ (st .symbols) (st .scopes)
+      buildable = record {
+        arena = arena;
+        sourced = λ s l. rw (symbol-same s l) (rep .sourced s l);
+        opens = λ s l. rw (symbol-same s l) (opens-at s l);
+        no-use = λ s l. rw (symbol-same s l) (no-use-at s l);
+      }

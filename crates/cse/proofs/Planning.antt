@@ -1,0 +1,71 @@
+-- From counting and planning to a planned tree. Assumes nothing.
+use Prim.Native.Nat.{ℕ, _+_, _≤_}
+use mathlib.Core.Path.{_≡_, _∙_, subst}
+use mathlib.Core.List.{List, []}
+use native.Mathlib.Omega.{arith}
+use lib.ListN.{length}
+use Rattle.model.specs.Tree.{Tree, rows}
+use Rattle.model.specs.Materialize.{materialize}
+use Rattle.model.specs.Call.{treeOf}
+use Rattle.laws.proofs.Rows.{size-rows}
+use Rattle.key.proofs.Runs.{Agree}
+use Rattle.symbols.specs.Symbols.{symsOf}
+use Rattle.symbols.proofs.Laws.{syms-agree}
+use Rattle.scopes.specs.Scopes.{scopesOf}
+use Rattle.scopes.proofs.Open.{scopes-kept}
+use Rattle.interner.specs.declared.State.{State}
+use Rattle.interner.specs.State.{absOf, Rep}
+use Rattle.gate.specs.Gate.{Reached}
+use Rattle.graph.specs.declared.Graph.{Graph}
+use Rattle.plan.specs.Plan.{planFrom, rowsFor}
+use Rattle.planner.specs.declared.Plan.{Plan}
+use Rattle.planner.specs.Grew.{Grown}
+use Rattle.materialize.specs.Materialize.{Counted, Materialized}
+use Rattle.cse.specs.Call.{PlanOf, Planned}
+use Rattle.cse.proofs.Buildable.{symbols-sound}
+
+-- words ws₁ with the uses counted, and ws₂ with the tree planned too
+module _ (bs ws : List ℕ) (st : State) (rep : Rep bs ws st) (root : ℕ) (ws₁ : List ℕ)
+    (reached : Reached ws ws₁ (st .symbols) root) where
+  counted-same : Agree ws ws₁ 0 8456
+  counted-same k l r = reached .kept .before k r
+
+  syms-same : symsOf bs ws₁ (st .symbols) ≡ symsOf bs ws (st .symbols)
+  syms-same =
+      syms-agree bs ws ws₁ 2560 (λ k a b. counted-same k (omega arith) (omega arith)) (st .symbols)
+      (λ k a b. counted-same k (omega arith) (omega (arith, rep .few-symbols))) (symbols-sound bs ws st rep)
+
+  scopes-same : scopesOf ws₁ (st .scopes) ≡ scopesOf ws (st .scopes)
+  scopes-same =
+      scopes-kept ws₁ ws (st .scopes) (λ k l. counted-same (5120 + k) (omega arith) (omega (arith, rep .few-scopes)))
+
+  -- how many symbols and scopes there are
+  abbrev graph : Graph
+  graph = record { symbols = st .symbols; scopes = st .scopes }
+
+  pub uses-counted : Counted bs ws₁ graph root
+  uses-counted s l = rw syms-same (reached .uses bs (scopesOf ws₁ (st .scopes)) s l)
+
+  module _ (ws₂ : List ℕ) (r : Plan) (long : 7944 ≤ length ws₂)
+      (grown : Materialized bs ws₁ graph root ws₂ r) where
+    tree-same : materialize (symsOf bs ws₁ (st .symbols)) (scopesOf ws₁ (st .scopes)) root
+        ≡ treeOf (root, absOf bs ws st)
+    unfolding treeOf
+    tree-same = rw (syms-same, scopes-same)
+
+    tree-planned : (t : Tree) → Grown bs ws₁ (record { rows = 0; deepest = 0 }) 0 t ws₂ r → PlanOf bs ws₂ t r
+    unfolding planFrom rowsFor
+    tree-planned t g = record {
+      count = omega (arith, g .count, size-rows t);
+      plan = λ l. g .plan l;
+      deepest = λ l. omega (arith, g .deepest l);
+    }
+
+    pub planned-tree : Planned bs ws ws₂ (root, absOf bs ws st) r
+    unfolding planFrom
+    planned-tree = record {
+      tree = tree-planned (treeOf (root, absOf bs ws st))
+          (subst (λ (t : Tree). Grown bs ws₁ (record { rows = 0; deepest = 0 }) 0 t ws₂ r) tree-same grown);
+      ready = record { words = long; writable = λ l. grown .writable l tt };
+      unused = λ k l. grown .kept .after k (omega arith) ∙ reached .kept .after k (omega arith);
+    }

@@ -1,0 +1,3 @@
+-- Definitions that the contracts cite. Assumes nothing.
+pub mod Call
+pub mod Demanded
