@@ -1,0 +1,123 @@
+-- A symbol's line and a refusal's. In order: the texts; lengths; a line from its parts; the columns of a stored symbol;
+-- a refusal from its parts.
+-- Assumes nothing.
+use Prim.Native.Nat.{ℕ, _+_, _<_, _≤_}
+use mathlib.Core.Path.{_≡_, refl, sym, ap}
+use mathlib.Core.Bool.{Bool, true, false}
+use mathlib.Core.List.{List, [], _∷_, _++_}
+use native.Mathlib.Omega.{arith}
+use lib.ListN.{length, length-append}
+use Rattle.model.specs.Text.{text}
+use Rattle.model.specs.Forest.{recordCount}
+use Rattle.model.specs.Intern.{Node, Sym, symAt, constant, unparsed, argument, func, operation}
+use Rattle.model.specs.Gate.{shouldHoist}
+use Rattle.model.specs.Lister.{decimal, hexByte, tagOf, opcodeShown, yesNo, line, refusalLine}
+use Rattle.key.specs.declared.Symbol.{Symbol}
+use Rattle.key.specs.Key.{partsOf, symbolAt}
+use Rattle.symbols.specs.Symbols.{recOf, nodeOf, symOf, symsOf, Sound}
+use Rattle.symbols.proofs.Laws.{sym-at}
+use Rattle.writer.specs.Over.{over}
+use Rattle.lines.specs.Lines.{columns, Wrote}
+use Rattle.lines.proofs.Text.{decimal-length}
+use Rattle.lines.proofs.Wrote.{wrote-then, wrote-both}
+
+-- ---- the texts
+
+space : (32 ∷ []) ≡ text " "
+unfolding text
+space = refl
+
+pub newline : (10 ∷ []) ≡ text "\n"
+unfolding text
+newline = refl
+
+-- ---- lengths
+
+-- a number and a byte after it take at most ten bytes
+pub number-ends : (n b : ℕ) {out : List ℕ} {at : ℕ} {o : List ℕ} {p : ℕ} →
+    Wrote out at (decimal n ++ (b ∷ [])) o p → p ≤ at + 10
+number-ends n b w = omega (arith, w .ends, decimal-length n, length-append (decimal n) (b ∷ []))
+
+one-letter : (n : Node) → length (tagOf n) ≡ 1
+unfolding tagOf text
+one-letter constant = refl
+one-letter unparsed = refl
+one-letter argument = refl
+one-letter (func xs sc) = refl
+one-letter (operation brs) = refl
+
+columns-length : (s : ℕ) (n : Node) (op : ℕ) → length (columns s n op) ≤ 15
+unfolding columns hexByte
+columns-length s n op =
+    rw (← space) (simp length-append (omega (arith, decimal-length s, one-letter n)))
+
+pub columns-ends : (s : ℕ) (n : Node) (op : ℕ) {out : List ℕ} {at : ℕ} {o : List ℕ} {p : ℕ} →
+    Wrote out at (columns s n op) o p → p ≤ at + 15
+columns-ends s n op w = omega (arith, w .ends, columns-length s n op)
+
+yes-or-no : (b : Bool) → length (yesNo b) ≡ 1
+unfolding yesNo text
+yes-or-no true = refl
+yes-or-no false = refl
+
+pub line-length : (s uses : ℕ) (y : Sym) → length (line s uses y) ≤ 40
+unfolding line hexByte
+line-length s uses y =
+    let h = yes-or-no (shouldHoist y uses) in
+    let t = one-letter (y .node) in
+    rw (← space, ← newline)
+    (simp length-append (omega (arith, decimal-length s, decimal-length (y .scope), decimal-length uses)))
+
+-- ---- a line from its parts
+
+module _ {out : List ℕ} {at : ℕ} {o₁ o₂ o₃ o₄ : List ℕ} {p₁ p₂ p₃ p₄ : ℕ} where
+  pub columns-parts : (s : ℕ) (n : Node) (opcode : ℕ) {t shown : ℕ} → (t ∷ []) ≡ tagOf n →
+      shown ≡ opcodeShown n opcode → Wrote out at (decimal s ++ (32 ∷ [])) o₁ p₁ →
+      Wrote o₁ p₁ (t ∷ 32 ∷ []) o₂ p₂ → Wrote o₂ p₂ (hexByte shown) o₃ p₃ → Wrote o₃ p₃ (32 ∷ []) o₄ p₄ →
+      Wrote out at (columns s n opcode) o₄ p₄
+  unfolding columns
+  columns-parts s n opcode {t} et es w₁ w₂ w₃ w₄ =
+      rw (← et, ← es, ← space) (wrote-then (wrote-then (wrote-both w₁ (t ∷ []) (32 ∷ []) w₂) w₃) w₄)
+
+  pub line-parts : (s uses : ℕ) (y : Sym) {n : Node} {opcode scope g : ℕ} {hoisted : Bool} → n ≡ y .node →
+      opcode ≡ y .rec .opcode → scope ≡ y .scope → hoisted ≡ shouldHoist y uses → (g ∷ []) ≡ yesNo hoisted →
+      Wrote out at (columns s n opcode) o₁ p₁ →
+      Wrote o₁ p₁ (decimal scope ++ (32 ∷ [])) o₂ p₂ → Wrote o₂ p₂ (decimal uses ++ (32 ∷ [])) o₃ p₃ →
+      Wrote o₃ p₃ (g ∷ 10 ∷ []) o₄ p₄ → Wrote out at (line s uses y) o₄ p₄
+  unfolding line columns
+  line-parts s uses y {scope = scope} {g = g} en eo es eh eg w₁ w₂ w₃ w₄ =
+      let used = wrote-both (wrote-both w₁ (decimal scope) (32 ∷ []) w₂) (decimal uses) (32 ∷ []) w₃ in
+      rw (← eh, ← eg, ← en, ← eo, ← es, ← newline) (rw space at (wrote-both used (g ∷ []) (10 ∷ []) w₄))
+
+-- ---- the columns of a stored symbol
+
+module _ (bs ws : List ℕ) (s : ℕ) (x : Symbol) (loads : x ≡ symbolAt ws s) (n : ℕ) (lt : s < n) where
+  pub stored-node : nodeOf bs (x .node) ≡ symAt (symsOf bs ws n) s .node
+  unfolding symOf
+  stored-node = rw loads (sym (ap (λ (z : Sym). z .node) (sym-at bs ws n s lt)))
+
+  pub stored-opcode : recOf bs (x .node) .opcode ≡ symAt (symsOf bs ws n) s .rec .opcode
+  unfolding symOf
+  stored-opcode = rw loads (sym (ap (λ (z : Sym). z .rec .opcode) (sym-at bs ws n s lt)))
+
+  pub stored-scope : x .scope ≡ symAt (symsOf bs ws n) s .scope
+  unfolding symOf
+  stored-scope = rw loads (sym (ap (λ (z : Sym). z .scope) (sym-at bs ws n s lt)))
+
+pub stored-small : (ws : List ℕ) (s : ℕ) (x : Symbol) → x ≡ symbolAt ws s → x .scope < 4096
+unfolding symbolAt
+stored-small ws s x loads = rw loads (omega arith)
+
+pub stored-from : (bs ws : List ℕ) (s : ℕ) (x : Symbol) → x ≡ symbolAt ws s → Sound bs ws 2560 s →
+    partsOf (x .node) .source < recordCount bs
+stored-from bs ws s x loads sound = rw loads (sound .from)
+
+-- ---- a refusal from its parts
+
+pub refusal-parts : (n place : ℕ) {out o₁ o₂ o₃ o₄ : List ℕ} {p₁ p₂ p₃ p₄ : ℕ} → Wrote out 0 (text "refused ") o₁ p₁ →
+    Wrote o₁ p₁ (decimal n) o₂ p₂ → Wrote o₂ p₂ (text " at ") o₃ p₃ → Wrote o₃ p₃ (decimal place ++ (10 ∷ [])) o₄ p₄ →
+    ((p₄ ≡ length (refusalLine n place)) × (p₄ ≤ length out)) × (o₄ ≡ over out 0 (refusalLine n place))
+unfolding refusalLine
+refusal-parts n place w₁ w₂ w₃ w₄ =
+    let w = rw newline at (wrote-both (wrote-then (wrote-then w₁ w₂) w₃) (decimal place) (10 ∷ []) w₄) in
+    ((omega (arith, w .ends), w .fits), w .holds)

@@ -1,0 +1,205 @@
+// The lister's lines, written over an output. In order: bytes; numbers; a symbol's columns; its line; all symbols; a
+// refusal.
+use gate::USES;
+use key::Node;
+ghost use mathlib.Core.Path.{_≡_};
+ghost use mathlib.Core.List.{List, [], _∷_, _++_};
+ghost use Prim.Native.Nat.{ℕ, _+_, _*_, _<_, _≤_};
+ghost use lib.ListN.{length};
+ghost use Rattle.model.specs.Forest.{recordCount};
+ghost use Rattle.model.specs.Intern.{symAt};
+ghost use Rattle.model.specs.Lister.{decimal, hexDigit, hexByte, tagOf, opcodeShown, yesNo, line, linesFrom, allSlots};
+ghost use Rattle.model.specs.Lister.{symbolLines, refusalLine};
+ghost use Rattle.record.specs.Record.{Laid};
+ghost use Rattle.key.specs.Key.{partsOf};
+ghost use Rattle.symbols.specs.Symbols.{recOf, nodeOf, symsOf, Sound};
+ghost use Rattle.writer.specs.Over.{over};
+ghost use Rattle.lines.specs.Lines.{columns, Wrote, Listable};
+
+fn put_one(out: &mut [u8], at: usize, b: u8) -> usize
+    requires { ⌜ at + 1 ≤ length (now out) ⌝ }
+    ensures { λ r. ⌜ Wrote (now (out .entry)) at (b ∷ []) (now (out .exit)) r ⌝ }
+{
+    writer::put_byte(out, at, b)
+}
+
+fn put_two(out: &mut [u8], at: usize, first: u8, second: u8) -> usize
+    requires { ⌜ at + 2 ≤ length (now out) ⌝ }
+    ensures { λ r. ⌜ Wrote (now (out .entry)) at (first ∷ second ∷ []) (now (out .exit)) r ⌝ }
+{
+    let next = put_one(out, at, first);
+    put_one(out, next, second)
+}
+
+fn put_text(out: &mut [u8], at: usize, text: &[u8]) -> usize
+    requires { ⌜ at + length (now text) ≤ length (now out) ⌝ }
+    ensures { λ r. ⌜ Wrote (now (out .entry)) at (now (text .entry)) (now (out .exit)) r ⌝ }
+{
+    writer::put_part(out, at, text)
+}
+
+fn digit(n: u32) -> u8
+    requires { ⌜ n < 10 ⌝ }
+    ensures { λ r. ⌜ r ≡ 48 + n ⌝ }
+{
+    (48 + n) as u8
+}
+
+// n in decimal. Rules out: the lowest digit first; a number of one digit with a 0 before it.
+fn put_decimal(out: &mut [u8], at: usize, n: u32) -> usize
+    requires { ⌜ n < 1000000000 ⌝ }
+    requires { ⌜ at + 9 ≤ length (now out) ⌝ }
+    ensures { λ r. ⌜ Wrote (now (out .entry)) at (decimal n) (now (out .exit)) r ⌝ }
+{
+    if n < 10 {
+        return put_one(out, at, digit(n));
+    }
+    let next = put_decimal(out, at, n / 10);
+    put_one(out, next, digit(n % 10))
+}
+
+// A number and the byte after it.
+fn put_number(out: &mut [u8], at: usize, n: u32, after: u8) -> usize
+    requires { ⌜ n < 1000000000 ⌝ }
+    requires { ⌜ at + 10 ≤ length (now out) ⌝ }
+    ensures { λ r. ⌜ Wrote (now (out .entry)) at (decimal n ++ (after ∷ [])) (now (out .exit)) r ⌝ }
+{
+    let next = put_decimal(out, at, n);
+    put_one(out, next, after)
+}
+
+fn hex_digit(n: u8) -> u8
+    requires { ⌜ n < 16 ⌝ }
+    ensures { λ r. ⌜ r ≡ hexDigit n ⌝ }
+{
+    if n < 10 {
+        return b'0' + n;
+    }
+    b'A' + (n - 10)
+}
+
+// A byte as two hexadecimal digits. Rules out: small letters; one digit for a byte below 16.
+fn put_hex(out: &mut [u8], at: usize, b: u8) -> usize
+    requires { ⌜ at + 2 ≤ length (now out) ⌝ }
+    ensures { λ r. ⌜ Wrote (now (out .entry)) at (hexByte b) (now (out .exit)) r ⌝ }
+{
+    put_two(out, at, hex_digit(b / 16), hex_digit(b % 16))
+}
+
+// The letter of a node's kind.
+fn tag(node: Node) -> u8
+    ensures { λ r. ⌜ ((bs : List ℕ) → (r ∷ []) ≡ tagOf (nodeOf bs node)) ⌝ }
+{
+    match node {
+        Node::Const(_) => b'C',
+        Node::Unparsed(_) => b'U',
+        Node::Arg(_) => b'A',
+        Node::Lambda(_) => b'O',
+        Node::Op(_) => b'O',
+    }
+}
+
+// A node's opcode, where its line shows one.
+fn opcode_shown(forest: &[u8], node: Node) -> u8
+    requires { ⌜ Laid (now forest) ⌝ }
+    requires { ⌜ partsOf node .source < recordCount (now forest) ⌝ }
+    ensures { λ r. ⌜ r ≡
+        opcodeShown (nodeOf (now (forest .entry)) node) (recOf (now (forest .entry)) node .opcode) ⌝ }
+{
+    match node {
+        Node::Const(_) => 0,
+        Node::Unparsed(_) => 0,
+        Node::Arg(_) => 0,
+        Node::Lambda(f) => record::opcode(forest, f.source as usize),
+        Node::Op(o) => record::opcode(forest, o.source as usize),
+    }
+}
+
+fn yes_no(b: bool) -> u8
+    ensures { λ r. ⌜ (r ∷ []) ≡ yesNo b ⌝ }
+{
+    if b {
+        return b'y';
+    }
+    b'n'
+}
+
+// The first columns of the line of symbol s, whose node this is.
+fn put_columns(forest: &[u8], out: &mut [u8], at: usize, s: usize, node: Node) -> usize
+    requires { ⌜ Laid (now forest) ⌝ }
+    requires { ⌜ partsOf node .source < recordCount (now forest) ⌝ }
+    requires { ⌜ s < 512 ⌝ }
+    requires { ⌜ at + 15 ≤ length (now out) ⌝ }
+    ensures { λ r. ⌜ Wrote (now (out .entry)) at
+        (columns s (nodeOf (now (forest .entry)) node) (recOf (now (forest .entry)) node .opcode))
+        (now (out .exit)) r ⌝ }
+{
+    let a = put_number(out, at, s as u32, b' ');
+    let b = put_two(out, a, tag(node), b' ');
+    let c = put_hex(out, b, opcode_shown(forest, node));
+    put_one(out, c, b' ')
+}
+
+// The line of symbol s, which is used `uses` times. Rules out: the scope as usage; the opcode of a constant shown.
+fn put_line(forest: &[u8], work: &[u32], out: &mut [u8], at: usize, s: usize, uses: u32) -> usize
+    requires { ⌜ Laid (now forest) ⌝ }
+    requires { ⌜ Sound (now forest) (now work) 2560 s ⌝ }
+    requires { ⌜ (s < 512) × (2560 ≤ length (now work)) × (uses < 1000000000) ⌝ }
+    requires { ⌜ at + 40 ≤ length (now out) ⌝ }
+    ensures { λ r. ⌜ ((n : ℕ) → s < n → Wrote (now (out .entry)) at
+        (line s uses (symAt (symsOf (now (forest .entry)) (now (work .entry)) n) s)) (now (out .exit)) r) ⌝ }
+{
+    let y = key::load(work, s);
+    let node = y.node;
+    let a = put_columns(forest, out, at, s, node);
+    let b = put_number(out, a, y.scope, b' ');
+    let c = put_number(out, b, uses, b' ');
+    let hoisted = gate::should_hoist(forest, work, s, uses);
+    put_two(out, c, yes_no(hoisted), b'\n')
+}
+
+// The lines of the first n symbols, one after the other, from `start` on.
+fn put_lines(forest: &[u8], work: &[u32], n: usize, out: &mut [u8], start: usize) -> usize
+    requires { ⌜ Listable (now forest) (now work) n ⌝ }
+    requires { ⌜ start + 40 * n ≤ length (now out) ⌝ }
+    ensures { λ r. ⌜ Wrote (now (out .entry)) start
+        (linesFrom 0 (allSlots (symsOf (now (forest .entry)) (now (work .entry)) n))
+        (symsOf (now (forest .entry)) (now (work .entry)) n)) (now (out .exit)) r ⌝ }
+{
+    let mut at = start;
+    let mut s = 0;
+    while s < n {
+        at = put_line(forest, work, out, at, s, work[USES + s]);
+        s += 1;
+    }
+    at
+}
+
+// What the lister prints for n symbols, over the output's start; `gate::count_all` has counted their uses.
+// The answer is its length. Rules out: a symbol's mark as its usage; the count of symbols left out.
+pub fn put_symbols(forest: &[u8], work: &[u32], n: usize, out: &mut [u8]) -> usize
+    requires { ⌜ Listable (now forest) (now work) n ⌝ }
+    requires { ⌜ 32768 ≤ length (now out) ⌝ }
+    ensures { λ r. ⌜ (r ≡ length (symbolLines (symsOf (now (forest .entry)) (now (work .entry)) n)))
+        × (r ≤ length (now (out .entry))) ⌝ }
+    ensures { λ r. ⌜ now (out .exit) ≡
+        over (now (out .entry)) 0 (symbolLines (symsOf (now (forest .entry)) (now (work .entry)) n)) ⌝ }
+{
+    let a = put_text(out, 0, b"symbols ");
+    let b = put_number(out, a, n as u32, b'\n');
+    put_lines(forest, work, n, out, b)
+}
+
+// What the lister prints for a refusal, over the output's start. The answer is its length.
+// Rules out: the place before the number; the newline left out.
+pub fn put_refusal(out: &mut [u8], number: u32, place: u32) -> usize
+    requires { ⌜ (number < 1000000000) × (place < 1000000000) ⌝ }
+    requires { ⌜ 32 ≤ length (now out) ⌝ }
+    ensures { λ r. ⌜ (r ≡ length (refusalLine number place)) × (r ≤ length (now (out .entry))) ⌝ }
+    ensures { λ r. ⌜ now (out .exit) ≡ over (now (out .entry)) 0 (refusalLine number place) ⌝ }
+{
+    let a = put_text(out, 0, b"refused ");
+    let b = put_decimal(out, a, number);
+    let c = put_text(out, b, b" at ");
+    put_number(out, c, place, b'\n')
+}

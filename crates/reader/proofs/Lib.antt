@@ -1,0 +1,3 @@
+-- What the walks of the reader's functions share. Assumes nothing.
+pub mod Taken
+pub mod Closing

@@ -1,0 +1,2 @@
+-- What the contracts of texts in a buffer cite. Assumes nothing.
+pub mod Wrote

@@ -1,0 +1,39 @@
+// Shows the forest on standard input as a sheet, a line a record (crate `sheet` has the layout), or, where a check from
+// 2 to 10 refuses it, as the one line `refused N at P`. At most 65,536 bytes are read: one more than a forest may have.
+use codec::Verdict;
+use libc::STDIN_FILENO;
+use libc::STDOUT_FILENO;
+ghost use mathlib.Core.Path.{_≡_};
+ghost use lib.ListN.{length};
+
+// More than any sheet takes: 131,070 hex digits of literals, and 256 lines with less than 400 bytes beside.
+fn room() -> [u8; 262144]
+    ensures { λ r. ⌜ 262144 ≡ length r ⌝ }
+{
+    [0; 262144]
+}
+
+// The first n bytes of a text.
+fn print(text: &[u8], n: usize) {
+    if text.len() < n {
+        return;
+    }
+    io::write_all(STDOUT_FILENO, &text[..n]);
+}
+
+// What is shown for a forest, put into text; gives its length.
+fn shown(forest: &[u8], work: &mut [u32; 3840], text: &mut [u8]) -> usize {
+    match codec::check(forest, work) {
+        Verdict::Accepted => sheet::write(forest, text),
+        Verdict::Refused(number, place) => sheet::write_refusal(number, place, text),
+    }
+}
+
+fn main() {
+    let mut forest = io::large_buffer();
+    let mut work = [0u32; 3840];
+    let mut text = room();
+    let n = io::read_full(STDIN_FILENO, &mut forest);
+    let k = shown(&forest[..n], &mut work, &mut text);
+    print(&text, k);
+}
