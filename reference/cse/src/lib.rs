@@ -19,3 +19,9 @@ pub mod unfold;
 #[rustfmt::skip]
 #[allow(warnings, clippy::all)]
 mod cse;
+
+// The same pass, with free lists remembered (build.rs).
+#[allow(warnings, clippy::all)]
+mod remembering {
+    include!(concat!(env!("OUT_DIR"), "/remembering/mod.rs"));
+}

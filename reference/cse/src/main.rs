@@ -1,6 +1,6 @@
 //! Commands over forests in hexadecimal digits, one a line; see `USAGE`.
 
-use std::io::{self, BufRead, BufWriter, ErrorKind, Write};
+use std::io::{self, BufRead, BufWriter, ErrorKind, Read, Write};
 use std::process::ExitCode;
 
 use cse_reference::check::accept;
@@ -21,7 +21,9 @@ usage: cse-reference COMMAND
   check-rows COUNT [--seed S]      forest, and what checks 2 to 10 say of it
   from-notation                    notation in: forests
   to-notation                      forests in: notation
-Standard input has one forest a line, in hex, - for no bytes. Fields are parted by tabs. A forest that
+  forest NOTATION                  the forest's bytes
+  notation                         a forest's bytes in: notation
+Elsewhere standard input has one forest a line, in hex, - for no bytes. Fields are parted by tabs. A forest that
 is too much work for the original gives the line: skipped";
 
 /// What ends a command early.
@@ -148,13 +150,19 @@ fn run(arguments: &[String], out: &mut impl Write) -> Result<(), Failure> {
         }
         "to-notation" => {
             parsed(&[], &[])?;
-            each_line(out, |line| {
-                let forest = accept(&hex::parse(line)?).map_err(|refusal| {
-                    format!("refused {} at {}", refusal.number, refusal.place)
-                })?;
-                let text = notation::print(&forest).ok_or("a record has no notation")?;
-                Ok(format!("{text}\n"))
-            })
+            each_line(out, |line| notation_of(&hex::parse(line)?))
+        }
+        "forest" => {
+            let arguments = parsed(&["NOTATION"], &[])?;
+            let forest = notation::parse(&arguments.operands[0]).map_err(Failure::Usage)?;
+            Ok(out.write_all(&forest.to_bytes())?)
+        }
+        "notation" => {
+            parsed(&[], &[])?;
+            let mut bytes = Vec::new();
+            io::stdin().lock().read_to_end(&mut bytes)?;
+            let text = notation_of(&bytes).map_err(|message| Failure::Line(1, message))?;
+            Ok(out.write_all(text.as_bytes())?)
         }
         _ => Err(Failure::Usage(format!("no command is called {command}"))),
     }
@@ -172,6 +180,14 @@ fn each_line(
         out.write_all(text.as_bytes())?;
     }
     Ok(())
+}
+
+/// The notation of a forest, as a line.
+fn notation_of(bytes: &[u8]) -> Result<String, String> {
+    let forest = accept(bytes)
+        .map_err(|refusal| format!("refused {} at {}", refusal.number, refusal.place))?;
+    let text = notation::print(&forest).ok_or("a record has no notation")?;
+    Ok(format!("{text}\n"))
 }
 
 /// The fields of an answer, parted by tabs.

@@ -10,6 +10,8 @@ use crate::cost::{expansion, nesting, MAX_EXPANSION, MAX_NESTING};
 use crate::cse::{cse, Interner, KeyTag, SymId};
 use crate::forest::{Forest, Tree};
 use crate::limits::{count, Counts};
+use crate::remembering;
+use ergo_ser::opcode::Expr;
 
 pub const MIN_WORK_WORDS: usize = 16_384;
 pub const MAX_OUTPUT: usize = 65_535;
@@ -76,8 +78,27 @@ impl fmt::Display for NoAnswer {
 
 impl std::error::Error for NoAnswer {}
 
+/// Which copy of the pass makes the tree.
+#[derive(Clone, Copy, PartialEq, Eq, Debug)]
+pub enum Pass {
+    /// The files as they came; their time doubles with each nested scope.
+    Original,
+    /// The copy that remembers free lists.
+    Remembering,
+}
+
 /// The main call on a forest, lent so many output bytes and work words.
 pub fn answer(forest: &[u8], out_len: usize, work_words: usize) -> Result<Answer, NoAnswer> {
+    answer_by(Pass::Original, forest, out_len, work_words)
+}
+
+/// The main call, with the tree made by that copy of the pass.
+pub fn answer_by(
+    pass: Pass,
+    forest: &[u8],
+    out_len: usize,
+    work_words: usize,
+) -> Result<Answer, NoAnswer> {
     if work_words < MIN_WORK_WORDS {
         return Ok(refused(Refusal {
             number: 1,
@@ -89,7 +110,7 @@ pub fn answer(forest: &[u8], out_len: usize, work_words: usize) -> Result<Answer
         Ok(counted) => counted,
         Err(refusal) => return Ok(refused(refusal)),
     };
-    let tree = written_tree(&forest, counts)?;
+    let tree = written_tree(pass, &forest, counts)?;
     let (records, depth) = (tree.size(), tree.depth());
     let bytes = Forest { trees: vec![tree] }.to_bytes();
     let number = if records > MAX_RECORDS || bytes.len() > MAX_OUTPUT.min(out_len) {
@@ -121,8 +142,8 @@ fn refused(refusal: Refusal) -> Answer {
 }
 
 /// What the original makes of an accepted forest within the limits.
-fn written_tree(forest: &Forest, counts: Counts) -> Result<Tree, NoAnswer> {
-    can_be_run(forest).map_err(NoAnswer::Skipped)?;
+fn written_tree(pass: Pass, forest: &Forest, counts: Counts) -> Result<Tree, NoAnswer> {
+    can_be_run(pass, forest).map_err(NoAnswer::Skipped)?;
     on_large_stack(|| {
         let (interner, root) = interned(forest);
         let original = interner.syms.len() as u32;
@@ -136,16 +157,30 @@ fn written_tree(forest: &Forest, counts: Counts) -> Result<Tree, NoAnswer> {
         if size > MAX_EXPANSION {
             return Err(NoAnswer::Skipped(Skipped::Expansion(size)));
         }
-        let mut exprs: Vec<_> = forest.trees.iter().map(to_expr).collect();
-        let root = exprs.pop().expect("a forest has a root");
-        let tree = to_tree(&cse(root, &exprs));
+        let (root, env) = exprs(forest);
+        let tree = to_tree(&match pass {
+            Pass::Original => cse(root, &env),
+            Pass::Remembering => remembering::cse(root, &env),
+        });
         debug_assert!(tree.size() as u64 <= size, "the cap must hold beforehand");
         Ok(tree)
     })
 }
 
+/// The root and the environment trees as the pass takes them.
+pub fn exprs(forest: &Forest) -> (Expr, Vec<Expr>) {
+    let mut exprs: Vec<_> = forest.trees.iter().map(to_expr).collect();
+    let root = exprs.pop().expect("a forest has a root");
+    (root, exprs)
+}
+
+/// The original itself, from its own tree to its own tree.
+pub fn original(root: Expr, env: &[Expr]) -> Expr {
+    cse(root, env)
+}
+
 /// The part of the caps that the trees alone decide.
-fn can_be_run(forest: &Forest) -> Result<(), Skipped> {
+fn can_be_run(pass: Pass, forest: &Forest) -> Result<(), Skipped> {
     let mut shapes = [None; 256];
     for tree in &forest.trees {
         if let Some(opcode) = second_shape(tree, &mut shapes) {
@@ -153,7 +188,7 @@ fn can_be_run(forest: &Forest) -> Result<(), Skipped> {
         }
     }
     let depth = forest.trees.iter().map(nesting).max().unwrap_or(0);
-    if depth > MAX_NESTING {
+    if pass == Pass::Original && depth > MAX_NESTING {
         return Err(Skipped::Nesting(depth));
     }
     Ok(())

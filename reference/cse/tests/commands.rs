@@ -211,3 +211,13 @@ fn wrong_lines() {
     );
     fails(&["from-notation"], b"z\np(z\n", 1, "line 2: ");
 }
+
+#[test]
+fn one_forest_as_bytes() {
+    // An opcode would be no text, and a constant has none.
+    let bytes = prints(&["forest", "k"], "");
+    assert_eq!(prints(&["notation"], &bytes), "k\n");
+    fails(&["forest", "p(z"], b"", 2, "");
+    fails(&["forest"], b"", 2, "NOTATION");
+    fails(&["notation"], b"", 1, "refused 2 at 0");
+}

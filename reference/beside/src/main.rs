@@ -1,0 +1,48 @@
+//! The proved main call beside the original; see `USAGE`.
+
+mod compare;
+mod measure;
+
+use std::process::ExitCode;
+
+const USAGE: &str = "\
+usage: beside compare KIND COUNT [SEED]   accepted forests of a kind through both
+       beside damaged COUNT [SEED]        refused forests through both
+       beside measure COUNT [SEED]        time of both, by class
+A difference is printed with its forest, and the status is 1.";
+
+fn main() -> ExitCode {
+    let arguments: Vec<String> = std::env::args().skip(1).collect();
+    let words: Vec<&str> = arguments.iter().map(String::as_str).collect();
+    match run(&words) {
+        Some(true) => ExitCode::SUCCESS,
+        Some(false) => ExitCode::FAILURE,
+        None => {
+            eprintln!("{USAGE}");
+            ExitCode::from(2)
+        }
+    }
+}
+
+/// Whether there was no difference; none for a wrong command line.
+fn run(words: &[&str]) -> Option<bool> {
+    let seed = |word: Option<&&str>| word.map_or(Some(1), |word| word.parse().ok());
+    match words {
+        ["compare", kind, count, rest @ ..] if rest.len() < 2 => {
+            let kind = cse_reference::generate::Kind::parse(kind)?;
+            Some(compare::accepted(
+                kind,
+                count.parse().ok()?,
+                seed(rest.first())?,
+            ))
+        }
+        ["damaged", count, rest @ ..] if rest.len() < 2 => {
+            Some(compare::damaged(count.parse().ok()?, seed(rest.first())?))
+        }
+        ["measure", count, rest @ ..] if rest.len() < 2 => {
+            measure::classes(count.parse().ok()?, seed(rest.first())?);
+            Some(true)
+        }
+        _ => None,
+    }
+}

@@ -1,0 +1,92 @@
+//! Time of the unchanged original, from its own tree to its own tree, and of the main call, from bytes to bytes with the
+//! clearing of its work words: the same forests, in turn.
+
+use std::hint::black_box;
+use std::time::{Duration, Instant};
+
+use cse_library::{call, MAX_WRITTEN, WORK_WORDS};
+use cse_reference::check::accept;
+use cse_reference::cost::{nesting, MAX_NESTING};
+use cse_reference::generate::{accepted, Kind};
+use cse_reference::oracle::{answer, exprs, original};
+
+const CLASSES: [Kind; 5] = [
+    Kind::Small,
+    Kind::Medium,
+    Kind::Large,
+    Kind::Deep,
+    Kind::Readings,
+];
+
+/// How often each forest is sent through each side; the quickest counts.
+const ROUNDS: u32 = 7;
+
+pub fn classes(count: u64, seed: u64) {
+    println!("class: forests; original, main call: median and 90th percentile in µs; times faster: median, 10th percentile");
+    for kind in CLASSES {
+        class(kind, count, seed);
+    }
+    let clearing = quickest(|| {
+        let mut work = vec![1u32; WORK_WORDS];
+        let start = Instant::now();
+        work.iter_mut().for_each(|word| *word = 0);
+        black_box(&mut work);
+        start.elapsed()
+    });
+    println!("clearing 16,384 words alone: {:.2} µs", micros(clearing));
+}
+
+fn class(kind: Kind, count: u64, seed: u64) {
+    let (mut theirs, mut ours, mut ratios) = (Vec::new(), Vec::new(), Vec::new());
+    let mut out = vec![0; MAX_WRITTEN];
+    let mut work = vec![0; WORK_WORDS];
+    let mut seed = seed;
+    while (ours.len() as u64) < count {
+        let bytes = accepted(seed, kind).to_bytes();
+        seed += 1;
+        if !answer(&bytes, MAX_WRITTEN, WORK_WORDS).is_ok_and(|answer| answer.number == 0) {
+            continue;
+        }
+        let forest = accept(&bytes).expect("a forest with an answer is accepted");
+        debug_assert!(forest.trees.iter().all(|tree| nesting(tree) <= MAX_NESTING));
+        let their = quickest(|| {
+            let (root, env) = exprs(&forest);
+            let start = Instant::now();
+            let tree = original(root, &env);
+            let time = start.elapsed();
+            black_box(tree);
+            time
+        });
+        let our = quickest(|| {
+            let start = Instant::now();
+            black_box(call(&bytes, &mut out, &mut work));
+            start.elapsed()
+        });
+        ratios.push(their.as_secs_f64() / our.as_secs_f64());
+        theirs.push(micros(their));
+        ours.push(micros(our));
+    }
+    for list in [&mut theirs, &mut ours, &mut ratios] {
+        list.sort_by(f64::total_cmp);
+    }
+    let at = |list: &[f64], percent: usize| list[(list.len() - 1) * percent / 100];
+    println!(
+        "{}: {}; {:.1} {:.1}, {:.1} {:.1}; {:.1} {:.1}",
+        kind.name(),
+        ours.len(),
+        at(&theirs, 50),
+        at(&theirs, 90),
+        at(&ours, 50),
+        at(&ours, 90),
+        at(&ratios, 50),
+        at(&ratios, 10),
+    );
+}
+
+fn quickest(mut time: impl FnMut() -> Duration) -> Duration {
+    (0..ROUNDS).map(|_| time()).min().expect("there is a round")
+}
+
+fn micros(time: Duration) -> f64 {
+    time.as_secs_f64() * 1e6
+}
