@@ -17,7 +17,7 @@ pub const ENTRIES: usize = 7176;
 
 // Where each open table's entries start, the oldest first; the newest table ends where the entries do.
 pub struct Tables {
-    pub base: [u32; 64],
+    pub base: [u16; 64],
     pub depth: usize,
 }
 
@@ -32,7 +32,7 @@ impl Tables {
         ensures { λ r. ⌜ r ≡ first ⌝ }
     {
         Tables {
-            base: [0u32; 64],
+            base: [0u16; 64],
             depth: 1,
         }
     }
@@ -45,7 +45,7 @@ impl Tables {
     {
         let at = self.depth;
         let mut next = self;
-        next.base[at] = top as u32;
+        next.base[at] = top as u16;
         next.depth = at + 1;
         next
     }
