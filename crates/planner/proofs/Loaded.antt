@@ -1,5 +1,5 @@
--- A symbol loaded from the words, as its tree's first row. In order: a symbol of a known node; a record copied; an
--- operation's row.
+-- A symbol loaded from the words, as its tree's first row. In order: a record copied; what the code has loaded, and a
+-- row that it has put; a symbol of a known node; an operation's row.
 -- Assumes nothing.
 use Prim.Native.Nat.{ℕ, _+_, _*_, _<_, _≤_}
 use mathlib.Core.Path.{_≡_, refl, sym, ap, _∙_, subst}

@@ -1,3 +1,4 @@
+-- `planner::copied` meets its contract. Assumes nothing.
 use Prim.Native.Nat.{_-_, _≤_}
 use mathlib.Core.Path.{_≡_, ap, refl}
 use native.Mathlib.Omega.{arith}
@@ -13,39 +14,30 @@ Inv-loop ids map₀ s₀ map s = (s ≤ 512) × (length map ≡ 512) × (length 
 abbrev μ-loop : tie.MeasureT-loop
 μ-loop ids map₀ s₀ map s = 512 - s
 
--- src/lib.rt:103:19
 no-ids-requires : tie.Need-no-ids-requires Inv-loop μ-loop
 no-ids-requires c κs = search needs
 
--- src/lib.rt:105:5
 loop-holds : tie.Need-loop-holds Inv-loop μ-loop
 loop-holds c = (omega arith, ap length (c .no-ids .ensures), c .before .before .pre, refl)
 
--- src/lib.rt:106:18
 mul-map : tie.Need-mul-map Inv-loop μ-loop
 mul-map c = search needs
 
--- src/lib.rt:106:18
 shared-slice-read-map : tie.Need-shared-slice-read-map Inv-loop μ-loop
 shared-slice-read-map c = search needs
 
--- src/lib.rt:106:9
 mul-map-2 : tie.Need-mul-map-2 Inv-loop μ-loop
 mul-map-2 c = search needs
 
--- src/lib.rt:106:9
 array-write-map : tie.Need-array-write-map Inv-loop μ-loop
 array-write-map c = search needs
 
--- src/lib.rt:107:9
 add-s : tie.Need-add-s Inv-loop μ-loop
 add-s c = search needs
 
--- src/lib.rt:105:5
 loop-less : tie.Need-loop-less Inv-loop μ-loop
 loop-less c = search needs
 
--- src/lib.rt:105:5
 loop-again : tie.Need-loop-again Inv-loop μ-loop
 loop-again c = let inv = c .before .before .loop .inv in
     let m = c .before .before .loop .map in
@@ -53,7 +45,6 @@ loop-again c = let inv = c .before .before .loop .inv in
     let ids = c .before .before .before .before .before .args .ids .now in
     (omega arith, simp length-set (inv .1), inv .2, copy-more ids m s (inv .3) (omega arith) (omega arith))
 
--- src/lib.rt:99:1
 returns : tie.Need-returns Inv-loop μ-loop
 returns c = let inv = c .before .loop .inv in
     copy-end (c .before .before .before .before .args .ids .now) (c .before .loop .map) (c .before .loop .s) (inv .3)

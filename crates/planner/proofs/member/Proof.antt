@@ -1,3 +1,4 @@
+-- `planner::member` meets its contract. Assumes nothing.
 use Prim.Native.Nat.{_<_}
 use mathlib.Core.Path.{_∙_}
 use native.Mathlib.Omega.{arith}
@@ -7,15 +8,12 @@ use borrow.Author.Needs.{needs}
 use Rattle.planner.proofs.member.Statement.{statement}
 use Rattle.planner.proofs.member.Tie as tie
 
--- src/lib.rt:159:8
 mul-if1 : tie.Need-mul-if1
 mul-if1 c = search needs
 
--- src/lib.rt:159:8
 shared-slice-read-if1 : tie.Need-shared-slice-read-if1
 shared-slice-read-if1 c = search needs
 
--- src/lib.rt:160:9
 returns : tie.Need-returns
 returns c =
     λ gr env st maps.
@@ -23,7 +21,6 @@ returns c =
     let few : z .args .s < 512 = omega (arith, z .pre .1 .0 .arena .few) in
     member-given gr _ _ env _ few maps (c .if1 .taken)
 
--- src/lib.rt:162:9
 load-requires : tie.Need-load-requires
 load-requires c κs = omega (
   arith,
@@ -31,11 +28,9 @@ load-requires c κs = omega (
   c .before .before .before .before .before .pre .1 .0 .arena .words,
 )
 
--- src/lib.rt:163:8
 wide-requires : tie.Need-wide-requires
 wide-requires c κs = search needs
 
--- src/lib.rt:164:9
 returns-2 : tie.Need-returns-2
 returns-2 c =
     λ gr env st maps.
@@ -44,7 +39,6 @@ returns-2 c =
     member-elsewhere gr _ _ env _ few maps
     (scope-not st _ (z .pre .1 .1 .0) (c .before .before .load .ensures) (c .before .wide .ensures) (c .if2 .taken))
 
--- src/lib.rt:166:8
 is-arg-requires : tie.Need-is-arg-requires
 is-arg-requires c κs = let z = c .before .before .before .before .before .before .before .before in (
   arena-scoped
@@ -52,7 +46,6 @@ is-arg-requires c κs = let z = c .before .before .before .before .before .befor
   z .pre .1 .1 .0,
 )
 
--- src/lib.rt:167:9
 returns-3 : tie.Need-returns-3
 returns-3 c =
     λ gr env st maps.
@@ -60,15 +53,12 @@ returns-3 c =
     let few : z .args .s < 512 = omega (arith, z .pre .1 .0 .arena .few) in
     member-arg gr _ _ env _ few maps (arg-is st _ (z .pre .1 .1 .0) (c .before .is-arg .ensures) ∙ c .if3 .taken)
 
--- src/lib.rt:169:46
 add-should-hoist : tie.Need-add-should-hoist
 add-should-hoist c = search needs
 
--- src/lib.rt:169:41
 mul-should-hoist : tie.Need-mul-should-hoist
 mul-should-hoist c = search needs
 
--- src/lib.rt:169:41
 shared-slice-read-should-hoist : tie.Need-shared-slice-read-should-hoist
 shared-slice-read-should-hoist c = omega (
   arith,
@@ -76,7 +66,6 @@ shared-slice-read-should-hoist c = omega (
   c .before .before .before .before .before .before .before .before .before .before .before .pre .1 .0 .arena .words,
 )
 
--- src/lib.rt:169:5
 should-hoist-requires : tie.Need-should-hoist-requires
 should-hoist-requires c κs =
     let z = c .before .before .before .before .before .before .before .before .before .before .before in (
@@ -91,7 +80,6 @@ should-hoist-requires c κs =
       ),
     )
 
--- src/lib.rt:153:1
 returns-4 : tie.Need-returns-4
 returns-4 c =
     λ gr env st maps.

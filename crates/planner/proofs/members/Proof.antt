@@ -1,3 +1,4 @@
+-- `planner::members` meets its contract. Assumes nothing.
 use Prim.Native.Nat.{_-_, _≤_}
 use mathlib.Core.Path.{_≡_, _∙_}
 use native.Mathlib.Omega.{arith}
@@ -17,23 +18,18 @@ Inv-loop forest work g order count sc ids k₀ i₀ k i =
 abbrev μ-loop : tie.MeasureT-loop
 μ-loop forest work g order count sc ids k₀ i₀ k i = count - i
 
--- src/lib.rt:202:5
 loop-holds : tie.Need-loop-holds Inv-loop μ-loop
 loop-holds c = (omega arith, omega arith, λ gr env st maps. members-none gr _ env)
 
--- src/lib.rt:203:24
 mul-wide16 : tie.Need-mul-wide16 Inv-loop μ-loop
 mul-wide16 c = search needs
 
--- src/lib.rt:203:24
 shared-slice-read-wide16 : tie.Need-shared-slice-read-wide16 Inv-loop μ-loop
 shared-slice-read-wide16 c = search needs
 
--- src/lib.rt:203:13
 wide16-requires : tie.Need-wide16-requires Inv-loop μ-loop
 wide16-requires c κs = search needs
 
--- src/lib.rt:204:21
 member-requires : tie.Need-member-requires Inv-loop μ-loop
 member-requires c κs =
     let z = c .before .before .before .before .before .before .before .before in (
@@ -52,19 +48,15 @@ member-requires c κs =
       ),
     )
 
--- src/lib.rt:204:9
 counted-requires : tie.Need-counted-requires Inv-loop μ-loop
 counted-requires c κs = search needs
 
--- src/lib.rt:205:9
 add-i : tie.Need-add-i Inv-loop μ-loop
 add-i c = search needs
 
--- src/lib.rt:202:5
 loop-less : tie.Need-loop-less Inv-loop μ-loop
 loop-less c = search needs
 
--- src/lib.rt:202:5
 loop-again : tie.Need-loop-again Inv-loop μ-loop
 loop-again c =
     let z = c .before .before .before .before .before .before .before .before .before .before in
@@ -85,7 +77,6 @@ loop-again c =
           (inv .2 gr env st maps),
     )
 
--- src/lib.rt:184:1
 returns : tie.Need-returns Inv-loop μ-loop
 returns c =
     let inv = c .before .loop .inv in

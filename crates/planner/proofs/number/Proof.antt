@@ -1,3 +1,4 @@
+-- `planner::number` meets its contract. Assumes nothing.
 use Prim.Native.Nat.{ℕ, _+_, _-_, _≤_}
 use mathlib.Core.Path.{_≡_, refl, ap, _∙_}
 use native.Mathlib.Omega.{arith}
@@ -16,45 +17,35 @@ Inv-loop map₀ first count last id₀ j₀ map id j = (j ≤ count) × (id ≡ 
 abbrev μ-loop : tie.MeasureT-loop
 μ-loop map₀ first count last id₀ j₀ map id j = count - j
 
--- src/lib.rt:119:5
 loop-holds : tie.Need-loop-holds Inv-loop μ-loop
 unfolding range
 loop-holds c = (omega arith, omega arith, refl, refl)
 
--- src/lib.rt:120:9
 add-id : tie.Need-add-id Inv-loop μ-loop
 add-id c = search needs
 
--- src/lib.rt:121:13
 add-map : tie.Need-add-map Inv-loop μ-loop
 add-map c = omega (arith, c .before .before .pre .0 (omega arith))
 
--- src/lib.rt:121:9
 mul-map : tie.Need-mul-map Inv-loop μ-loop
 mul-map c = omega (arith, c .before .before .pre .0 (omega arith))
 
--- src/lib.rt:121:9
 slice-write-map : tie.Need-slice-write-map Inv-loop μ-loop
 slice-write-map c = omega (arith, c .before .before .pre .0 (omega arith), c .before .loop .inv .3)
 
--- src/lib.rt:122:9
 add-j : tie.Need-add-j Inv-loop μ-loop
 add-j c = search needs
 
--- src/lib.rt:119:5
 loop-less : tie.Need-loop-less Inv-loop μ-loop
 loop-less c = search needs
 
--- src/lib.rt:119:5
 loop-again : tie.Need-loop-again Inv-loop μ-loop
 loop-again c = let inv = c .before .loop .inv in
     (omega arith, omega arith, number-more _ _ _ _ _ _ (inv .2) (omega (arith, inv .1)), simp length-set (inv .3))
 
--- src/lib.rt:113:1
 same-length : tie.Need-same-length Inv-loop μ-loop
 same-length c = search needs
 
--- src/lib.rt:113:1
 returns : tie.Need-returns Inv-loop μ-loop
 returns c =
     let inv = c .before .loop .inv in

@@ -1,3 +1,4 @@
+-- `planner::put` meets its contract. Assumes nothing.
 use mathlib.Core.Path.{refl}
 use native.Mathlib.Omega.{arith}
 use Rattle.planner.proofs.Growing.{grew-row, grew-full}
@@ -5,42 +6,33 @@ use borrow.Author.Needs.{needs}
 use Rattle.planner.proofs.put.Statement.{statement}
 use Rattle.planner.proofs.put.Tie as tie
 
--- src/lib.rt:66:34
 mul-store : tie.Need-mul-store
 mul-store c = search needs
 
--- src/lib.rt:66:27
 add-store : tie.Need-add-store
 add-store c = search needs
 
--- src/lib.rt:66:9
 store-requires : tie.Need-store-requires
 store-requires c κs = search needs
 
--- src/lib.rt:68:19
 add-t10 : tie.Need-add-t10
 add-t10 c = search needs
 
--- src/lib.rt:69:40
 add-deeper : tie.Need-add-deeper
 add-deeper c = search needs
 
--- src/lib.rt:69:22
 deeper-requires : tie.Need-deeper-requires
 deeper-requires c κs = search needs
 
--- src/lib.rt:67:9
 same-length : tie.Need-same-length
 same-length c = search needs
 
--- src/lib.rt:67:9
 returns : tie.Need-returns
 returns c = λ bs w.
     grew-row bs _ _ _ _ (c .before .before .before .before .before .before .before .pre .0) w
     (c .before .before .before .before .before .if1 .taken) _ _ (c .before .before .before .store .ensures) refl
     (c .deeper .ensures)
 
--- src/lib.rt:59:1
 returns-2 : tie.Need-returns-2
 returns-2 c = λ bs w. grew-full bs _ _ _ _ _ (c .if1 .left) (c .before .before .pre .1) (omega arith) refl
 

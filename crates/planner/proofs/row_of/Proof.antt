@@ -1,12 +1,11 @@
+-- `planner::row_of` meets its contract. Assumes nothing.
 use Rattle.planner.proofs.Operands.{row-copy, row-field}
 use Rattle.planner.proofs.row_of.Statement.{statement}
 use Rattle.planner.proofs.row_of.Tie as tie
 
--- src/lib.rt:84:9
 returns : tie.Need-returns
 returns c = row-copy (c .before .before .args .o) (c .if1 .taken)
 
--- src/lib.rt:80:1
 returns-2 : tie.Need-returns-2
 returns-2 c = row-field (c .before .before .args .o) (c .if1 .left)
 
