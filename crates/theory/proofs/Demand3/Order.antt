@@ -14,7 +14,7 @@ use lib.Dec.{eqb, ltb}
 use lib.ListN.{length}
 use borrow.Author.Tests.{eqb-true, eq-eqb}
 use Rattle.model.specs.Answer.{Answer, refused, good, _>>=_, unless, checked}
-use Rattle.model.specs.Tree.{size, depth}
+use Rattle.model.specs.Tree.{size, sizes, depth}
 use Rattle.model.specs.Forest.{treesOf}
 use Rattle.model.specs.Binding.{check8, check9, check10}
 use Rattle.model.specs.Accept.{checks, accept}
@@ -172,11 +172,11 @@ module _ (forest : List ℕ) (room words : ℕ) where
 rest : ℕ → Out → Answer Written
 rest room m = m >>= λ o. checked ((13, check13 room o) ∷ (14, check14 o) ∷ []) (writtenOf o)
 
-root-limited : (forest : List ℕ) → Limited (interning forest)
+pub root-limited : (forest : List ℕ) → Limited (sizes (treesOf forest)) (interning forest)
 unfolding internLast _>>=_
 root-limited forest = go (internForest (treesOf forest)) (forest-limited (treesOf forest))
   where
-    go : (m : Outs) → Limited m → Limited (internLast m)
+    go : (m : Outs) → Limited (sizes (treesOf forest)) m → Limited (sizes (treesOf forest)) (internLast m)
     go (refused n p) h = h
     go (good os) h = tt
 
@@ -199,13 +199,13 @@ module _ (room : ℕ) where
       go (inr (e, inr (g, inr (k, inl f)))) = none-some (f .1)
       go (inr (e, inr (g, inr (k, inr f)))) = absurd (f .1)
 
-  rest-passes : (m : Out) → Limited m → Passes (late room m) →
+  rest-passes : (end : ℕ) (m : Out) → Limited end m → Passes (late room m) →
       (o : ℕ × State) × (m ≡ good o) × (rest room m ≡ good (writtenOf o))
   unfolding rest _>>=_
-  rest-passes (good o) h w = (o, refl, passes-checked _ (writtenOf o) (w .1 .1))
-  rest-passes (refused m q) (inl e) w =
+  rest-passes end (good o) h w = (o, refl, passes-checked _ (writtenOf o) (w .1 .1))
+  rest-passes end (refused m q) (inl e, l) w =
       none-some (sym (w .0) ∙ refused-at 11 (refused m q) q .1 (ap (λ (k : ℕ). refused k q) e))
-  rest-passes (refused m q) (inr e) w =
+  rest-passes end (refused m q) (inr e, l) w =
       none-some (sym (w .1 .0) ∙ refused-at 12 (refused m q) q .1 (ap (λ (k : ℕ). refused k q) e))
 
 module _ (forest : List ℕ) (room words : ℕ) where
@@ -232,7 +232,7 @@ module _ (forest : List ℕ) (room words : ℕ) where
   unfolding run unless
   call-passes h =
       let w = passes-split (checks forest) (late room (interning forest)) (h .1) in
-      let v = rest-passes room (interning forest) (root-limited forest) (w .1) in
+      let v = rest-passes room _ (interning forest) (root-limited forest) (w .1) in
       (w .0, (v .0, v .1, rw (h .0) (written-accepted (w .0) ∙ v .2)))
 
 -- ---- acceptance

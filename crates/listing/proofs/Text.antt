@@ -1,0 +1,90 @@
+-- The lister's text, over the output that the call left. In order: which text; where it stands; later words.
+-- Assumes nothing.
+use Prim.Native.Nat.{ℕ, _+_, _-_, _≤_}
+use mathlib.Core.Path.{_≡_, refl, sym, ap, _∙_}
+use mathlib.Core.Bool.{Bool, true, false}
+use mathlib.Core.List.{List, _++_}
+use native.Mathlib.Omega.{arith}
+use lib.Dec.{ltb}
+use lib.ListN.{length, getD, take, drop, replicate, length-replicate}
+use lib.Seq.{take-at, drop-at, getD-append-add, getD-drop}
+use Rattle.model.specs.Answer.{refused, good}
+use Rattle.model.specs.Answer as answer
+use Rattle.model.specs.Intern.{State}
+use Rattle.model.specs.Call.{Written, interned, run, outAfter, workAfter}
+use Rattle.model.specs.Lister.{linesOf, lister, symbolLines, refusalLine}
+use Rattle.writer.specs.Over.{over}
+use Rattle.writer.proofs.Over.{over-front}
+use Rattle.lines.specs.Lines.{Wrote}
+use Rattle.cse.proofs.Telling.{run-enough}
+use Rattle.listing.specs.Listing.{Listed}
+
+-- the call is lent 65,535 bytes and enough words
+module _ (bs out : List ℕ) (words : ℕ) (room : length out ≡ 65535) (enough : 16384 ≤ words) where
+  run-lent : run bs 65535 16384 ≡ run bs (length out) words
+  run-lent =
+      ap (λ (n : ℕ). run bs n 16384) (sym room) ∙ run-enough bs out 16384 (omega arith) ∙
+      sym (run-enough bs out words enough)
+
+  -- ---- which text
+
+  lister-of : (a : answer.Answer Written) → run bs (length out) words ≡ a → lister bs ≡ linesOf a (interned bs)
+  unfolding lister
+  lister-of a e = ap (λ (x : answer.Answer Written). linesOf x (interned bs)) (run-lent ∙ e)
+
+  lister-refused : (n p : ℕ) → run bs (length out) words ≡ refused n p → lister bs ≡ refusalLine n p
+  unfolding linesOf
+  lister-refused n p e = lister-of (refused n p) e
+
+  lister-good : (w : Written) (o : ℕ × State) → run bs (length out) words ≡ good w → interned bs ≡ good o →
+      lister bs ≡ symbolLines (o .1 .syms)
+  unfolding linesOf
+  lister-good w o e f = lister-of (good w) e ∙ ap (linesOf (good w)) f
+
+  -- ---- where it stands
+
+  -- over what the call left
+  module _ (mid out′ : List ℕ) (r : ℕ) (left : mid ≡ outAfter bs out words) (long : length mid ≡ length out) where
+    text-stands : (text : List ℕ) → lister bs ≡ text → r ≡ length text → r ≤ length mid → out′ ≡ over mid 0 text →
+        Listed bs out words out′ r
+    text-stands text is e l h =
+        let parts : out′ ≡ text ++ drop r mid = h ∙ over-front mid text ∙ ap (λ (k : ℕ). text ++ drop k mid) (sym e) in
+        record {
+          len = e ∙ ap length (sym is);
+          fits = omega arith;
+          text = ap (take r) parts ∙ take-at text (drop r mid) r (sym e) ∙ sym is;
+          rest = ap (drop r) parts ∙ drop-at text (drop r mid) r (sym e) ∙ ap (drop r) left;
+        }
+
+    pub refusal-listed : (n p : ℕ) → run bs (length out) words ≡ refused n p → r ≡ length (refusalLine n p) →
+        r ≤ length mid → out′ ≡ over mid 0 (refusalLine n p) → Listed bs out words out′ r
+    refusal-listed n p e = text-stands (refusalLine n p) (lister-refused n p e)
+
+    pub symbols-listed : (w : Written) (o : ℕ × State) → run bs (length out) words ≡ good w → interned bs ≡ good o →
+        Wrote mid 0 (symbolLines (o .1 .syms)) out′ r → Listed bs out words out′ r
+    symbols-listed w o e f h =
+        text-stands (symbolLines (o .1 .syms)) (lister-good w o e f) (omega (arith, h .ends)) (h .fits) (h .holds)
+
+-- ---- words past those that the call clears
+
+abbrev zeros : ℕ → List ℕ
+zeros n = replicate n 0
+
+past-zeros : (n : ℕ) (ws : List ℕ) (k : ℕ) → n ≤ k → getD (zeros n ++ drop n ws) k 0 ≡ getD ws k 0
+past-zeros n ws k h =
+    let long : length (zeros n) ≡ n = length-replicate n 0 in
+    let at : k ≡ length (zeros n) + (k - n) = omega (arith, long) in
+    let back : n + (k - n) ≡ k = omega arith in
+    ap (λ (i : ℕ). getD (zeros n ++ drop n ws) i 0) at
+    ∙ getD-append-add (zeros n) (drop n ws) (k - n) 0
+    ∙ getD-drop n ws (k - n) 0
+    ∙ ap (λ (i : ℕ). getD ws i 0) back
+
+pub later-kept : (ws : List ℕ) (k : ℕ) → 16384 ≤ k → getD (workAfter ws) k 0 ≡ getD ws k 0
+unfolding workAfter
+later-kept ws k h = go (ltb (length ws) 16384)
+  where
+    go : (b : Bool) →
+        getD (elim b [ true ↦ ws | false ↦ replicate 16384 0 ++ drop 16384 ws ]) k 0 ≡ getD ws k 0
+    go true = refl
+    go false = past-zeros 16384 ws k h
