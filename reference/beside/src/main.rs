@@ -9,6 +9,7 @@ const USAGE: &str = "\
 usage: beside compare KIND COUNT [SEED]   accepted forests of a kind through both
        beside damaged COUNT [SEED]        refused forests through both
        beside measure COUNT [SEED]        time of both, by class
+       beside growth                      time of both, as scripts grow
 A difference is printed with its forest, and the status is 1.";
 
 fn main() -> ExitCode {
@@ -41,6 +42,10 @@ fn run(words: &[&str]) -> Option<bool> {
         }
         ["measure", count, rest @ ..] if rest.len() < 2 => {
             measure::classes(count.parse().ok()?, seed(rest.first())?);
+            Some(true)
+        }
+        ["growth"] => {
+            measure::growth();
             Some(true)
         }
         _ => None,

@@ -7,8 +7,25 @@ use std::time::{Duration, Instant};
 use cse_library::{call, MAX_WRITTEN, WORK_WORDS};
 use cse_reference::check::accept;
 use cse_reference::cost::{nesting, MAX_NESTING};
+use cse_reference::forest::Forest;
 use cse_reference::generate::{accepted, Kind};
+use cse_reference::notation;
 use cse_reference::oracle::{answer, exprs, original};
+
+/// Scripts that grow in one way each, in the notation of document 01.
+const GROWING: [(&str, fn(usize) -> String, &[usize]); 3] = [
+    (
+        "records: a tuple of equal parts",
+        equal_parts,
+        &[15, 30, 60, 120, 240],
+    ),
+    ("thunks inside one another", nested, &[2, 6, 10, 14, 18]),
+    (
+        "tuples read twice, inside one another",
+        reread,
+        &[2, 4, 6, 8],
+    ),
+];
 
 const CLASSES: [Kind; 5] = [
     Kind::Small,
@@ -36,6 +53,43 @@ pub fn classes(count: u64, seed: u64) {
     println!("clearing 16,384 words alone: {:.2} µs", micros(clearing));
 }
 
+/// How the times grow.
+pub fn growth() {
+    println!("records, readings; original, main call in µs");
+    for (name, script, sizes) in GROWING {
+        println!("{name}");
+        for &size in sizes {
+            grown(&script(size));
+        }
+    }
+}
+
+fn equal_parts(count: usize) -> String {
+    format!("tuple({})", vec!["n(p(z,h))"; count / 4].join(","))
+}
+
+fn nested(count: usize) -> String {
+    (0..count).fold("p(z,z)".to_string(), |inner, _| format!("and(h,{inner})"))
+}
+
+fn reread(count: usize) -> String {
+    (0..count).fold("z".to_string(), |inner, _| format!("s1(tuple({inner},h))"))
+}
+
+fn grown(script: &str) {
+    let forest = notation::parse(script).expect("the script is in the notation");
+    let bytes = forest.to_bytes();
+    let (mut out, mut work) = (vec![0; MAX_WRITTEN], vec![0; WORK_WORDS]);
+    let numbers = call(&bytes, &mut out, &mut work);
+    let (their, our) = times(&forest, &bytes, &mut out, &mut work);
+    let (records, readings) = (forest.size(), numbers.readings);
+    println!(
+        "  {records}, {readings}; {:.1}, {:.1}",
+        micros(their),
+        micros(our)
+    );
+}
+
 fn class(kind: Kind, count: u64, seed: u64) {
     let (mut theirs, mut ours, mut ratios) = (Vec::new(), Vec::new(), Vec::new());
     let mut out = vec![0; MAX_WRITTEN];
@@ -49,19 +103,7 @@ fn class(kind: Kind, count: u64, seed: u64) {
         }
         let forest = accept(&bytes).expect("a forest with an answer is accepted");
         debug_assert!(forest.trees.iter().all(|tree| nesting(tree) <= MAX_NESTING));
-        let their = quickest(|| {
-            let (root, env) = exprs(&forest);
-            let start = Instant::now();
-            let tree = original(root, &env);
-            let time = start.elapsed();
-            black_box(tree);
-            time
-        });
-        let our = quickest(|| {
-            let start = Instant::now();
-            black_box(call(&bytes, &mut out, &mut work));
-            start.elapsed()
-        });
+        let (their, our) = times(&forest, &bytes, &mut out, &mut work);
         ratios.push(their.as_secs_f64() / our.as_secs_f64());
         theirs.push(micros(their));
         ours.push(micros(our));
@@ -81,6 +123,24 @@ fn class(kind: Kind, count: u64, seed: u64) {
         at(&ratios, 50),
         at(&ratios, 10),
     );
+}
+
+/// The original's time and the main call's.
+fn times(forest: &Forest, bytes: &[u8], out: &mut [u8], work: &mut [u32]) -> (Duration, Duration) {
+    let their = quickest(|| {
+        let (root, env) = exprs(forest);
+        let start = Instant::now();
+        let tree = original(root, &env);
+        let time = start.elapsed();
+        black_box(tree);
+        time
+    });
+    let our = quickest(|| {
+        let start = Instant::now();
+        black_box(call(bytes, out, work));
+        start.elapsed()
+    });
+    (their, our)
 }
 
 fn quickest(mut time: impl FnMut() -> Duration) -> Duration {
