@@ -11,7 +11,7 @@ fact that no longer holds. For each edit, in a temporary copy of the crates:
   (number and place), or it unfolds to something else. So the theorem is false there, however it were proved. (The same forests,
   under the definitions as they are, are written, accepted and unfold equally: the first thing that is checked.)
 - crate theory is refused. The first refused declaration is printed, with the beginning of what the checker says; it has to be
-  the one below. (Folder Bounds is passed over: the theorem does not need it.)
+  the one below. (Folder Bounds, and the laws of building that only code cites, are passed over: the theorem does not need them.)
 
 edit       the fact that fails, and why it is the theorem's
 hoist      define-built takes from `member` that a definition's symbol is of the scope that is written. Only then are the arguments
@@ -234,6 +234,20 @@ def replace(room, place, old, new, once):
         f.write(text.replace(old, new))
 
 
+def leave_out(folder, names):
+    """Removes modules of a folder."""
+    lib = os.path.join(folder, "Lib.antt")
+    with open(lib) as f:
+        text = f.read()
+    for name in names:
+        if text.count(f"pub mod {name}\n") != 1:
+            fail(f"{folder} has no module {name}")
+        os.remove(os.path.join(folder, name + ".antt"))
+        text = text.replace(f"pub mod {name}\n", "")
+    with open(lib, "w") as f:
+        f.write(text)
+
+
 def checked(edit, fates, crate):
     """Whether the checker proves a crate of a copy with the edit, and what it says."""
     with tempfile.TemporaryDirectory() as room:
@@ -242,12 +256,11 @@ def checked(edit, fates, crate):
         with open(os.path.join(room, "crates.txt"), "w") as f:
             f.write("model:\nlaws: model\ntheory: model laws\n")
         specs = os.path.join(room, "crates", "model", "specs")
-        # the table of examples would be refused before anything else
-        os.remove(os.path.join(specs, "Examples.antt"))
-        with open(os.path.join(specs, "Lib.antt")) as f:
-            lib = f.read().replace("pub mod Examples\n", "")
-        with open(os.path.join(specs, "Lib.antt"), "w") as f:
-            f.write(lib + "pub mod Counter\n")
+        # the table of examples, and laws that code cites and the theorem does not, would be refused before anything else
+        leave_out(specs, ["Examples"])
+        leave_out(os.path.join(room, "crates", "laws", "proofs"), ["Defining", "Blocks", "Building", "Numbering"])
+        with open(os.path.join(specs, "Lib.antt"), "a") as f:
+            f.write("pub mod Counter\n")
         with open(os.path.join(specs, "Counter.antt"), "w") as f:
             f.write(COUNTER + "".join(fates))
         for place, old, new in edit.edits if edit else []:

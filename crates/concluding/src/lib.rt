@@ -198,23 +198,12 @@ pub fn field(forest: &[u8], work: &mut [u32], st: State, i: usize, cur: usize, h
     general(forest, work, st, i, cur, held, 1, none)
 }
 
-fn given(st: State, symbol: u32) -> Step
-    ensures { λ r. ⌜ r ≡ given st symbol ⌝ }
-{
-    Step {
-        st,
-        symbol,
-        number: 0,
-        place: 0,
-    }
-}
-
 // The symbol of the last of `count` pending children. Rules out: that of a block's first definition; a new symbol.
 pub fn last(work: &[u32], st: State, held: usize, count: usize) -> Step
     requires { ⌜ (0 < count) × (held + count ≤ 256) × (8456 ≤ length (now work)) ⌝ }
     ensures { λ r. ⌜ r ≡ given st (last (pendingFrom (now (work .entry)) held count)) ⌝ }
 {
-    given(st, work[PENDING + held + count - 1])
+    interner::given(st, work[PENDING + held + count - 1])
 }
 
 // The symbol of the id that record i uses, among `top` bindings. Rules out: an older binding's; the id itself.
@@ -226,5 +215,5 @@ pub fn value_use(forest: &[u8], work: &[u32], st: State, i: usize, top: usize) -
 {
     let lit = record::literal(forest, i);
     let id = shape::id_at(lit, 0);
-    given(st, bindings::resolve(work, top, id))
+    interner::given(st, bindings::resolve(work, top, id))
 }

@@ -1,4 +1,4 @@
-// The graph in the work words: symbols and scopes, and tests of a symbol that hang on both.
+// The graph in the work words: symbols and scopes, tests of a symbol that hang on both, and which operands are thunks.
 use scopes::Rel;
 ghost use mathlib.Core.Path.{_≡_};
 ghost use Prim.Native.Nat.{_<_};

@@ -246,7 +246,7 @@ fn operands(
     let mut top = at.top;
     let mut j = 0;
     while j < count {
-        let thunk = small::thunked(op, j);
+        let thunk = graph::is_thunked(op, j);
         let next = k.next;
         let before = k.st;
         let r = child(

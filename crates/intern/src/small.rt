@@ -8,7 +8,6 @@ use interner::Step;
 ghost use mathlib.Core.Path.{_≡_};
 ghost use mathlib.Core.Bool.{true};
 ghost use Prim.Native.Nat.{_+_, _<_, _≤_};
-ghost use Rattle.model.specs.Intern.{thunked};
 ghost use Rattle.laws.specs.Range.{range};
 ghost use Rattle.intern.specs.Steps.{refusedRead, childAt, noted, unread, withChild, failed};
 
@@ -28,25 +27,6 @@ pub fn refused(st: State, number: u32, place: u32, next: usize) -> Read
         place,
     };
     Read { step, next }
-}
-
-// Whether operand j of an opcode is read in a thunk of its own.
-pub fn thunked(op: u8, j: usize) -> bool
-    ensures { λ r. ⌜ r ≡ thunked op j ⌝ }
-{
-    if op == 0x95 {
-        if j == 1 {
-            return true;
-        }
-        return j == 2;
-    }
-    if op == 0xED {
-        return j == 1;
-    }
-    if op == 0xEC {
-        return j == 1;
-    }
-    false
 }
 
 // Where child j is read, with `top` ids bound.

@@ -107,7 +107,8 @@ fn push(
     }
 }
 
-fn given(st: State, symbol: u32) -> Step
+// A symbol, and the state after it. Rules out: a refusal; another symbol.
+pub fn given(st: State, symbol: u32) -> Step
     ensures { λ r. ⌜ r ≡ given st symbol ⌝ }
 {
     Step {

@@ -15,7 +15,7 @@ use symbols::SLOTS;
 ghost use mathlib.Core.Path.{_≡_};
 ghost use mathlib.Core.List.{_∷_, []};
 ghost use Prim.Native.Nat.{ℕ, _+_, _<_, _≤_};
-ghost use lib.ListN.{length, getD, take, replicate};
+ghost use lib.ListN.{length, getD, take};
 ghost use Rattle.model.specs.Materialize.{buildValue, processScope};
 ghost use Rattle.key.specs.declared.Node.the-variants.{Lambda, Op};
 ghost use Rattle.key.specs.Key.{symbolAt};
@@ -34,12 +34,6 @@ fn wide8(x: u8) -> u32
     ensures { λ r. ⌜ r ≡ x ⌝ }
 {
     x as u32
-}
-
-fn no_order() -> [u16; 512]
-    ensures { λ r. ⌜ r ≡ replicate 512 0 ⌝ }
-{
-    [0u16; 512]
 }
 
 // ---- a symbol
@@ -247,7 +241,7 @@ fn define(
     if 256 < p.rows {
         return p;
     }
-    let mut order = no_order();
+    let mut order = schedule::zeros16();
     let count = schedule::schedule(forest, work, g, root, sc, &mut order);
     let k = planner::members(forest, work, g, &order, count, sc, map);
     if k == 0 {

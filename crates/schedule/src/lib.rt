@@ -62,7 +62,8 @@ fn zeros8() -> [u8; 512]
     [0u8; 512]
 }
 
-fn zeros16() -> [u16; 512]
+// An empty list of symbols. Rules out: a symbol that it holds before one is put there.
+pub fn zeros16() -> [u16; 512]
     ensures { λ r. ⌜ r ≡ replicate 512 0 ⌝ }
 {
     [0u16; 512]

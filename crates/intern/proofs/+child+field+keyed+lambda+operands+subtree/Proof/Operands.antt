@@ -14,7 +14,7 @@ use Rattle.intern.proofs.+child+field+keyed+lambda+operands+subtree.Lts
 use Rattle.bindings.proofs.bind_def.Reads as bind-def-reads
 use Rattle.intern.proofs.small.child_at.Reads as child-at-reads
 use Rattle.intern.proofs.small.failed.Reads as failed-reads
-use Rattle.intern.proofs.small.thunked.Reads as thunked-reads
+use Rattle.graph.proofs.is_thunked.Reads as thunked-reads
 use Rattle.intern.proofs.small.unread.Reads as unread-reads
 use Rattle.intern.proofs.small.with_child.Reads as with-child-reads
 use Rattle.intern.proofs.+child+field+keyed+lambda+operands+subtree.Proof.Measures.{child-below, operands-at}
@@ -82,7 +82,7 @@ operands-part t =
     let there = reading-there (now (a .forest)) (a .i) (a .count) (a .op) (a .at) (now (a .work)) _ few h₀ _ _ _ _
     (c5 .loop .inv) (c4 .loop-test .taken) in
     let child = reading-child (now (a .forest)) (a .i) (a .count) (a .op) (a .at) (now (a .work)) _ few h₀ _ _ _ _
-    (c5 .loop .inv) (c4 .loop-test .taken) _ (c3 .thunked .ensures) _ (c .child-at .ensures) in
+    (c5 .loop .inv) (c4 .loop-test .taken) _ (c3 .is-thunked .ensures) _ (c .child-at .ensures) in
     (omega (arith, c9 .pre .0, there, few, c5 .loop .inv .remains .onward), (p .0, (there, child))))
     (λ c κs. tt)
     (λ c. let c6 = c .before .before .before .before .before .before in
@@ -104,7 +104,7 @@ operands-part t =
     loop-reads (now (a .forest)) (a .i) (a .count) (a .op) (a .at) (now (a .work)) (a .st) few (p .1) _
     (c13 .unread .ensures) _ _
     (reading-refused (now (a .forest)) (a .i) (a .count) (a .op) (a .at) (now (a .work)) _ few h₀ _ _ _ _
-    (c12 .loop .inv) (c11 .loop-test .taken) _ (c10 .thunked .ensures) _ _ _ (c7 .child-at .ensures)
+    (c12 .loop .inv) (c11 .loop-test .taken) _ (c10 .is-thunked .ensures) _ _ _ (c7 .child-at .ensures)
     (c6 .child .ensures) _ (c .failed .ensures) (c1 .if1 .taken)))
     (λ c. let c5 = c .before .before .before .before .before in
     let c11 = c5 .before .before .before .before .before .before in
@@ -157,7 +157,7 @@ operands-part t =
     let h₀ = loop-operands (now (a .forest)) (a .i) (a .count) (a .op) (a .at) (now (a .work)) (a .st) few (p .1) _
     (c17 .unread .ensures) in
     reading-turn (now (a .forest)) (a .i) (a .count) (a .op) (a .at) (now (a .work)) _ few h₀ _ _ _ _ (c16 .loop .inv)
-    (c15 .loop-test .taken) _ (c14 .thunked .ensures) _ _ _ (c11 .child-at .ensures)
+    (c15 .loop-test .taken) _ (c14 .is-thunked .ensures) _ _ _ (c11 .child-at .ensures)
     (c10 .child .ensures) (c5 .if1 .left) _ _ (c3 .bind-def .ensures) _ (c .with-child .ensures))
     (λ c. c .before .loop .inv .remains .kept .words .long)
     (λ c. let c1 = c .before in

@@ -32,7 +32,7 @@ use Rattle.materialize.proofs.thunk.Reads as thunk
 use Rattle.materialize.proofs.thunk.Kinds as thunk-kinds
 use Rattle.materialize.proofs.+build+define+definition+definitions+fresh+lambda+operand+operands+thunk.Lts-thunk as thunk-lts
 use Rattle.key.proofs.load.Reads as load-reads
-use Rattle.materialize.proofs.no_order.Reads as no-order-reads
+use Rattle.schedule.proofs.zeros16.Reads as zeros16-reads
 use Rattle.materialize.proofs.wide8.Reads as wide8-reads
 use Rattle.planner.proofs.copied.Reads as copied-reads
 use Rattle.planner.proofs.member.Reads as member-reads
@@ -145,8 +145,8 @@ build-claims t =
 
 abbrev pub define-claims : ℕ → define-lts.Claims
 define-claims t = (
-  no-order-reads.Asked,
-  no-order-reads.Learnt,
+  zeros16-reads.Asked,
+  zeros16-reads.Learnt,
   schedule-reads.Asked,
   schedule-reads.Learnt,
   members-reads.Asked,

@@ -24,7 +24,7 @@ define-schedule-requires t c κs =
     let z = c2 .before .before .before .before .before .before in
     let b = z .pre .1 .1 .0 in
     let at = z .pre .1 .1 .1 .0 in
-    (z .pre .1 .0, (b .arena, ((at .low, z .pre .1 .1 .1 .1), ap length (c2 .no-order .ensures))))
+    (z .pre .1 .0, (b .arena, ((at .low, z .pre .1 .1 .1 .1), ap length (c2 .zeros16 .ensures))))
 
 pub define-members-requires : (t : ℕ) → define-lts.Need-members-requires (cycle.define-claims t) (cycle.define-at t)
     define.Post
@@ -41,7 +41,7 @@ define-members-requires t c κs =
           (
             c4 .schedule .ensures .fit,
             c4 .schedule .kept .1 .1 .1 .1 .1 .0 ∙ ap length
-                (c7 .no-order .ensures),
+                (c7 .zeros16 .ensures),
             at .long,
           ),
           λ k l. omega (arith, c4 .schedule .ensures .low k l, at .low),
@@ -124,7 +124,7 @@ define-definitions-requires t c κs =
               count = grew-few h;
             },
             (
-              (c13 .schedule .ensures .fit, c13 .schedule .kept .1 .1 .1 .1 .1 .0 ∙ ap length (c16 .no-order .ensures)),
+              (c13 .schedule .ensures .fit, c13 .schedule .kept .1 .1 .1 .1 .1 .0 ∙ ap length (c16 .zeros16 .ensures)),
               c13 .schedule .ensures .low,
             ),
           ),
