@@ -15,14 +15,14 @@ use lib.Seq.{getD-drop, drop-drop}
 use Rattle.model.specs.Bytes.{u32}
 use Rattle.model.specs.Shape.{Reader, aId, aType, aOpt, times, whole}
 use Rattle.model.specs.Binding.{optOf, argsOf}
-use Rattle.shape.specs.declared.Part.{Part}
-use Rattle.shape.specs.declared.Part.the-variants.{End, Broken}
+use Rattle.shape.specs.declared.parts.Part.{Part}
+use Rattle.shape.specs.declared.parts.Part.the-variants.{End, Broken}
 use Rattle.shape.specs.Part.{Reads}
 use Rattle.model.specs.Shape.{aArg}
 use Rattle.shape.specs.Args.{Left, argAt, nextArg, argPlace, ArgEnd}
-use Rattle.shape.proofs.Parts.{id-short, id-end, type-none, type-zero, type-short, type-end}
-use Rattle.shape.proofs.Parts.{opt-none, opt-absent, opt-type, opt-other}
-use Rattle.shape.proofs.Parts.{then-some, then-none, broken-is, whole-stands}
+use Rattle.shape.proofs.Part.{id-short, id-end, type-none, type-zero, type-short, type-end}
+use Rattle.shape.proofs.Part.{opt-none, opt-absent, opt-type, opt-other}
+use Rattle.shape.proofs.Part.{then-some, then-none, broken-is, whole-stands}
 
 -- ---- an id's bytes
 

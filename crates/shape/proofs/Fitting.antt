@@ -15,8 +15,8 @@ use Rattle.model.specs.Shape.{shapes, fits, whole, aId}
 use Rattle.shape.specs.Table.{shapeAt}
 use Rattle.model.specs.Shape.{aArg}
 use Rattle.shape.specs.Args.{Left}
-use Rattle.shape.proofs.Parts.{id-short, id-end, never, whole-stands, whole-ends, whole-byte}
-use Rattle.shape.proofs.Columns.{fits-none}
+use Rattle.shape.proofs.Part.{id-short, id-end, never, whole-stands, whole-ends, whole-byte}
+use Rattle.shape.proofs.Table.{fits-none}
 use Rattle.shape.proofs.Args.{stands-id}
 
 -- ---- the tests of `fits`

@@ -9,8 +9,8 @@ use mathlib.Core.List.{List}
 use lib.Dec.{eqb}
 use lib.ListN.{length, drop}
 use Rattle.model.specs.Shape.{Reader}
-use Rattle.shape.specs.declared.Part.{Part}
-use Rattle.shape.specs.declared.Part.the-variants.{End, Broken}
+use Rattle.shape.specs.declared.parts.Part.{Part}
+use Rattle.shape.specs.declared.parts.Part.the-variants.{End, Broken}
 
 -- what is left of a literal after a part
 abbrev pub rest : List ℕ → Part → Option (List ℕ)

@@ -1,9 +1,9 @@
--- The model's table of shapes by a shape's number, the forms that literals have in it, and the code's table.
+-- The model's table of shapes by a shape's number, the forms that literals have in it, and the code's rows.
 -- Assumes nothing.
 use Prim.Native.Nat.{ℕ}
 use mathlib.Core.Path.{_≡_}
 use mathlib.Core.Bool.{Bool, true, false}
-use mathlib.Core.List.{List, [], _∷_, map}
+use mathlib.Core.List.{List, [], _∷_}
 use lib.Dec.{leb}
 use lib.ListN.{length, getD}
 use Rattle.model.specs.Shape.{Reader, aEnd, aByte, aId, aType, aArg, _then_, times, aCounted, whole, bits}
@@ -41,16 +41,10 @@ rights =
 abbrev pub rightAt : ℕ → ℕ → List ℕ → Bool
 rightAt f = getD rights f (λ a bs. false)
 
--- the code's table is the model's, column by column
-pub record TableIs (t : List Limits) : Type 0 where
-  pub least : map (λ r. r .0) t ≡ map (λ r. r .least) shapes
-  pub most : map (λ r. r .1) t ≡ map (λ r. r .most) shapes
-  pub aux : map (λ r. r .2) t ≡ map (λ r. r .aux) shapes
-  pub right : map (λ r. rightAt (r .3)) t ≡ map (λ r. r .right) shapes
+-- a row of the code as one of the model
+abbrev pub allowed : Limits → Shape
+allowed r = record { least = r .0; most = r .1; aux = r .2; right = rightAt (r .3) }
 
 -- the code's row of a shape is the model's
 pub record LimitsOf (s : ℕ) (r : Limits) : Type 0 where
-  pub least : r .0 ≡ shapeAt s .least
-  pub most : r .1 ≡ shapeAt s .most
-  pub aux : r .2 ≡ shapeAt s .aux
-  pub right : rightAt (r .3) ≡ shapeAt s .right
+  pub is : allowed r ≡ shapeAt s

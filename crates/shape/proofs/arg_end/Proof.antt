@@ -2,7 +2,7 @@
 -- Assumes nothing.
 use borrow.Author.Needs.{needs}
 use native.Mathlib.Omega.{arith}
-use Rattle.shape.proofs.Parts.{end-is}
+use Rattle.shape.proofs.Part.{end-is}
 use Rattle.shape.proofs.Args.{opt-ends, stands-id, stands-opt}
 use Rattle.shape.proofs.arg_end.Statement.{statement}
 use Rattle.shape.proofs.arg_end.Tie as tie

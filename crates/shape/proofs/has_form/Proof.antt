@@ -4,8 +4,8 @@ use borrow.Author.Needs.{needs}
 use mathlib.Core.Path.{refl}
 use Rattle.model.specs.Shape.{whole}
 use Rattle.shape.specs.Table.{rights}
-use Rattle.shape.proofs.Parts.{whole-byte}
-use Rattle.shape.proofs.Columns.{at-form, form-ends, no-form}
+use Rattle.shape.proofs.Part.{whole-byte}
+use Rattle.shape.proofs.Table.{at-form, form-ends, no-form}
 use Rattle.shape.proofs.has_form.Statement.{statement}
 use Rattle.shape.proofs.has_form.Tie as tie
 

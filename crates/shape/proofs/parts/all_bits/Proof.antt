@@ -1,13 +1,13 @@
--- `shape::all_bits` meets its contract: the loop keeps that the bytes from `i` on are bits just when all are.
+-- `shape::parts::all_bits` meets its contract: the loop keeps that the bytes from `i` on are bits just when all are.
 -- Assumes nothing.
 use Prim.Native.Nat.{_≤_, _-_}
 use mathlib.Core.Path.{_≡_, refl}
 use native.Mathlib.Omega.{arith}
 use lib.ListN.{length, drop}
 use Rattle.model.specs.Shape.{bits}
-use Rattle.shape.proofs.Parts.{bits-more, bits-not, bits-all}
-use Rattle.shape.proofs.all_bits.Statement.{statement}
-use Rattle.shape.proofs.all_bits.Tie as tie
+use Rattle.shape.proofs.Part.{bits-more, bits-not, bits-all}
+use Rattle.shape.proofs.parts.all_bits.Statement.{statement}
+use Rattle.shape.proofs.parts.all_bits.Tie as tie
 
 abbrev Inv-loop : tie.InvT-loop
 Inv-loop lit i₀ i = (i ≤ length lit) × (bits (drop i lit) ≡ bits lit)

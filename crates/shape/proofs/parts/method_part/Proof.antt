@@ -1,9 +1,9 @@
--- `shape::method_part` meets its contract: one part after another.
+-- `shape::parts::method_part` meets its contract: one part after another.
 -- Assumes nothing.
 use borrow.Author.Needs.{needs}
-use Rattle.shape.proofs.Parts.{end-is, then-end, then-broken}
-use Rattle.shape.proofs.method_part.Statement.{statement}
-use Rattle.shape.proofs.method_part.Tie as tie
+use Rattle.shape.proofs.Part.{end-is, then-end, then-broken}
+use Rattle.shape.proofs.parts.method_part.Statement.{statement}
+use Rattle.shape.proofs.parts.method_part.Tie as tie
 
 returns : tie.Need-returns
 returns c =

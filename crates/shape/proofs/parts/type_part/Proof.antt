@@ -1,9 +1,9 @@
--- `shape::type_part` meets its contract.
+-- `shape::parts::type_part` meets its contract.
 -- Assumes nothing.
 use borrow.Author.Needs.{needs}
-use Rattle.shape.proofs.Parts.{type-none, type-zero, type-short, type-end}
-use Rattle.shape.proofs.type_part.Statement.{statement}
-use Rattle.shape.proofs.type_part.Tie as tie
+use Rattle.shape.proofs.Part.{type-none, type-zero, type-short, type-end}
+use Rattle.shape.proofs.parts.type_part.Statement.{statement}
+use Rattle.shape.proofs.parts.type_part.Tie as tie
 
 returns-3 : tie.Need-returns-3
 returns-3 c =

@@ -1,9 +1,9 @@
--- `shape::byte_part` meets its contract.
+-- `shape::parts::byte_part` meets its contract.
 -- Assumes nothing.
 use borrow.Author.Needs.{needs}
-use Rattle.shape.proofs.Parts.{byte-none, byte-end}
-use Rattle.shape.proofs.byte_part.Statement.{statement}
-use Rattle.shape.proofs.byte_part.Tie as tie
+use Rattle.shape.proofs.Part.{byte-none, byte-end}
+use Rattle.shape.proofs.parts.byte_part.Statement.{statement}
+use Rattle.shape.proofs.parts.byte_part.Tie as tie
 
 pub byte-part-spec : {M : Type 1} → statement M
 byte-part-spec =

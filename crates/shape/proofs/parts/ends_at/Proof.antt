@@ -1,10 +1,10 @@
--- `shape::ends_at` meets its contract.
+-- `shape::parts::ends_at` meets its contract.
 -- Assumes nothing.
 use borrow.Author.Needs.{needs}
 use mathlib.Core.Path.{sym, ap}
 use Rattle.shape.specs.Part.{endsAt}
-use Rattle.shape.proofs.ends_at.Statement.{statement}
-use Rattle.shape.proofs.ends_at.Tie as tie
+use Rattle.shape.proofs.parts.ends_at.Statement.{statement}
+use Rattle.shape.proofs.parts.ends_at.Tie as tie
 
 pub ends-at-spec : {M : Type 1} → statement M
 ends-at-spec =

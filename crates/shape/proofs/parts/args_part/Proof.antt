@@ -1,12 +1,12 @@
--- `shape::args_part` meets its contract: the loop keeps that what is left to read from `end` on gives the whole.
+-- `shape::parts::args_part` meets its contract: the loop keeps that what is left to read from `end` on gives the whole.
 -- Assumes nothing.
 use borrow.Author.Needs.{needs}
 use Prim.Native.Nat.{_-_}
 use native.Mathlib.Omega.{arith}
 use Rattle.model.specs.Shape.{aArg}
-use Rattle.shape.proofs.Parts.{Reading, reading-none, reading-more, reading-broken, reading-end}
-use Rattle.shape.proofs.args_part.Statement.{statement}
-use Rattle.shape.proofs.args_part.Tie as tie
+use Rattle.shape.proofs.Part.{Reading, reading-none, reading-more, reading-broken, reading-end}
+use Rattle.shape.proofs.parts.args_part.Statement.{statement}
+use Rattle.shape.proofs.parts.args_part.Tie as tie
 
 abbrev Inv-loop : tie.InvT-loop
 Inv-loop lit at n end₀ k₀ end k = Reading aArg lit at n k end

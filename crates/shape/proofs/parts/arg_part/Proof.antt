@@ -1,9 +1,9 @@
--- `shape::arg_part` meets its contract: one part after another.
+-- `shape::parts::arg_part` meets its contract: one part after another.
 -- Assumes nothing.
 use borrow.Author.Needs.{needs}
-use Rattle.shape.proofs.Parts.{end-is, then-end, then-broken}
-use Rattle.shape.proofs.arg_part.Statement.{statement}
-use Rattle.shape.proofs.arg_part.Tie as tie
+use Rattle.shape.proofs.Part.{end-is, then-end, then-broken}
+use Rattle.shape.proofs.parts.arg_part.Statement.{statement}
+use Rattle.shape.proofs.parts.arg_part.Tie as tie
 
 returns : tie.Need-returns
 returns c =

@@ -1,13 +1,13 @@
--- `shape::types_part` meets its contract: the loop keeps that what is left to read from `end` on gives the whole.
+-- `shape::parts::types_part` meets its contract: the loop keeps that what is left to read from `end` gives the whole.
 -- Assumes nothing.
 use borrow.Author.Needs.{needs}
 use Prim.Native.Nat.{_+_, _-_}
 use native.Mathlib.Omega.{arith}
 use Rattle.model.specs.Shape.{aType}
-use Rattle.shape.proofs.Parts.{Reading, reading-none, reading-more, reading-broken, reading-end}
-use Rattle.shape.proofs.Parts.{counted-none, counted}
-use Rattle.shape.proofs.types_part.Statement.{statement}
-use Rattle.shape.proofs.types_part.Tie as tie
+use Rattle.shape.proofs.Part.{Reading, reading-none, reading-more, reading-broken, reading-end}
+use Rattle.shape.proofs.Part.{counted-none, counted}
+use Rattle.shape.proofs.parts.types_part.Statement.{statement}
+use Rattle.shape.proofs.parts.types_part.Tie as tie
 
 abbrev Inv-loop : tie.InvT-loop
 Inv-loop lit at n end₀ k₀ end k = Reading aType lit (at + 1) n k end

@@ -14,8 +14,8 @@ use lib.Dec.{eqb, eqb·suc-suc}
 use lib.ListN.{length, getD, drop, length-drop, drop-of-length-le}
 use lib.Seq.{drop-cons, drop-drop}
 use Rattle.model.specs.Shape.{Reader, aByte, aId, aType, aOpt, _then_, times, aCounted, whole, bits}
-use Rattle.shape.specs.declared.Part.{Part}
-use Rattle.shape.specs.declared.Part.the-variants.{End, Broken}
+use Rattle.shape.specs.declared.parts.Part.{Part}
+use Rattle.shape.specs.declared.parts.Part.the-variants.{End, Broken}
 use Rattle.shape.specs.Part.{Within, Reads, endsAt}
 
 -- ---- the bytes from a place

@@ -1,9 +1,9 @@
--- `shape::id_part` meets its contract.
+-- `shape::parts::id_part` meets its contract.
 -- Assumes nothing.
 use borrow.Author.Needs.{needs}
-use Rattle.shape.proofs.Parts.{id-short, id-end}
-use Rattle.shape.proofs.id_part.Statement.{statement}
-use Rattle.shape.proofs.id_part.Tie as tie
+use Rattle.shape.proofs.Part.{id-short, id-end}
+use Rattle.shape.proofs.parts.id_part.Statement.{statement}
+use Rattle.shape.proofs.parts.id_part.Tie as tie
 
 pub id-part-spec : {M : Type 1} → statement M
 id-part-spec =

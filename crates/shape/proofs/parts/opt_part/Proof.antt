@@ -1,9 +1,9 @@
--- `shape::opt_part` meets its contract.
+-- `shape::parts::opt_part` meets its contract.
 -- Assumes nothing.
 use borrow.Author.Needs.{needs}
-use Rattle.shape.proofs.Parts.{opt-none, opt-absent, opt-type, opt-other}
-use Rattle.shape.proofs.opt_part.Statement.{statement}
-use Rattle.shape.proofs.opt_part.Tie as tie
+use Rattle.shape.proofs.Part.{opt-none, opt-absent, opt-type, opt-other}
+use Rattle.shape.proofs.parts.opt_part.Statement.{statement}
+use Rattle.shape.proofs.parts.opt_part.Tie as tie
 
 pub opt-part-spec : {M : Type 1} → statement M
 opt-part-spec =
