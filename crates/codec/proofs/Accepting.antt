@@ -1,11 +1,12 @@
 -- Checks in their order: the first that fails is the answer.
--- In order: a place that was found, or none; 2 to 6; 7 to 10; what an accepted forest has.
+-- In order: a place that was found, or none; 2 to 6; 7 to 10, one by one and at once; what an accepted forest has.
 -- Assumes nothing.
 use Prim.Native.Nat.{ℕ}
 use mathlib.Core.Path.{_≡_, sym, ap, _∙_}
 use mathlib.Core.Option.{Option, none, some}
 use mathlib.Core.List.{List}
 use Rattle.model.specs.Answer.{refused, good, unless, checked}
+use Rattle.model.specs.Lists.{first}
 use Rattle.model.specs.Tree.{Trees}
 use Rattle.model.specs.Forest.{treesOf, check2, check3, check4, check5, check6, check7}
 use Rattle.model.specs.Binding.{check8, check9, check10}
@@ -14,7 +15,10 @@ use Rattle.laws.proofs.Checks.{checked-good}
 use Rattle.record.specs.Record.{Laid}
 use Rattle.walk.specs.declared.Place.{Place}
 use Rattle.walk.specs.declared.Place.the-variants.{At, Nowhere}
+use Rattle.walk.specs.Faults.{start, faultsIn, test}
 use Rattle.walk.specs.Walk.{placeOf}
+use Rattle.walk.proofs.Checks.{check-7, check-8, check-9, check-10}
+use Rattle.walk.proofs.Any.{any-none}
 use Rattle.codec.specs.Codec.{Shaped}
 
 -- ---- a place, or none
@@ -86,6 +90,13 @@ module _ (bs : List ℕ) (h : Shaped bs) where
         pub accepted : check10 (treesOf bs) ≡ none → good (treesOf bs) ≡ accept bs
         unfolding unless
         accepted e = sym (after-6 ∙ rw (seven, eight, nine, e))
+
+  -- one walk that tests all four finds nothing
+  pub all-passed : first (faultsIn (test 0) (treesOf bs) start) ≡ none → good (treesOf bs) ≡ accept bs
+  all-passed e =
+      accepted (sym (check-7 bs) ∙ any-none 7 (treesOf bs) e) (sym (check-8 (treesOf bs)) ∙ any-none 8 (treesOf bs) e)
+      (sym (check-9 (treesOf bs)) ∙ any-none 9 (treesOf bs) e)
+      (sym (check-10 (treesOf bs)) ∙ any-none 10 (treesOf bs) e)
 
 -- ---- an accepted forest, for those who go on with one
 

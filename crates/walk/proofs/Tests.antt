@@ -1,4 +1,5 @@
--- The tests of one record. In order: what a record binds; a clash; 7, 8, 9 and 10; where a child stands.
+-- The tests of one record. In order: what a record binds; a clash; the tests by number; any of the four; 8, 9 and 10;
+-- where a child stands.
 -- Assumes nothing.
 use Prim.Native.Nat.{ℕ, zero, suc, _+_, _-_, _<_, _≤_}
 use mathlib.Core.Path.{_≡_, refl, sym, ap, _∙_}
@@ -14,7 +15,7 @@ use Rattle.model.specs.Tree.{Rec, Tree, node, nil, top}
 use Rattle.model.specs.Binding.{Kind, valUse, valDef, block, lambda, field, other, kind, idOf, argIds, inside}
 use Rattle.model.specs.Binding.{after}
 use Rattle.laws.proofs.Apart.{true-false}
-use Rattle.walk.specs.Faults.{Ctx, reboundAt, unboundAt, test}
+use Rattle.walk.specs.Faults.{Ctx, deepAt, misplacedAt, reboundAt, unboundAt, anyAt, test}
 use Rattle.walk.specs.declared.Context.{Context}
 use Rattle.walk.specs.Words.{idsOf, argIdsAt, clash, childOf}
 use Rattle.walk.proofs.Words.{ids-length}
@@ -109,11 +110,15 @@ clash-own ws top (suc m) (x ∷ more) e =
 -- ---- the tests
 
 module _ (n : ℕ) (c : Ctx) (r : Rec) where
-  pub test-7 : n ≡ 7 → ltb 64 (c .depth) ≡ test n c r
+  pub test-any : n ≡ 0 → anyAt c r ≡ test n c r
+  unfolding test
+  test-any e = rw e
+
+  pub test-7 : n ≡ 7 → deepAt c ≡ test n c r
   unfolding test
   test-7 e = rw e
 
-  pub test-8 : n ≡ 8 → not (Bool·beq (eqb (r .shape) 10) (c .def)) ≡ test n c r
+  pub test-8 : n ≡ 8 → misplacedAt r (c .def) ≡ test n c r
   unfolding test
   test-8 e = rw e
 
@@ -121,9 +126,30 @@ module _ (n : ℕ) (c : Ctx) (r : Rec) where
   unfolding test
   test-9 b f e = f ∙ rw e
 
-  pub test-10 : (b : Bool) → b ≡ unboundAt r (c .ids) → (n ≡ 7 → ⊥) → (n ≡ 8 → ⊥) → (n ≡ 9 → ⊥) → b ≡ test n c r
+  pub test-10 : (b : Bool) → b ≡ unboundAt r (c .ids) → (n ≡ 0 → ⊥) → (n ≡ 7 → ⊥) → (n ≡ 8 → ⊥) → (n ≡ 9 → ⊥) →
+      b ≡ test n c r
   unfolding test
-  test-10 b h e f g = h ∙ rw (test, ne-eqb n 7 e, ne-eqb n 8 f, ne-eqb n 9 g)
+  test-10 b h d e f g = h ∙ rw (test, ne-eqb n 0 d, ne-eqb n 7 e, ne-eqb n 8 f, ne-eqb n 9 g)
+
+-- any of the four
+module _ (c : Ctx) (r : Rec) where
+  pub any-deep : deepAt c ≡ true → true ≡ anyAt c r
+  unfolding anyAt
+  any-deep e = rw e
+
+  module _ (shallow : deepAt c ≡ false) where
+    pub any-misplaced : misplacedAt r (c .def) ≡ true → true ≡ anyAt c r
+    unfolding anyAt
+    any-misplaced e = rw (shallow, e)
+
+    module _ (placed : misplacedAt r (c .def) ≡ false) where
+      pub any-rebound : reboundAt r (c .ids) ≡ true → true ≡ anyAt c r
+      unfolding anyAt
+      any-rebound e = rw (shallow, placed, e)
+
+      pub any-unbound : (b : Bool) → b ≡ unboundAt r (c .ids) → reboundAt r (c .ids) ≡ false → b ≡ anyAt c r
+      unfolding anyAt
+      any-unbound b h e = h ∙ rw (shallow, placed, e)
 
 -- 8
 pub misplaced-def : (s : ℕ) (d : Bool) → s ≡ 10 → not d ≡ not (Bool·beq (eqb s 10) d)
@@ -139,6 +165,11 @@ misplaced-other s d h = rw (ne-eqb s 10 h) (go d)
     go : (d : Bool) → d ≡ not (Bool·beq false d)
     go true = refl
     go false = refl
+
+-- the answer for a record's shape is the record's
+pub misplaced-told : (s : ℕ) (r : Rec) (d m b : Bool) → m ≡ not (Bool·beq (eqb s 10) d) → s ≡ r .shape → m ≡ b →
+    misplacedAt r d ≡ b
+misplaced-told s r d m b e f g = ap (λ (z : ℕ). not (Bool·beq (eqb z 10) d)) (sym f) ∙ sym e ∙ g
 
 -- 9
 module _ (r : Rec) (ids : List ℕ) where

@@ -1,4 +1,5 @@
--- Checks 7 to 10 as one walk over trees with four tests: a test says of a record, where it stands, whether it offends.
+-- Checks 7 to 10 as one walk over trees with a test for each, and a test for all four: a test says of a record, where
+-- it stands, whether it offends.
 -- In order: what a tree binds; where a record stands; the walk; the tests.
 -- Assumes nothing.
 use Prim.Native.Nat.{ℕ, suc}
@@ -52,6 +53,14 @@ unfoldable mutual
 
 -- ---- the tests
 
+-- 7: too deep
+abbrev pub deepAt : Ctx → Bool
+deepAt c = ltb 64 (c .depth)
+
+-- 8: a definition where none has to stand, or another record where one has to
+abbrev pub misplacedAt : Rec → Bool → Bool
+misplacedAt r def = not (Bool·beq (eqb (r .shape) 10) def)
+
 -- 9: an id in force is bound, or one id twice
 abbrev pub reboundAt : Rec → List ℕ → Bool
 reboundAt r ids = anyIn (own (node r nil)) ids || twice (own (node r nil))
@@ -60,16 +69,23 @@ reboundAt r ids = anyIn (own (node r nil)) ids || twice (own (node r nil))
 abbrev pub unboundAt : Rec → List ℕ → Bool
 unboundAt r ids = eqb (r .shape) 7 && not (isIn (idOf r) ids)
 
--- by a check's number: 7, 8, 9 and, for any other, 10
+-- any of the four
+unfoldable pub anyAt : Ctx → Rec → Bool
+anyAt c r = deepAt c || misplacedAt r (c .def) || reboundAt r (c .ids) || unboundAt r (c .ids)
+
+-- by a check's number: 7, 8, 9 and, for any other, 10; 0: any of them
 unfoldable pub test : ℕ → Ctx → Rec → Bool
 test n c r =
-    elim (eqb n 7) [
-      | true ↦ ltb 64 (c .depth)
-      | false ↦ elim (eqb n 8) [
-        | true ↦ not (Bool·beq (eqb (r .shape) 10) (c .def))
-        | false ↦ elim (eqb n 9) [
-          | true ↦ reboundAt r (c .ids)
-          | false ↦ unboundAt r (c .ids)
+    elim (eqb n 0) [
+      | true ↦ anyAt c r
+      | false ↦ elim (eqb n 7) [
+        | true ↦ deepAt c
+        | false ↦ elim (eqb n 8) [
+          | true ↦ misplacedAt r (c .def)
+          | false ↦ elim (eqb n 9) [
+            | true ↦ reboundAt r (c .ids)
+            | false ↦ unboundAt r (c .ids)
+          ]
         ]
       ]
     ]

@@ -1,4 +1,4 @@
-// Checks 7 to 10: one walk over a forest's records, with a test for each check. A record is
+// Checks 7 to 10: one walk over a forest's records, with a test for each check, and one for all four. A record is
 // followed by its children's subtrees, in order: the walk of a subtree gives the record after it. The ids in force
 // stand in work words.
 // In order: ids in force; what a record binds; the tests; the walk.
@@ -14,9 +14,12 @@ ghost use Rattle.model.specs.Forest.{recordCount};
 ghost use Rattle.model.specs.Binding.{idOf, inside, after};
 ghost use Rattle.shape.specs.Args.{Left};
 ghost use Rattle.record.specs.Record.{Laid};
-ghost use Rattle.walk.specs.Faults.{reboundAt, unboundAt, test};
+ghost use Rattle.walk.specs.Faults.{reboundAt, unboundAt, anyAt, test};
 ghost use Rattle.walk.specs.Words.{idsOf, argIdsAt, clash, Bound, ctxOf, childOf};
 ghost use Rattle.walk.specs.Walk.{treesFrom, recAt, treeAt, Sound, Stands, Walked, WalkedIn, Checked};
+
+// In place of a check's number: any of the four.
+pub const ANY: u32 = 0;
 
 // Where a check fails, if it does.
 pub enum Place {
@@ -171,13 +174,38 @@ fn unbound(forest: &[u8], work: &[u32], i: usize, top: usize) -> bool
     false
 }
 
-// Whether record i fails a check, 7 to 10. Rules out: depth 64 for 7; a definition that is in force in its own value.
+// Whether record i fails any of checks 7 to 10.
+// Rules out: false of a record that fails 9 alone; true where the ids that it binds are new.
+fn offends_any(forest: &[u8], work: &[u32], i: usize, at: Context, end: usize) -> bool
+    requires { ⌜ Sound (now forest) ⌝ }
+    requires { ⌜ (i < recordCount (now forest)) × (at .top ≤ end) × (end ≤ length (now work)) ⌝ }
+    requires { ⌜ idsOf (now work) end ≡ inside (recAt (now forest) i) ++ idsOf (now work) (at .top) ⌝ }
+    ensures { λ r. ⌜ r ≡ anyAt (ctxOf (now (work .entry)) at) (recAt (now (forest .entry)) i) ⌝ }
+{
+    if 64 < at.depth {
+        return true;
+    }
+    if misplaced(record::shape(forest, i), at.def) {
+        return true;
+    }
+    let top = at.top;
+    if rebound(forest, work, i, top, end) {
+        return true;
+    }
+    unbound(forest, work, i, top)
+}
+
+// Whether record i fails a check, 7 to 10, or any of them where the number is ANY.
+// Rules out: depth 64 for 7; a definition that is in force in its own value.
 fn offends(forest: &[u8], work: &[u32], number: u32, i: usize, at: Context, end: usize) -> bool
     requires { ⌜ Sound (now forest) ⌝ }
     requires { ⌜ (i < recordCount (now forest)) × (at .top ≤ end) × (end ≤ length (now work)) ⌝ }
     requires { ⌜ idsOf (now work) end ≡ inside (recAt (now forest) i) ++ idsOf (now work) (at .top) ⌝ }
     ensures { λ r. ⌜ r ≡ test number (ctxOf (now (work .entry)) at) (recAt (now (forest .entry)) i) ⌝ }
 {
+    if number == ANY {
+        return offends_any(forest, work, i, at, end);
+    }
     if number == 7 {
         return 64 < at.depth;
     }
@@ -262,7 +290,8 @@ pub fn subtrees(
     Walk::Next(j)
 }
 
-// Check 7, 8, 9 or 10 of a forest, by its number.
+// Check 7, 8, 9 or 10 of a forest, by its number, or all four at once where the number is ANY: then a place says only
+// that one of them fails.
 // Rules out: the place counted in one tree and not in the forest; a check of the first tree only.
 pub fn trees(forest: &[u8], work: &mut [u32], number: u32) -> Place
     requires { ⌜ Sound (now forest) ⌝ }
