@@ -12,6 +12,7 @@ use Rattle.model.specs.Tree.{Rec}
 use Rattle.model.specs.Binding.{idOf}
 use Rattle.model.specs.Answer.{good}
 use Rattle.symbols.specs.Words.{wordsFrom, pendingFrom}
+use Rattle.tables.specs.declared.Tables.{Tables}
 use Rattle.interner.specs.declared.State.{State}
 use Rattle.interner.specs.declared.Step.{Step}
 use Rattle.interner.specs.State.{absOf, Rep}
@@ -46,8 +47,8 @@ use-id r lit id e f = e ∙ ap u32 f
 
 -- ---- such a symbol as an answer
 
-pub given-answers : (bs ws : List ℕ) (st : State) (s : ℕ) (r : Step) → Rep bs ws st → s < st .symbols → r ≡ given st s →
-    Answers bs ws st (good (s, absOf bs ws st)) ws r
-given-answers bs ws st s r rep low e =
-    subst (Answers bs ws st (good (s, absOf bs ws st)) ws) (sym e)
-    (record { rep = rep; leaves = leaves-none ws st; low = low; is = out-given bs ws st s })
+pub given-answers : (bs ws : List ℕ) (t : Tables) (st : State) (s : ℕ) (r : Step) → Rep bs ws st → s < st .symbols →
+    r ≡ given st s → Answers bs ws t st (good (s, absOf bs ws t st)) ws r
+given-answers bs ws t st s r rep low e =
+    subst (Answers bs ws t st (good (s, absOf bs ws t st)) ws) (sym e)
+    (record { rep = rep; leaves = leaves-none ws st; low = low; is = out-given bs ws t st s })

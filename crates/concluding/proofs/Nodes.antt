@@ -22,6 +22,7 @@ use Rattle.key.specs.declared.Node.the-variants.{Const, Unparsed, Lambda, Op}
 use Rattle.key.specs.Key.{choose, partsOf}
 use Rattle.symbols.specs.Words.{pendingFrom}
 use Rattle.symbols.specs.Symbols.{keyRec}
+use Rattle.tables.specs.declared.Tables.{Tables}
 use Rattle.interner.specs.declared.State.{State}
 use Rattle.interner.specs.declared.Step.{Step}
 use Rattle.interner.specs.State.{absOf, Rep, Sourced}
@@ -93,14 +94,14 @@ module _ (bs ws : List ℕ) (st : State) (i cur inner held count : ℕ)
 
 -- ---- a node that is no lambda
 
-module _ (bs ws : List ℕ) (st : State) (i cur held count : ℕ) (b : Branches) where
+module _ (bs ws : List ℕ) (t : Tables) (st : State) (i cur held count : ℕ) (b : Branches) where
   abbrev shapeOf : ℕ
   shapeOf = rowAt bs i .rec .shape
 
   abbrev generalOf : Out
   generalOf =
       finish i cur (rowAt bs i .rec) (pendingFrom ws held count) [] (nodeOf (rowAt bs i .rec) (branchesOf b))
-      (absOf bs ws st)
+      (absOf bs ws t st)
 
   pub general-ready : (node : Node) → node ≡ generalNode shapeOf i b → Sound bs →
       Concludes bs ws st i cur cur held count → Branched b → Ready bs ws st cur node held count
@@ -127,26 +128,26 @@ module _ (bs ws : List ℕ) (st : State) (i cur held count : ℕ) (b : Branches)
         forced = h .forced;
       }))
 
-  general-is : finishOf bs ws st cur (generalNode shapeOf i b) held count ≡ generalOf
+  general-is : finishOf bs ws t st cur (generalNode shapeOf i b) held count ≡ generalOf
   unfolding keyRec nodeOf
   general-is =
-      node-cases shapeOf i b (λ n. finishOf bs ws st cur n held count ≡ generalOf)
+      node-cases shapeOf i b (λ n. finishOf bs ws t st cur n held count ≡ generalOf)
       (λ e. rw (eq-eqb shapeOf 0 e, nodeOf))
       (λ n e. rw (ne-eqb shapeOf 0 n, eq-eqb shapeOf 1 e, nodeOf))
       (λ n m. rw (ne-eqb shapeOf 0 n, ne-eqb shapeOf 1 m, nodeOf))
 
   pub general-answers : (node : Node) (ws′ : List ℕ) (r : Step) → node ≡ generalNode shapeOf i b →
-      Answers bs ws st (finishOf bs ws st cur node held count) ws′ r → Answers bs ws st generalOf ws′ r
+      Answers bs ws t st (finishOf bs ws t st cur node held count) ws′ r → Answers bs ws t st generalOf ws′ r
   general-answers node ws′ r e a = record {
     rep = a .rep;
     leaves = a .leaves;
     low = a .low;
-    is = a .is ∙ (ap (λ (n : Node). finishOf bs ws st cur n held count) e ∙ general-is);
+    is = a .is ∙ (ap (λ (n : Node). finishOf bs ws t st cur n held count) e ∙ general-is);
   }
 
 -- ---- a lambda
 
-module _ (bs ws : List ℕ) (st : State) (i cur held first body : ℕ) where
+module _ (bs ws : List ℕ) (t : Tables) (st : State) (i cur held first body : ℕ) where
   abbrev lambdaNode : Node
   lambdaNode = Lambda (record { source = i; first = first; body = body })
 
@@ -156,7 +157,7 @@ module _ (bs ws : List ℕ) (st : State) (i cur held first body : ℕ) where
   abbrev lambdaOf : Out
   lambdaOf =
       finish i cur (rowAt bs i .rec) (pendingFrom ws held 1) ownArgs
-      (func (withOpts (argsOf (rowAt bs i .rec .aux) (rowAt bs i .rec .lit)) ownArgs) body) (absOf bs ws st)
+      (func (withOpts (argsOf (rowAt bs i .rec .aux) (rowAt bs i .rec .lit)) ownArgs) body) (absOf bs ws t st)
 
   pub lambda-ready : Rep bs ws st → Concludes bs ws st i cur body held 1 → rowAt bs i .rec .shape ≡ 12 →
       first < 4096 → BodyOf ws (st .scopes) cur body ownArgs → Ready bs ws st cur lambdaNode held 1
@@ -168,6 +169,6 @@ module _ (bs ws : List ℕ) (st : State) (i cur held first body : ℕ) where
   }
 
   pub lambda-answers : (ws′ : List ℕ) (r : Step) →
-      Answers bs ws st (finishOf bs ws st cur lambdaNode held 1) ws′ r → Answers bs ws st lambdaOf ws′ r
+      Answers bs ws t st (finishOf bs ws t st cur lambdaNode held 1) ws′ r → Answers bs ws t st lambdaOf ws′ r
   unfolding keyRec
   lambda-answers ws′ r a = record { rep = a .rep; leaves = a .leaves; low = a .low; is = a .is }

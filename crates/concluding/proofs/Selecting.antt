@@ -25,6 +25,7 @@ use Rattle.symbols.specs.Words.{wordsFrom, pendingFrom}
 use Rattle.symbols.specs.Symbols.{symsOf}
 use Rattle.symbols.proofs.Laws.{rec-at}
 use Rattle.symbols.proofs.Same.{key-shape}
+use Rattle.tables.specs.declared.Tables.{Tables}
 use Rattle.interner.specs.declared.State.{State}
 use Rattle.interner.specs.declared.Step.{Step}
 use Rattle.interner.specs.State.{absOf, Rep}
@@ -116,7 +117,7 @@ node-field : (r : Rec) → r .shape ≡ 17 → nodeOf r [] ≡ operation []
 unfolding nodeOf
 node-field r e = rw (ne-eqb (r .shape) 0 (λ z. omega arith), ne-eqb (r .shape) 1 (λ z. omega arith), nodeOf)
 
-module _ (bs ws : List ℕ) (st : State) (i cur held : ℕ) where
+module _ (bs ws : List ℕ) (t : Tables) (st : State) (i cur held : ℕ) where
   abbrev input : ℕ
   input = getD ws (8200 + held) 0
 
@@ -125,14 +126,14 @@ module _ (bs ws : List ℕ) (st : State) (i cur held : ℕ) where
 
   module _ (env : Env) (kids : Kids) where
     abbrev fieldOf : Out
-    fieldOf = internField i cur (rowAt bs i .rec) env kids (pendingFrom ws held 1) (absOf bs ws st)
+    fieldOf = internField i cur (rowAt bs i .rec) env kids (pendingFrom ws held 1) (absOf bs ws t st)
 
     abbrev byTests : Bool → Bool → Out
-    byTests t u = elim t [
-      | false ↦ finish i cur (rowAt bs i .rec) (pendingFrom ws held 1) [] (operation []) (absOf bs ws st)
+    byTests p u = elim p [
+      | false ↦ finish i cur (rowAt bs i .rec) (pendingFrom ws held 1) [] (operation []) (absOf bs ws t st)
       | true ↦ elim u [
-        | false ↦ pairProjection i cur (rowAt bs i .rec) (fieldAt bs i) input (absOf bs ws st)
-        | true ↦ internGeneral i cur (rowAt bs i .rec) (kids cur env (absOf bs ws st))
+        | false ↦ pairProjection i cur (rowAt bs i .rec) (fieldAt bs i) input (absOf bs ws t st)
+        | true ↦ internGeneral i cur (rowAt bs i .rec) (kids cur env (absOf bs ws t st))
       ]
     ]
 
@@ -142,48 +143,48 @@ module _ (bs ws : List ℕ) (st : State) (i cur held : ℕ) where
 
     -- the input read again: "Of a Tuple, the input is read a second time"
     pub field-again : readsAgain bs ws (st .symbols) i held ≡ true →
-        fieldOf ≡ internGeneral i cur (rowAt bs i .rec) (kids cur env (absOf bs ws st))
+        fieldOf ≡ internGeneral i cur (rowAt bs i .rec) (kids cur env (absOf bs ws t st))
     unfolding readsAgain
     field-again e = field-tests ∙ go (ofPair (fieldAt bs i)) isTuple e
       where
-        go : (t u : Bool) → t && u ≡ true → byTests t u ≡ byTests true true
+        go : (p u : Bool) → p && u ≡ true → byTests p u ≡ byTests true true
         go true true h = refl
         go true false h = let z : _≡_ {A = ℕ} 0 1 = cc in absurd (omega arith)
         go false u h = let z : _≡_ {A = ℕ} 0 1 = cc in absurd (omega arith)
 
-    answers-by : (o : Out) → fieldOf ≡ o → (ws′ : List ℕ) (r : Step) → Answers bs ws st o ws′ r →
-        Answers bs ws st fieldOf ws′ r
+    answers-by : (o : Out) → fieldOf ≡ o → (ws′ : List ℕ) (r : Step) → Answers bs ws t st o ws′ r →
+        Answers bs ws t st fieldOf ws′ r
     answers-by o e ws′ r a = record { rep = a .rep; leaves = a .leaves; low = a .low; is = a .is ∙ sym e }
 
-    module _ (f : ℕ) (is : f ≡ fieldAt bs i) (t : Bool) (told : t ≡ ofPair f) where
-      told-here : ofPair (fieldAt bs i) ≡ t
+    module _ (f : ℕ) (is : f ≡ fieldAt bs i) (pair : Bool) (told : pair ≡ ofPair f) where
+      told-here : ofPair (fieldAt bs i) ≡ pair
       told-here = ap ofPair (sym is) ∙ sym told
 
-      pub pair-answers : readsAgain bs ws (st .symbols) i held ≡ false → t ≡ true → (ws′ : List ℕ) (r : Step) →
-          Answers bs ws st (pairProjection i cur (rowAt bs i .rec) f input (absOf bs ws st)) ws′ r →
-          Answers bs ws st fieldOf ws′ r
+      pub pair-answers : readsAgain bs ws (st .symbols) i held ≡ false → pair ≡ true → (ws′ : List ℕ) (r : Step) →
+          Answers bs ws t st (pairProjection i cur (rowAt bs i .rec) f input (absOf bs ws t st)) ws′ r →
+          Answers bs ws t st fieldOf ws′ r
       unfolding readsAgain
       pair-answers once e =
-          answers-by (pairProjection i cur (rowAt bs i .rec) f input (absOf bs ws st))
+          answers-by (pairProjection i cur (rowAt bs i .rec) f input (absOf bs ws t st))
           (field-tests
           ∙ go (ofPair (fieldAt bs i)) isTuple once (told-here ∙ e)
-          ∙ ap (λ (z : ℕ). pairProjection i cur (rowAt bs i .rec) z input (absOf bs ws st)) (sym is))
+          ∙ ap (λ (z : ℕ). pairProjection i cur (rowAt bs i .rec) z input (absOf bs ws t st)) (sym is))
         where
           go : (u v : Bool) → u && v ≡ false → u ≡ true → byTests u v ≡ byTests true false
           go true false h g = refl
           go true true h g = let z : _≡_ {A = ℕ} 0 1 = cc in absurd (omega arith)
           go false v h g = let z : _≡_ {A = ℕ} 0 1 = cc in absurd (omega arith)
 
-      pub other-answers : rowAt bs i .rec .shape ≡ 17 → t ≡ false → (ws′ : List ℕ) (r : Step) →
-          Answers bs ws st
-          (finish i cur (rowAt bs i .rec) (pendingFrom ws held 1) [] (nodeOf (rowAt bs i .rec) []) (absOf bs ws st))
-          ws′ r → Answers bs ws st fieldOf ws′ r
+      pub other-answers : rowAt bs i .rec .shape ≡ 17 → pair ≡ false → (ws′ : List ℕ) (r : Step) →
+          Answers bs ws t st
+          (finish i cur (rowAt bs i .rec) (pendingFrom ws held 1) [] (nodeOf (rowAt bs i .rec) []) (absOf bs ws t st))
+          ws′ r → Answers bs ws t st fieldOf ws′ r
       other-answers shape e =
           answers-by
-          (finish i cur (rowAt bs i .rec) (pendingFrom ws held 1) [] (nodeOf (rowAt bs i .rec) []) (absOf bs ws st))
+          (finish i cur (rowAt bs i .rec) (pendingFrom ws held 1) [] (nodeOf (rowAt bs i .rec) []) (absOf bs ws t st))
           (field-tests
           ∙ ap (λ (u : Bool). byTests u isTuple) (told-here ∙ e)
-          ∙ ap (λ n. finish i cur (rowAt bs i .rec) (pendingFrom ws held 1) [] n (absOf bs ws st))
+          ∙ ap (λ n. finish i cur (rowAt bs i .rec) (pendingFrom ws held 1) [] n (absOf bs ws t st))
           (sym (node-field (rowAt bs i .rec) shape)))
 
 pub no-branches : Branched (record { count = 0; first = 0; second = 0 })

@@ -7,6 +7,7 @@ use key::Leaf;
 use key::Node;
 use key::Operation;
 use symbols::PENDING;
+use tables::Tables;
 ghost use mathlib.Core.Path.{_≡_};
 ghost use mathlib.Core.Bool.{false, _||_};
 ghost use mathlib.Core.List.{[]};
@@ -20,6 +21,7 @@ ghost use Rattle.model.specs.Intern.{finish, nodeOf, func, withOpts, internFiel
 ghost use Rattle.laws.specs.Range.{range};
 ghost use Rattle.record.specs.Record.{Laid, rowAt};
 ghost use Rattle.walk.specs.Walk.{Sound};
+ghost use Rattle.tables.specs.Tables.{Open};
 ghost use Rattle.symbols.specs.Words.{pendingFrom};
 ghost use Rattle.symbols.specs.Symbols.{symsOf};
 ghost use Rattle.bindings.specs.Bindings.{envOf};
@@ -63,6 +65,7 @@ fn node_for(forest: &[u8], i: usize, b: Branches) -> Node
 pub fn general(
     forest: &[u8],
     work: &mut [u32],
+    t: Tables,
     st: State,
     i: usize,
     cur: usize,
@@ -72,16 +75,17 @@ pub fn general(
 ) -> Step
     requires { ⌜ Sound (now forest) ⌝ }
     requires { ⌜ Rep (now forest) (now work) st ⌝ }
+    requires { ⌜ Open t (st .entries) ⌝ }
     requires { ⌜ Concludes (now forest) (now work) st i cur cur held count ⌝ }
     requires { ⌜ Branched b ⌝ }
     ensures { λ r.
-        ⌜ Answers (now (forest .entry)) (now (work .entry)) st
+        ⌜ Answers (now (forest .entry)) (now (work .entry)) t st
         (finish i cur (rowAt (now (forest .entry)) i .rec) (pendingFrom (now (work .entry)) held count) []
         (nodeOf (rowAt (now (forest .entry)) i .rec) (branchesOf b))
-        (absOf (now (forest .entry)) (now (work .entry)) st)) (now (work .exit)) r ⌝ }
+        (absOf (now (forest .entry)) (now (work .entry)) t st)) (now (work .exit)) r ⌝ }
 {
     let node = node_for(forest, i, b);
-    interner::finish(forest, work, st, cur, node, held, count)
+    interner::finish(forest, work, t, st, cur, node, held, count)
 }
 
 // The symbol of the lambda of record i, whose arguments are the symbols from `first` on, and whose body was read in
@@ -89,6 +93,7 @@ pub fn general(
 pub fn lambda(
     forest: &[u8],
     work: &mut [u32],
+    t: Tables,
     st: State,
     i: usize,
     cur: usize,
@@ -98,23 +103,24 @@ pub fn lambda(
 ) -> Step
     requires { ⌜ Sound (now forest) ⌝ }
     requires { ⌜ Rep (now forest) (now work) st ⌝ }
+    requires { ⌜ Open t (st .entries) ⌝ }
     requires { ⌜ Concludes (now forest) (now work) st i cur body held 1 ⌝ }
     requires { ⌜ (rowAt (now forest) i .rec .shape ≡ 12) × (first < 4096) ⌝ }
     requires { ⌜ BodyOf (now work) (st .scopes) cur body (range first (rowAt (now forest) i .rec .aux)) ⌝ }
     ensures { λ r.
-        ⌜ Answers (now (forest .entry)) (now (work .entry)) st
+        ⌜ Answers (now (forest .entry)) (now (work .entry)) t st
         (finish i cur (rowAt (now (forest .entry)) i .rec) (pendingFrom (now (work .entry)) held 1)
         (range first (rowAt (now (forest .entry)) i .rec .aux))
         (func (withOpts (argsOf (rowAt (now (forest .entry)) i .rec .aux) (rowAt (now (forest .entry)) i .rec .lit))
         (range first (rowAt (now (forest .entry)) i .rec .aux))) body)
-        (absOf (now (forest .entry)) (now (work .entry)) st)) (now (work .exit)) r ⌝ }
+        (absOf (now (forest .entry)) (now (work .entry)) t st)) (now (work .exit)) r ⌝ }
 {
     let node = Node::Lambda(Func {
         source: i as u32,
         first,
         body: body as u32,
     });
-    interner::finish(forest, work, st, cur, node, held, 1)
+    interner::finish(forest, work, t, st, cur, node, held, 1)
 }
 
 fn wide(x: u8) -> u32
@@ -176,26 +182,35 @@ pub fn reads_again(forest: &[u8], work: &[u32], i: usize, held: usize) -> bool
 
 // The symbol of the SelectField of record i, whose input is not read again. Rules out: field 1 of a pair made without
 // field 2; the other field.
-pub fn field(forest: &[u8], work: &mut [u32], st: State, i: usize, cur: usize, held: usize) -> Step
+pub fn field(
+    forest: &[u8],
+    work: &mut [u32],
+    t: Tables,
+    st: State,
+    i: usize,
+    cur: usize,
+    held: usize,
+) -> Step
     requires { ⌜ Sound (now forest) ⌝ }
     requires { ⌜ Rep (now forest) (now work) st ⌝ }
+    requires { ⌜ Open t (st .entries) ⌝ }
     requires { ⌜ Selects (now forest) (now work) st i cur held ⌝ }
     requires { ⌜ readsAgain (now forest) (now work) (st .symbols) i held ≡ false ⌝ }
     ensures { λ r.
-        ⌜ ((env : Env) (kids : Kids) → Answers (now (forest .entry)) (now (work .entry)) st
+        ⌜ ((env : Env) (kids : Kids) → Answers (now (forest .entry)) (now (work .entry)) t st
         (internField i cur (rowAt (now (forest .entry)) i .rec) env kids (pendingFrom (now (work .entry)) held 1)
-        (absOf (now (forest .entry)) (now (work .entry)) st)) (now (work .exit)) r) ⌝ }
+        (absOf (now (forest .entry)) (now (work .entry)) t st)) (now (work .exit)) r) ⌝ }
 {
     let f = field_of(forest, i);
     if of_pair(f) {
-        return interner::pair_projection(forest, work, st, cur, i as u32, f, held);
+        return interner::pair_projection(forest, work, t, st, cur, i as u32, f, held);
     }
     let none = Branches {
         count: 0,
         first: 0,
         second: 0,
     };
-    general(forest, work, st, i, cur, held, 1, none)
+    general(forest, work, t, st, i, cur, held, 1, none)
 }
 
 // The symbol of the last of `count` pending children. Rules out: that of a block's first definition; a new symbol.

@@ -44,6 +44,7 @@ use Rattle.scopes.specs.Scopes.{scopesOf}
 use Rattle.scopes.proofs.Laws.{scopes-length}
 use Rattle.scopes.proofs.Open.{nested-kept}
 use Rattle.interner.specs.declared.State.{State}
+use Rattle.tables.specs.Tables.{first}
 use Rattle.interner.specs.State.{absOf, Sourced, Rep}
 use Rattle.gate.specs.Gate.{Stored}
 use Rattle.graph.specs.Graph.{Arena}
@@ -130,9 +131,9 @@ module _ (bs ws : List ℕ) (st : State) (rep : Rep bs ws st) where
 
   -- ---- building
 
-  module _ (root : ℕ) (accepted : accept bs ≡ good (treesOf bs)) (is : interned bs ≡ good (root, absOf bs ws st)) where
-    leaves : Leaves Any (root, absOf bs ws st)
-    leaves = forest-sound bs (treesOf bs) accepted (root, absOf bs ws st) is
+  module _ (root : ℕ) (accepted : accept bs ≡ good (treesOf bs)) (is : interned bs ≡ good (root, absOf bs ws first st)) where
+    leaves : Leaves Any (root, absOf bs ws first st)
+    leaves = forest-sound bs (treesOf bs) accepted (root, absOf bs ws first st) is
 
     pub root-low : root < st .symbols
     root-low = omega (arith, leaves .root-low, syms-length bs ws (st .symbols))

@@ -14,6 +14,7 @@ use Rattle.symbols.proofs.Laws.{syms-agree}
 use Rattle.scopes.specs.Scopes.{scopesOf}
 use Rattle.scopes.proofs.Open.{scopes-kept}
 use Rattle.interner.specs.declared.State.{State}
+use Rattle.tables.specs.Tables.{first}
 use Rattle.interner.specs.State.{absOf, Rep}
 use Rattle.gate.specs.Gate.{Reached}
 use Rattle.graph.specs.declared.Graph.{Graph}
@@ -49,7 +50,7 @@ module _ (bs ws : List ℕ) (st : State) (rep : Rep bs ws st) (root : ℕ) (ws�
   module _ (ws₂ : List ℕ) (r : Plan) (long : 7944 ≤ length ws₂)
       (grown : Materialized bs ws₁ graph root ws₂ r) where
     tree-same : materialize (symsOf bs ws₁ (st .symbols)) (scopesOf ws₁ (st .scopes)) root
-        ≡ treeOf (root, absOf bs ws st)
+        ≡ treeOf (root, absOf bs ws first st)
     unfolding treeOf
     tree-same = rw (syms-same, scopes-same)
 
@@ -61,10 +62,10 @@ module _ (bs ws : List ℕ) (st : State) (rep : Rep bs ws st) (root : ℕ) (ws�
       deepest = λ l. omega (arith, g .deepest l);
     }
 
-    pub planned-tree : Planned bs ws ws₂ (root, absOf bs ws st) r
+    pub planned-tree : Planned bs ws ws₂ (root, absOf bs ws first st) r
     unfolding planFrom
     planned-tree = record {
-      tree = tree-planned (treeOf (root, absOf bs ws st))
+      tree = tree-planned (treeOf (root, absOf bs ws first st))
           (subst (λ (t : Tree). Grown bs ws₁ (record { rows = 0; deepest = 0 }) 0 t ws₂ r) tree-same grown);
       ready = record { words = long; writable = λ l. grown .writable l tt };
       unused = λ k l. grown .kept .after k (omega arith) ∙ reached .kept .after k (omega arith);

@@ -23,6 +23,7 @@ use Rattle.writer.specs.Over.{over}
 use Rattle.serialise.specs.Serialise as plan
 use Rattle.planner.specs.declared.Plan.{Plan}
 use Rattle.interner.specs.declared.Step.{Step}
+use Rattle.tables.specs.Tables.{first}
 use Rattle.interner.specs.State.{absOf}
 use Rattle.interner.specs.Step.{outOf}
 use Rattle.codec.specs.declared.Verdict.{Verdict}
@@ -159,12 +160,12 @@ module _ (bs : List ℕ) (room : ℕ) where
   verdict-accepted r e is = sym e ∙ ap (λ (v : Verdict). answerOf v (treesOf bs)) is
 
   -- interning's answer
-  module _ (ws : List ℕ) (r : Step) (is : outOf bs ws r ≡ interned bs) where
+  module _ (ws : List ℕ) (r : Step) (is : outOf bs ws first r ≡ interned bs) where
     pub intern-refused : (r .number ≡ 0 → ⊥) → written bs room ≡ refused (r .number) (r .place)
     unfolding written _>>=_ outOf
     intern-refused h = rw (← is, outOf, ne-eqb (r .number) 0 h)
 
-    pub intern-good : r .number ≡ 0 → interned bs ≡ good (r .symbol, absOf bs ws (r .st))
+    pub intern-good : r .number ≡ 0 → interned bs ≡ good (r .symbol, absOf bs ws first (r .st))
     unfolding outOf
     intern-good h = sym is ∙ rw (outOf, eq-eqb (r .number) 0 h)
 

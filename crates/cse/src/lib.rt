@@ -16,6 +16,7 @@ ghost use Rattle.model.specs.Call.{treeOf, interned, written, numbers, outAfter
 ghost use Rattle.model.specs.Intern as intern;
 ghost use Rattle.model.specs.Demand3.{Demand3};
 ghost use Rattle.record.specs.Record.{Laid};
+ghost use Rattle.tables.specs.Tables.{first};
 ghost use Rattle.interner.specs.State.{absOf, Rep};
 ghost use Rattle.cse.specs.Call.{five, numbersIn, Tells, measured, cleared, Unused, PlanOf, Ready, Planned};
 ghost use Rattle.cse.specs.Demanded.{Demanded};
@@ -81,9 +82,9 @@ fn write(
 fn planned(forest: &[u8], work: &mut [u32], st: State, root: usize) -> Plan
     requires { ⌜ accept (now forest) ≡ good (treesOf (now forest)) ⌝ }
     requires { ⌜ Rep (now forest) (now work) st ⌝ }
-    requires { ⌜ interned (now forest) ≡ good (root, absOf (now forest) (now work) st) ⌝ }
+    requires { ⌜ interned (now forest) ≡ good (root, absOf (now forest) (now work) first st) ⌝ }
     ensures { λ r. ⌜ Planned (now (forest .entry)) (now (work .entry)) (now (work .exit))
-        (root, absOf (now (forest .entry)) (now (work .entry)) st) r ⌝ }
+        (root, absOf (now (forest .entry)) (now (work .entry)) first st) r ⌝ }
 {
     let symbols = st.symbols;
     gate::reach_and_count(work, symbols, root);

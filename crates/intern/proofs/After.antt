@@ -12,6 +12,7 @@ use lib.ListN.{length}
 use Rattle.model.specs.Answer.{refused, good, _>>=_}
 use Rattle.model.specs.Tree.{Tree, Trees, nil, cons, size}
 use Rattle.model.specs.Intern.{State, Env, Out, Outs, bindDef, thunked, internScoped, branch, intern, internAll}
+use Rattle.tables.specs.declared.Tables.{Tables}
 use Rattle.interner.specs.declared.Step.{Step}
 use Rattle.interner.specs.State.{absOf}
 use Rattle.interner.specs.Step.{outOf}
@@ -23,21 +24,21 @@ use Rattle.intern.specs.Intern.{kidsAnswer, kidsOf}
 
 -- ---- answers taken apart
 
-module _ (bs ws : List ℕ) (r : Step) where
-  pub out-good : r .number ≡ 0 → outOf bs ws r ≡ good (r .symbol, absOf bs ws (r .st))
+module _ (bs ws : List ℕ) (t : Tables) (r : Step) where
+  pub out-good : r .number ≡ 0 → outOf bs ws t r ≡ good (r .symbol, absOf bs ws t (r .st))
   unfolding outOf
   out-good e = rw (eq-eqb (r .number) 0 e, outOf)
 
-  pub out-refused : (r .number ≡ 0 → ⊥) → outOf bs ws r ≡ refused (r .number) (r .place)
+  pub out-refused : (r .number ≡ 0 → ⊥) → outOf bs ws t r ≡ refused (r .number) (r .place)
   unfolding outOf
   out-refused h = rw (ne-eqb (r .number) 0 h, outOf)
 
-module _ (bs ws : List ℕ) (held count : ℕ) (k : Kids) where
-  pub kids-good : k .number ≡ 0 → kidsOf bs ws held count k ≡ kidsAnswer bs ws held count k
+module _ (bs ws : List ℕ) (t : Tables) (held count : ℕ) (k : Kids) where
+  pub kids-good : k .number ≡ 0 → kidsOf bs ws t held count k ≡ kidsAnswer bs ws t held count k
   unfolding kidsOf
   kids-good e = rw (eq-eqb (k .number) 0 e, kidsOf)
 
-  pub kids-refused : (k .number ≡ 0 → ⊥) → kidsOf bs ws held count k ≡ refused (k .number) (k .place)
+  pub kids-refused : (k .number ≡ 0 → ⊥) → kidsOf bs ws t held count k ≡ refused (k .number) (k .place)
   unfolding kidsOf
   kids-refused h = rw (ne-eqb (k .number) 0 h, kidsOf)
 

@@ -24,12 +24,15 @@ use Rattle.scopes.specs.Scopes.{scopeWord, levelOf, lambdaWord, withLambda}
 use Rattle.bindings.specs.Bindings.{envOf}
 use Rattle.bindings.specs.Made.{ArgsBound}
 use Rattle.bindings.proofs.Laws.{env-words}
+use Rattle.tables.specs.declared.Tables.{Tables}
+use Rattle.tables.specs.Tables.{Open}
+use Rattle.tables.proofs.Stack.{open-later}
 use Rattle.interner.specs.declared.State.{State}
 use Rattle.interner.specs.declared.Step.{Step}
 use Rattle.interner.specs.Levels.{AtLevel}
 use Rattle.interner.specs.State.{absOf, Rep}
 use Rattle.interner.specs.Step.{outsOf, Binds, Bindings, BodyOf}
-use Rattle.opening.specs.Opening.{bodyOpened}
+use Rattle.opening.specs.Opening.{withScope}
 use Rattle.opening.proofs.Counts.{scopes-count}
 use Rattle.opening.proofs.Bodies.{body-level, body-of, body-abs, body-rep}
 use Rattle.standing.proofs.Enter.{lambda-well}
@@ -69,20 +72,20 @@ lambda-kind s e = rw e
 
 -- ---- answers taken apart
 
-module _ (bs ws : List ℕ) (count : ℕ) (r : Step) where
-  outs-good : r .number ≡ 0 → outsOf bs ws count r ≡ good (range (r .symbol) count, [], absOf bs ws (r .st))
+module _ (bs ws : List ℕ) (t : Tables) (count : ℕ) (r : Step) where
+  outs-good : r .number ≡ 0 → outsOf bs ws t count r ≡ good (range (r .symbol) count, [], absOf bs ws t (r .st))
   unfolding outsOf
   outs-good e = rw (eq-eqb (r .number) 0 e, outsOf)
 
-  outs-refused : (r .number ≡ 0 → ⊥) → outsOf bs ws count r ≡ refused (r .number) (r .place)
+  outs-refused : (r .number ≡ 0 → ⊥) → outsOf bs ws t count r ≡ refused (r .number) (r .place)
   unfolding outsOf
   outs-refused h = rw (ne-eqb (r .number) 0 h, outsOf)
 
 -- ---- before
 
-module _ (bs ws : List ℕ) (st : State) (i : ℕ) (at : Here) (sound : Sound bs) (lt : i < recordCount bs)
-    (twelve : recAt bs i .shape ≡ 12) (stands : Stands bs ws st i (depth (treeAt bs i)) at)
-    (counted : Counted (treeAt bs i) (at .scope) (envOf ws (at .top)) (absOf bs ws st)) where
+module _ (bs ws : List ℕ) (t : Tables) (st : State) (i : ℕ) (at : Here) (sound : Sound bs) (lt : i < recordCount bs)
+    (twelve : recAt bs i .shape ≡ 12) (stands : Stands bs ws t st i (depth (treeAt bs i)) at)
+    (counted : Counted (treeAt bs i) (at .scope) (envOf ws (at .top)) (absOf bs ws t st)) where
   abbrev aux : ℕ
   aux = recAt bs i .aux
 
@@ -110,21 +113,25 @@ module _ (bs ws : List ℕ) (st : State) (i : ℕ) (at : Here) (sound : Sound bs
     first-kept : Kept at ws ws₁ st (made .st)
     first-kept = leaves-kept at (stands .rep .few-scopes) (b .leaves)
 
-    made-is : outsOf bs ws₁ n made ≡ argsMade bs i (at .scope) (absOf bs ws st)
-    made-is = b .is xs (args-length aux (recAt bs i .lit) ∙ sym en)
+    made-opened : Open t (made .st .entries)
+    made-opened = open-later t (st .entries) (stands .opened) (made .st .entries) (b .leaves .entries)
 
-    pub enter-refused : (made .number ≡ 0 → ⊥) → Enters bs ws st i at ws₁
+    made-is : outsOf bs ws₁ t n made ≡ argsMade bs i (at .scope) (absOf bs ws t st)
+    made-is = b .is t (stands .opened) xs (args-length aux (recAt bs i .lit) ∙ sym en)
+
+    pub enter-refused : (made .number ≡ 0 → ⊥) → Enters bs ws t st i at ws₁
         (record { st = made .st; number = made .number; place = made .place; at = at; first = 0 })
     enter-refused h = record {
       rep = b .rep;
+      opened = made-opened;
       kept = first-kept;
-      fails = λ z. sym made-is ∙ outs-refused bs ws₁ n made h;
+      fails = λ z. sym made-is ∙ outs-refused bs ws₁ t n made h;
       opens = λ e. absurd (h e);
     }
 
     module _ (ok : made .number ≡ 0) where
-      gives : argsMade bs i (at .scope) (absOf bs ws st) ≡ good (range (made .symbol) n, [], absOf bs ws₁ (made .st))
-      gives = sym made-is ∙ outs-good bs ws₁ n made ok
+      gives : argsMade bs i (at .scope) (absOf bs ws t st) ≡ good (range (made .symbol) n, [], absOf bs ws₁ t (made .st))
+      gives = sym made-is ∙ outs-good bs ws₁ t n made ok
 
       pub enter-few : made .symbol + n ≤ 512
       enter-few = let f = b .first ok in omega (arith, f .0, f .1, b .rep .few-symbols)
@@ -133,7 +140,7 @@ module _ (bs ws : List ℕ) (st : State) (i : ℕ) (at : Here) (sound : Sound bs
       scopes-few =
           let e = lambda-well (counted .legible .well) (lambda-kind _ twelve) (counted .few) i _
           (ap (argsMade bs i (at .scope)) (sym (counted .is)) ∙ gives) in
-          omega (arith, e .0, scopes-count bs ws₁ (made .st))
+          omega (arith, e .0, scopes-count bs ws₁ t (made .st))
 
       scope-word : scopeWord ws₁ (at .scope) ≡ scopeWord ws (at .scope)
       scope-word = first-kept .words .scopes (5120 + at .scope) (omega arith) (omega (arith, stands .scope))
@@ -171,7 +178,7 @@ module _ (bs ws : List ℕ) (st : State) (i : ℕ) (at : Here) (sound : Sound bs
         own : Every (AtLevel ws₁ (made .st .symbols) (levelOf (scopeWord ws₁ (at .scope)) + 1)) (range first n)
         own = rw (same, scope-word) (b .args ok)
 
-        rep₂ : Rep bs ws₂ (bodyOpened (made .st))
+        rep₂ : Rep bs ws₂ (withScope (made .st))
         rep₂ =
             rw opened (body-rep bs ws₁ (made .st) (at .scope) first n (b .rep) scopes-few scope-low low
             (omega (arith, en, fitting .1)) own)
@@ -185,11 +192,11 @@ module _ (bs ws : List ℕ) (st : State) (i : ℕ) (at : Here) (sound : Sound bs
           later = λ k l. other k (λ e. omega (arith, scopes-few));
         }
 
-        module _ (inside : State) (is : inside ≡ bodyOpened (made .st)) (ws₃ : List ℕ) (end : ℕ)
+        module _ (inside : State) (is : inside ≡ withScope (made .st)) (ws₃ : List ℕ) (end : ℕ)
             (bound : ArgsBound bs i (at .top) first ws₂ ws₃ end) where
           abbrev e : Entered
           e = record {
-            st = bodyOpened (made .st);
+            st = withScope (made .st);
             number = 0;
             place = 0;
             at = record { scope = m; held = at .held; top = end };
@@ -216,16 +223,17 @@ module _ (bs ws : List ℕ) (st : State) (i : ℕ) (at : Here) (sound : Sound bs
               ∙ ap (bindArgs xs (range first aux))
               (env-words ws₂ ws₁ (at .top) (words₂ .bound) ∙ env-words ws₁ ws (at .top) (first-kept .words .bound))
 
-          body : Body bs ws st i at ws₃ e
+          body : Body bs ws t st i at ws₃ e
           body = record {
-            made = absOf bs ws₁ (made .st);
+            made = absOf bs ws₁ t (made .st);
             is = gives ∙ rw (← same, en);
-            scope = sym (scopes-count bs ws₁ (made .st));
+            scope = sym (scopes-count bs ws₁ t (made .st));
             abs =
-                later-abs bs ws₂ ws₃ (bodyOpened (made .st)) rep₂ (bound .kept .size) (beside-low (bound .kept))
-                ∙ ap (λ (z : List ℕ). absOf bs z (bodyOpened (made .st))) opened
+                later-abs bs ws₂ ws₃ (withScope (made .st)) rep₂ (bound .kept .size) (beside-low (bound .kept)) t
+                made-opened
+                ∙ ap (λ (z : List ℕ). absOf bs z t (withScope (made .st))) opened
                 ∙ body-abs bs ws₁ (made .st) (at .scope) first n (b .rep) scopes-few scope-low low
-                (omega (arith, en, fitting .1))
+                (omega (arith, en, fitting .1)) t made-opened
                 ∙ rw en;
             env = env₃;
             body = record {
@@ -246,21 +254,21 @@ module _ (bs ws : List ℕ) (st : State) (i : ℕ) (at : Here) (sound : Sound bs
             low = low;
           }
 
-          done : Enters bs ws st i at ws₃ e
+          done : Enters bs ws t st i at ws₃ e
           done = record {
-            rep = later-rep bs ws₂ ws₃ (bodyOpened (made .st)) rep₂ (bound .kept .size) (beside-low (bound .kept));
+            rep = later-rep bs ws₂ ws₃ (withScope (made .st)) rep₂ (bound .kept .size) (beside-low (bound .kept));
+            opened = made-opened;
             kept = record {
               words =
                   words-then (omega arith) (omega arith) (omega arith)
                   (words-then (omega arith) (omega arith) (omega arith) (first-kept .words) words₂) words₃;
-              depth = first-kept .depth;
               scopes = omega (arith, first-kept .scopes);
             };
             fails = λ h. absurd (h refl);
             opens = λ z. body;
           }
 
-          pub enter-done : Enters bs ws st i at ws₃ (record {
+          pub enter-done : Enters bs ws t st i at ws₃ (record {
             st = inside;
             number = 0;
             place = 0;

@@ -24,6 +24,7 @@ use Rattle.shape.proofs.Fitting.{fitting}
 use Rattle.walk.specs.Walk.{treesFrom, recAt, kidsAt, restAt, treeAt, Sound}
 use Rattle.walk.proofs.Bridge.{row-fits, records-few}
 use Rattle.bindings.specs.Bindings.{envOf}
+use Rattle.tables.specs.declared.Tables.{Tables}
 use Rattle.interner.specs.declared.State.{State}
 use Rattle.interner.specs.declared.Step.{Step}
 use Rattle.interner.specs.State.{absOf}
@@ -37,9 +38,12 @@ use Rattle.standing.proofs.Enter.{no-args, kids-well}
 use Rattle.intern.specs.declared.Here.{Here}
 use Rattle.intern.specs.declared.Read.{Read}
 use Rattle.intern.specs.declared.Kids.{Kids}
+use Rattle.intern.specs.declared.Selected.{Selected}
+use Rattle.intern.specs.declared.Selected.the-variants.{Done, Anew}
 use Rattle.intern.specs.Steps.{refusedRead}
 use Rattle.intern.specs.Words.{Kept}
 use Rattle.intern.specs.Intern.{Stands, Past, Reads, Legible, Counted, kidsRead, concluded, WellKids}
+use Rattle.intern.specs.Intern.{ReadsOn}
 use Rattle.intern.proofs.Kept.{kept-none}
 use Rattle.intern.proofs.After.{out-good}
 use Rattle.intern.proofs.Bodies.{lambda-kind}
@@ -104,60 +108,60 @@ module _ (at cur : ℕ) (r : Rec) (env : Env) (kids : intern.Kids) (st : intern.
     func-good os f = rw (e, f)
 
 module _ (bs : List ℕ) (i cur : ℕ) (env : Env) (s : intern.State) where
-  abbrev t : Tree
-  t = treeAt bs i
+  abbrev u : Tree
+  u = treeAt bs i
 
-  intern-full : 2048 ≤ s .readings → intern t i cur env s ≡ refused 11 i
+  intern-full : 2048 ≤ s .readings → intern u i cur env s ≡ refused 11 i
   unfolding intern guard
   intern-full l = rw (le-ltb (s .readings) 2048 l, guard)
 
   module _ (l : s .readings < 2048) where
-    intern-read : intern t i cur env s
+    intern-read : intern u i cur env s
         ≡ internKind (kind (recAt bs i .shape)) i cur (recAt bs i) env (kidsRead bs i) (read s)
     unfolding intern guard
     intern-read = rw (lt-ltb (s .readings) 2048 l, guard)
 
-    intern-use : recAt bs i .shape ≡ 7 → intern t i cur env s ≡ good (resolve env (idOf (recAt bs i)), read s)
+    intern-use : recAt bs i .shape ≡ 7 → intern u i cur env s ≡ good (resolve env (idOf (recAt bs i)), read s)
     unfolding kind internKind
     intern-use e =
         let k : kind (recAt bs i .shape) ≡ valUse = rw e in
         intern-read ∙ ap (λ (z : Kind). internKind z i cur (recAt bs i) env (kidsRead bs i) (read s)) k
 
     intern-lambda : recAt bs i .shape ≡ 12 →
-        intern t i cur env s ≡ internFunc i cur (recAt bs i) env (kidsRead bs i) (read s)
+        intern u i cur env s ≡ internFunc i cur (recAt bs i) env (kidsRead bs i) (read s)
     unfolding internKind
     intern-lambda e =
         intern-read
         ∙ ap (λ (z : Kind). internKind z i cur (recAt bs i) env (kidsRead bs i) (read s)) (lambda-kind _ e)
 
     intern-field : recAt bs i .shape ≡ 17 →
-        intern t i cur env s ≡ internKind field i cur (recAt bs i) env (kidsRead bs i) (read s)
+        intern u i cur env s ≡ internKind field i cur (recAt bs i) env (kidsRead bs i) (read s)
     unfolding kind
     intern-field e =
         let k : kind (recAt bs i .shape) ≡ field = rw e in
         intern-read ∙ ap (λ (z : Kind). internKind z i cur (recAt bs i) env (kidsRead bs i) (read s)) k
 
     intern-keyed : (recAt bs i .shape ≡ 7 → ⊥) → (recAt bs i .shape ≡ 12 → ⊥) → (recAt bs i .shape ≡ 17 → ⊥) →
-        intern t i cur env s ≡ concluded i cur (recAt bs i) (kidsRead bs i cur env (read s))
+        intern u i cur env s ≡ concluded i cur (recAt bs i) (kidsRead bs i cur env (read s))
     intern-keyed a b c = intern-read ∙ kind-keyed i cur (recAt bs i) env (kidsRead bs i) (read s) a b c
 
 -- ---- a record of any kind
 
-module _ (bs ws : List ℕ) (st : State) (i : ℕ) (at : Here) (sound : Sound bs) (lt : i < recordCount bs)
-    (stands : Stands bs ws st i (depth (treeAt bs i)) at)
-    (legible : Legible (treeAt bs i) (at .scope) (envOf ws (at .top)) (absOf bs ws st)) where
+module _ (bs ws : List ℕ) (t : Tables) (st : State) (i : ℕ) (at : Here) (sound : Sound bs) (lt : i < recordCount bs)
+    (stands : Stands bs ws t st i (depth (treeAt bs i)) at)
+    (legible : Legible (treeAt bs i) (at .scope) (envOf ws (at .top)) (absOf bs ws t st)) where
   abbrev env₀ : Env
   env₀ = envOf ws (at .top)
 
   abbrev whole : Out
-  whole = intern (treeAt bs i) i (at .scope) env₀ (absOf bs ws st)
+  whole = intern (treeAt bs i) i (at .scope) env₀ (absOf bs ws t st)
 
   -- no reading is left
-  pub record-full : (r : Read) → st .readings ≡ 2048 → r ≡ refusedRead st 11 i i → Reads bs ws st i at whole ws r
+  pub record-full : (r : Read) → st .readings ≡ 2048 → r ≡ refusedRead st 11 i i → Reads bs ws t st i at whole ws r
   record-full r e f =
-      subst (Reads bs ws st i at whole ws) (sym f)
-      (reads-refused i at whole (kept-none at ws st) (stands .rep) 11 i i (λ z. omega arith)
-      (intern-full bs i (at .scope) env₀ (absOf bs ws st) (omega arith)))
+      subst (Reads bs ws t st i at whole ws) (sym f)
+      (reads-refused i at whole (kept-none at ws st) (stands .rep) (stands .opened) 11 i i (λ z. omega arith)
+      (intern-full bs i (at .scope) env₀ (absOf bs ws t st) (omega arith)))
 
   module _ (unread : st .readings ≡ 2048 → ⊥) where
     left : st .readings < 2048
@@ -167,9 +171,10 @@ module _ (bs ws : List ℕ) (st : State) (i : ℕ) (at : Here) (sound : Sound bs
     record-left = left
 
     module _ (counted : State) (is : counted ≡ withReading st) where
-      pub counted-stands : Stands bs ws counted i (depth (treeAt bs i)) at
+      pub counted-stands : Stands bs ws t counted i (depth (treeAt bs i)) at
       counted-stands = rw is (record {
         rep = reading-rep bs ws st (stands .rep) left;
+        opened = stands .opened;
         scope = stands .scope;
         held = stands .held;
         top = stands .top;
@@ -177,13 +182,13 @@ module _ (bs ws : List ℕ) (st : State) (i : ℕ) (at : Here) (sound : Sound bs
         tables = stands .tables;
       })
 
-      counted-abs : absOf bs ws counted ≡ read (absOf bs ws st)
-      counted-abs = ap (absOf bs ws) is ∙ reading-abs bs ws st
+      counted-abs : absOf bs ws t counted ≡ read (absOf bs ws t st)
+      counted-abs = ap (absOf bs ws t) is ∙ reading-abs bs ws t st
 
-      pub counted-well : Counted (treeAt bs i) (at .scope) env₀ (absOf bs ws counted)
-      counted-well = record { before = absOf bs ws st; legible = legible; few = left; is = counted-abs }
+      pub counted-well : Counted (treeAt bs i) (at .scope) env₀ (absOf bs ws t counted)
+      counted-well = record { before = absOf bs ws t st; legible = legible; few = left; is = counted-abs }
 
-      pub counted-kids : (recAt bs i .shape ≡ 12 → ⊥) → WellKids bs ws counted i at
+      pub counted-kids : (recAt bs i .shape ≡ 12 → ⊥) → WellKids bs ws t counted i at
       counted-kids n =
           subst (λ (z : intern.State). WellAll (kidsAt bs i) (isBlock (recAt bs i)) (recAt bs i .opcode) 0 (at .scope)
           env₀ z 1) (sym counted-abs)
@@ -193,45 +198,61 @@ module _ (bs ws : List ℕ) (st : State) (i : ℕ) (at : Here) (sound : Sound bs
       counted-opcode e = op-field (recAt bs i) e (legible .well .checked .fine .1)
 
       -- the answer of its kind is the record's
-      counted-reads : (o o′ : Out) (ws′ : List ℕ) (r : Read) → o′ ≡ o → Reads bs ws counted i at o ws′ r →
-          Reads bs ws st i at o′ ws′ r
+      counted-reads : (o o′ : Out) (ws′ : List ℕ) (r : Read) → o′ ≡ o → Reads bs ws t counted i at o ws′ r →
+          Reads bs ws t st i at o′ ws′ r
       counted-reads o o′ ws′ r e v = record {
         rep = v .rep;
+        opened = v .opened;
         is = v .is ∙ sym e;
         past = v .past;
         kept = subst (λ (z : State). Kept at ws ws′ z (r .step .st) → Kept at ws ws′ st (r .step .st)) (sym is)
-            (λ k. record { words = k .words; depth = k .depth; scopes = k .scopes }) (v .kept);
+            (λ k. record { words = k .words; scopes = k .scopes }) (v .kept);
       }
 
       module _ (ws′ : List ℕ) (r : Read) where
         pub record-lambda : recAt bs i .shape ≡ 12 →
-            Reads bs ws counted i at
-            (internFunc i (at .scope) (recAt bs i) env₀ (kidsRead bs i) (absOf bs ws counted)) ws′ r →
-            Reads bs ws st i at whole ws′ r
+            Reads bs ws t counted i at
+            (internFunc i (at .scope) (recAt bs i) env₀ (kidsRead bs i) (absOf bs ws t counted)) ws′ r →
+            Reads bs ws t st i at whole ws′ r
         record-lambda e v =
             counted-reads _ whole ws′ r
-            (intern-lambda bs i (at .scope) env₀ (absOf bs ws st) left e
+            (intern-lambda bs i (at .scope) env₀ (absOf bs ws t st) left e
             ∙ ap (internFunc i (at .scope) (recAt bs i) env₀ (kidsRead bs i)) (sym counted-abs)) v
 
-        pub record-field : recAt bs i .shape ≡ 17 →
-            Reads bs ws counted i at
-            (internKind field i (at .scope) (recAt bs i) env₀ (kidsRead bs i) (absOf bs ws counted)) ws′ r →
-            Reads bs ws st i at whole ws′ r
-        record-field e v =
-            counted-reads _ whole ws′ r
-            (intern-field bs i (at .scope) env₀ (absOf bs ws st) left e
-            ∙ ap (internKind field i (at .scope) (recAt bs i) env₀ (kidsRead bs i)) (sym counted-abs)) v
+      -- a SelectField, and any other record: it is done, or read again
+      pub record-field : recAt bs i .shape ≡ 17 → (ws′ : List ℕ) (s : Selected) →
+          ReadsOn bs ws t counted i at
+          (internKind field i (at .scope) (recAt bs i) env₀ (kidsRead bs i) (absOf bs ws t counted)) ws′ s →
+          ReadsOn bs ws t st i at whole ws′ s
+      record-field e ws′ s = go s
+        where
+          is-field : whole ≡ internKind field i (at .scope) (recAt bs i) env₀ (kidsRead bs i) (absOf bs ws t counted)
+          is-field =
+              intern-field bs i (at .scope) env₀ (absOf bs ws t st) left e
+              ∙ ap (internKind field i (at .scope) (recAt bs i) env₀ (kidsRead bs i)) (sym counted-abs)
 
-        pub record-keyed : (recAt bs i .shape ≡ 7 → ⊥) → (recAt bs i .shape ≡ 12 → ⊥) →
-            (recAt bs i .shape ≡ 17 → ⊥) →
-            Reads bs ws counted i at
-            (concluded i (at .scope) (recAt bs i) (kidsRead bs i (at .scope) env₀ (absOf bs ws counted))) ws′ r →
-            Reads bs ws st i at whole ws′ r
-        record-keyed a b c v =
-            counted-reads _ whole ws′ r
-            (intern-keyed bs i (at .scope) env₀ (absOf bs ws st) left a b c
+          go : (s : Selected) →
+              ReadsOn bs ws t counted i at
+              (internKind field i (at .scope) (recAt bs i) env₀ (kidsRead bs i) (absOf bs ws t counted)) ws′ s →
+              ReadsOn bs ws t st i at whole ws′ s
+          go (Done r) v = counted-reads _ whole ws′ r is-field v
+          go (Anew next) v = record {
+            stands = v .stands;
+            well = v .well;
+            then = λ ws″ r w. counted-reads _ whole ws″ r is-field (v .then ws″ r w);
+          }
+
+      pub record-keyed : (recAt bs i .shape ≡ 7 → ⊥) → (recAt bs i .shape ≡ 12 → ⊥) →
+          (recAt bs i .shape ≡ 17 → ⊥) → ReadsOn bs ws t st i at whole ws (Anew counted)
+      record-keyed a b c = record {
+        stands = counted-stands;
+        well = counted-kids b;
+        then = λ ws″ r w.
+            counted-reads _ whole ws″ r
+            (intern-keyed bs i (at .scope) env₀ (absOf bs ws t st) left a b c
             ∙ ap (λ (z : intern.State). concluded i (at .scope) (recAt bs i) (kidsRead bs i (at .scope) env₀ z))
-            (sym counted-abs)) v
+            (sym counted-abs)) w;
+      }
 
       -- a use
       pub record-uses : recAt bs i .shape ≡ 7 → Uses bs ws i (at .top)
@@ -256,15 +277,16 @@ module _ (bs ws : List ℕ) (st : State) (i : ℕ) (at : Here) (sound : Sound bs
 
       pub record-use : (r : Step) → recAt bs i .shape ≡ 7 →
           r ≡ given counted (resolve env₀ (idOf (recAt bs i))) →
-          Reads bs ws st i at whole ws (record { step = r; next = i + 1 })
+          Reads bs ws t st i at whole ws (record { step = r; next = i + 1 })
       record-use r e f =
           counted-reads _ whole ws (record { step = r; next = i + 1 }) refl (record {
             rep = rw f (counted-stands .rep);
+            opened = rw f (counted-stands .opened);
             is =
-                ap (outOf bs ws) f
-                ∙ out-good bs ws (given counted (resolve env₀ (idOf (recAt bs i)))) refl
+                ap (outOf bs ws t) f
+                ∙ out-good bs ws t (given counted (resolve env₀ (idOf (recAt bs i)))) refl
                 ∙ ap (λ (z : intern.State). good (resolve env₀ (idOf (recAt bs i)), z)) counted-abs
-                ∙ sym (intern-use bs i (at .scope) env₀ (absOf bs ws st) left e);
+                ∙ sym (intern-use bs i (at .scope) env₀ (absOf bs ws t st) left e);
             past = λ z. use-past e;
             kept = rw f (kept-none at ws counted);
           })

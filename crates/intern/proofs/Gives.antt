@@ -18,6 +18,7 @@ use Rattle.walk.proofs.Bridge.{row-fits}
 use Rattle.symbols.specs.Words.{pendingFrom}
 use Rattle.bindings.specs.Bindings.{envOf}
 use Rattle.bindings.proofs.Laws.{env-words}
+use Rattle.tables.specs.declared.Tables.{Tables}
 use Rattle.interner.specs.declared.State.{State}
 use Rattle.interner.specs.declared.Step.{Step}
 use Rattle.interner.specs.State.{absOf}
@@ -28,46 +29,47 @@ use Rattle.intern.specs.declared.Here.{Here}
 use Rattle.intern.specs.declared.Read.{Read}
 use Rattle.intern.specs.declared.Kids.{Kids}
 use Rattle.intern.specs.Steps.{refusedRead}
-use Rattle.intern.specs.Intern.{Stands, Reads, kidsRead, concluded, WellKids, Operands, kidsAnswer, ReadsAll}
+use Rattle.intern.specs.Intern.{Stands, Reads, kidsRead, concluded, WellKids, KeyedRead, Again, Operands}
+use Rattle.intern.specs.Intern.{kidsAnswer, ReadsAll}
 use Rattle.intern.proofs.Kept.{kept-then}
 use Rattle.intern.proofs.Records.{reads-refused, reads-answers, concluded-other, concluded-refused, Below, Gave}
 use Rattle.intern.proofs.Records.{stands-below, stands-later, kids-operands, kids-fail, kids-gave}
 use Rattle.intern.proofs.Cases.{field-refused, field-good}
 
-module _ (bs ws : List ℕ) (st : State) (i : ℕ) (at : Here) (sound : Sound bs) (lt : i < recordCount bs)
-    (stands : Stands bs ws st i (depth (treeAt bs i)) at) (well : WellKids bs ws st i at) where
+module _ (bs ws : List ℕ) (t : Tables) (st : State) (i : ℕ) (at : Here) (sound : Sound bs) (lt : i < recordCount bs)
+    (stands : Stands bs ws t st i (depth (treeAt bs i)) at) (well : WellKids bs ws t st i at) where
   abbrev r : Rec
   r = recAt bs i
 
   abbrev env : Env
   env = envOf ws (at .top)
 
-  below : Below bs ws st i at
-  below = stands-below bs ws st i at stands
+  below : Below bs ws t st i at
+  below = stands-below bs ws t st i at stands
 
   -- ---- definitions, blocks and other records
 
   module _ (n op : ℕ) (en : n ≡ rowAt bs i .kids) (eo : op ≡ recAt bs i .opcode) where
-    pub keyed-operands : Operands bs ws st (i + 1) n op at
+    pub keyed-operands : Operands bs ws t st (i + 1) n op at
     keyed-operands =
-        kids-operands bs i sound lt ws st at (isBlock r) below well n op en eo
+        kids-operands bs i sound lt ws t st at (isBlock r) below well n op en eo
 
-    module _ (ws₁ : List ℕ) (k : Kids) (v : ReadsAll bs ws st (i + 1) n op at ws₁ k) where
+    module _ (ws₁ : List ℕ) (k : Kids) (v : ReadsAll bs ws t st (i + 1) n op at ws₁ k) where
       abbrev keyedOut : Out
-      keyedOut = concluded i (at .scope) r (kidsRead bs i (at .scope) env (absOf bs ws st))
+      keyedOut = concluded i (at .scope) r (kidsRead bs i (at .scope) env (absOf bs ws t st))
 
       pub keyed-refused : (z : Read) → z ≡ refusedRead (k .st) (k .number) (k .place) i → (k .number ≡ 0 → ⊥) →
-          Reads bs ws st i at keyedOut ws₁ z
+          Reads bs ws t st i at keyedOut ws₁ z
       keyed-refused z e h =
-          subst (Reads bs ws st i at keyedOut ws₁) (sym e)
-          (reads-refused i at keyedOut (v .kept) (v .rep) (k .number) (k .place) i h
+          subst (Reads bs ws t st i at keyedOut ws₁) (sym e)
+          (reads-refused i at keyedOut (v .kept) (v .rep) (v .opened) (k .number) (k .place) i h
           (ap (concluded i (at .scope) r)
-          (kids-fail bs i sound lt ws st at (isBlock r) below well n op en eo ws₁ k v h)
+          (kids-fail bs i sound lt ws t st at (isBlock r) below well n op en eo ws₁ k v h)
           ∙ concluded-refused i (at .scope) r (k .number) (k .place)))
 
       module _ (ok : k .number ≡ 0) where
-        gave : Gave bs ws st i at (isBlock r) n ws₁ k
-        gave = kids-gave bs i sound lt ws st at (isBlock r) below well n op en eo ws₁ k v ok
+        gave : Gave bs ws t st i at (isBlock r) n ws₁ k
+        gave = kids-gave bs i sound lt ws t st at (isBlock r) below well n op en eo ws₁ k v ok
 
         pub keyed-conclude :
             Concludes bs ws₁ (k .st) i (at .scope) (at .scope) (at .held) (rowAt bs i .kids)
@@ -77,11 +79,11 @@ module _ (bs ws : List ℕ) (st : State) (i : ℕ) (at : Here) (sound : Sound bs
             (stands .scope))
 
         pub keyed-done : (ws₂ : List ℕ) (step : Step) →
-            Answers bs ws₁ (k .st)
-            (concluded i (at .scope) r (kidsAnswer bs ws₁ (at .held) (rowAt bs i .kids) k)) ws₂ step →
-            Reads bs ws st i at keyedOut ws₂ (record { step = step; next = k .next })
+            Answers bs ws₁ t (k .st)
+            (concluded i (at .scope) r (kidsAnswer bs ws₁ t (at .held) (rowAt bs i .kids) k)) ws₂ step →
+            Reads bs ws t st i at keyedOut ws₂ (record { step = step; next = k .next })
         keyed-done ws₂ step a =
-            reads-answers i at keyedOut (v .kept) (v .rep) ws₂ step (k .next)
+            reads-answers i at keyedOut (v .kept) (v .rep) (v .opened) ws₂ step (k .next)
             (gave .past)
             (record {
               rep = a .rep;
@@ -89,7 +91,7 @@ module _ (bs ws : List ℕ) (st : State) (i : ℕ) (at : Here) (sound : Sound bs
               low = a .low;
               is =
                   a .is
-                  ∙ ap (λ (z : ℕ). concluded i (at .scope) r (kidsAnswer bs ws₁ (at .held) z k)) (sym en)
+                  ∙ ap (λ (z : ℕ). concluded i (at .scope) r (kidsAnswer bs ws₁ t (at .held) z k)) (sym en)
                   ∙ ap (concluded i (at .scope) r)
                   (sym (gave .is));
             })
@@ -101,22 +103,22 @@ module _ (bs ws : List ℕ) (st : State) (i : ℕ) (at : Here) (sound : Sound bs
     field-one = sym (fits-field (rowAt bs i) (row-fits bs i (sound .fit) lt) shape .0)
 
     module _ (code : recAt bs i .opcode ≡ 0x8C) (op : ℕ) (eo : op ≡ recAt bs i .opcode) (ws₁ : List ℕ) (k : Kids)
-        (v : ReadsAll bs ws st (i + 1) 1 op at ws₁ k) where
+        (v : ReadsAll bs ws t st (i + 1) 1 op at ws₁ k) where
       abbrev fieldOut : Out
-      fieldOut = internKind field i (at .scope) r env (kidsRead bs i) (absOf bs ws st)
+      fieldOut = internKind field i (at .scope) r env (kidsRead bs i) (absOf bs ws t st)
 
       pub field-fails : (z : Read) → z ≡ refusedRead (k .st) (k .number) (k .place) i → (k .number ≡ 0 → ⊥) →
-          Reads bs ws st i at fieldOut ws₁ z
+          Reads bs ws t st i at fieldOut ws₁ z
       field-fails z e h =
-          subst (Reads bs ws st i at fieldOut ws₁) (sym e)
-          (reads-refused i at fieldOut (v .kept) (v .rep) (k .number) (k .place) i h
-          (field-refused i (at .scope) r env (kidsRead bs i) (absOf bs ws st) (k .number) (k .place)
-          (kids-fail bs i sound lt ws st at (isBlock r) below well 1 op field-one eo ws₁ k
+          subst (Reads bs ws t st i at fieldOut ws₁) (sym e)
+          (reads-refused i at fieldOut (v .kept) (v .rep) (v .opened) (k .number) (k .place) i h
+          (field-refused i (at .scope) r env (kidsRead bs i) (absOf bs ws t st) (k .number) (k .place)
+          (kids-fail bs i sound lt ws t st at (isBlock r) below well 1 op field-one eo ws₁ k
           v h)))
 
       module _ (ok : k .number ≡ 0) where
-        gave₁ : Gave bs ws st i at (isBlock r) 1 ws₁ k
-        gave₁ = kids-gave bs i sound lt ws st at (isBlock r) below well 1 op field-one eo ws₁ k v ok
+        gave₁ : Gave bs ws t st i at (isBlock r) 1 ws₁ k
+        gave₁ = kids-gave bs i sound lt ws t st at (isBlock r) below well 1 op field-one eo ws₁ k v ok
 
         pub field-selects : Selects bs ws₁ (k .st) i (at .scope) (at .held)
         field-selects = record {
@@ -138,8 +140,8 @@ module _ (bs ws : List ℕ) (st : State) (i : ℕ) (at : Here) (sound : Sound bs
             rw e at (field-selects .concludes .lower 0 (omega arith))
 
         field-is : fieldOut
-            ≡ internField i (at .scope) r env (kidsRead bs i) (pendingFrom ws₁ (at .held) 1) (absOf bs ws₁ (k .st))
-        field-is = field-good i (at .scope) r env (kidsRead bs i) (absOf bs ws st) _ (gave₁ .is)
+            ≡ internField i (at .scope) r env (kidsRead bs i) (pendingFrom ws₁ (at .held) 1) (absOf bs ws₁ t (k .st))
+        field-is = field-good i (at .scope) r env (kidsRead bs i) (absOf bs ws t st) _ (gave₁ .is)
 
         module _ (b : Bool)
             (told : (n : ℕ) → getD ws₁ (8200 + at .held) 0 < n → b ≡ readsAgain bs ws₁ n i (at .held)) where
@@ -147,38 +149,36 @@ module _ (bs ws : List ℕ) (st : State) (i : ℕ) (at : Here) (sound : Sound bs
           field-once e = sym (told (k .st .symbols) input-low) ∙ e
 
           pub field-done : (ws₂ : List ℕ) (step : Step) →
-              Answers bs ws₁ (k .st)
-              (internField i (at .scope) r env (kidsRead bs i) (pendingFrom ws₁ (at .held) 1) (absOf bs ws₁ (k .st)))
-              ws₂ step → Reads bs ws st i at fieldOut ws₂ (record { step = step; next = k .next })
+              Answers bs ws₁ t (k .st)
+              (internField i (at .scope) r env (kidsRead bs i) (pendingFrom ws₁ (at .held) 1) (absOf bs ws₁ t (k .st)))
+              ws₂ step → Reads bs ws t st i at fieldOut ws₂ (record { step = step; next = k .next })
           field-done ws₂ step a =
-              reads-answers i at fieldOut (v .kept) (v .rep) ws₂ step (k .next)
+              reads-answers i at fieldOut (v .kept) (v .rep) (v .opened) ws₂ step (k .next)
               (gave₁ .past)
               (record { rep = a .rep; leaves = a .leaves; low = a .low; is = a .is ∙ sym field-is })
 
           -- read again
-          pub again-stands : Stands bs ws₁ (k .st) i (depth (treeAt bs i)) at
-          again-stands = stands-later stands (v .rep) (v .kept)
-
-          pub again-kids : WellKids bs ws₁ (k .st) i at
-          again-kids =
-              gave₁ .again
-
-          pub again-done : b ≡ true → (ws₂ : List ℕ) (z : Read) →
-              Reads bs ws₁ (k .st) i at
-              (concluded i (at .scope) r
-              (kidsRead bs i (at .scope) (envOf ws₁ (at .top)) (absOf bs ws₁ (k .st)))) ws₂ z →
-              Reads bs ws st i at fieldOut ws₂ z
-          again-done e ws₂ z w = record {
+          again-reads : b ≡ true → (ws₂ : List ℕ) (z : Read) → KeyedRead bs ws₁ t (k .st) i at ws₂ z →
+              Reads bs ws t st i at fieldOut ws₂ z
+          again-reads e ws₂ z w = record {
             rep = w .rep;
+            opened = w .opened;
             is =
                 w .is
                 ∙ concluded-other i (at .scope) r _ (λ q. omega (arith, shape, q)) (λ q. omega (arith, shape, q))
                 ∙ ap (λ (x : Env). internGeneral i (at .scope) r
-                (kidsRead bs i (at .scope) x (absOf bs ws₁ (k .st)))) (env-words ws₁ ws (at .top)
+                (kidsRead bs i (at .scope) x (absOf bs ws₁ t (k .st)))) (env-words ws₁ ws (at .top)
                 (v .kept .words .bound))
-                ∙ sym (field-again bs ws₁ (k .st) i (at .scope) (at .held) env (kidsRead bs i)
+                ∙ sym (field-again bs ws₁ t (k .st) i (at .scope) (at .held) env (kidsRead bs i)
                 (sym (told (k .st .symbols) input-low) ∙ e))
                 ∙ sym field-is;
             past = w .past;
             kept = kept-then (omega arith) (omega arith) (v .kept) (w .kept);
+          }
+
+          pub again-done : b ≡ true → Again bs ws t st i at fieldOut ws₁ (k .st)
+          again-done e = record {
+            stands = stands-later stands (v .rep) (v .opened) (v .kept);
+            well = gave₁ .again;
+            then = again-reads e;
           }

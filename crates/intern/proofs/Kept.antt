@@ -13,10 +13,11 @@ use Rattle.key.proofs.Runs.{Agree}
 use Rattle.walk.specs.Walk.{treeAt}
 use Rattle.symbols.specs.Words.{pendingFrom}
 use Rattle.symbols.proofs.Words.{words-more, words-agree}
-use Rattle.tables.specs.declared.Tables.{Tables}
 use Rattle.bindings.specs.Bindings.{envOf}
 use Rattle.bindings.specs.Made.{Beside, DefBound}
 use Rattle.bindings.proofs.Laws.{env-words}
+use Rattle.tables.specs.declared.Tables.{Tables}
+use Rattle.tables.specs.Tables.{Open}
 use Rattle.interner.specs.declared.State.{State}
 use Rattle.interner.specs.State.{absOf, Rep}
 use Rattle.interner.specs.Step.{Leaves}
@@ -48,14 +49,12 @@ words-then a b c h g = record {
 -- ---- words and state
 
 pub kept-none : (at : Here) (ws : List ℕ) (st : State) → Kept at ws ws st st
-kept-none at ws st =
-    record { words = words-none (st .scopes) (at .held) (at .top) ws; depth = refl; scopes = omega arith }
+kept-none at ws st = record { words = words-none (st .scopes) (at .held) (at .top) ws; scopes = omega arith }
 
 pub kept-then : {at at′ : Here} {ws ws₁ ws₂ : List ℕ} {st st₁ st₂ : State} → at .held ≤ at′ .held →
     at .top ≤ at′ .top → Kept at ws ws₁ st st₁ → Kept at′ ws₁ ws₂ st₁ st₂ → Kept at ws ws₂ st st₂
 kept-then a b h g = record {
   words = words-then (h .scopes) a b (h .words) (g .words);
-  depth = g .depth ∙ h .depth;
   scopes = omega (arith, h .scopes, g .scopes);
 }
 
@@ -70,7 +69,6 @@ leaves-kept at few h = record {
     bound = λ k l r. h .later k (omega arith);
     later = λ k l. h .later k (omega arith);
   };
-  depth = ap (λ (t : Tables). t .depth) (h .tables);
   scopes = omega (arith, h .scopes);
 }
 
@@ -81,8 +79,8 @@ module _ (bs ws ws′ : List ℕ) (st : State) (rep : Rep bs ws st) (long : leng
   pub later-rep : Rep bs ws′ st
   later-rep = rep-same bs ws ws′ st rep (same-later bs ws ws′ st rep long low)
 
-  pub later-abs : absOf bs ws′ st ≡ absOf bs ws st
-  later-abs = abs-same bs ws ws′ st rep (same-later bs ws ws′ st rep long low)
+  pub later-abs : (t : Tables) → Open t (st .entries) → absOf bs ws′ t st ≡ absOf bs ws t st
+  later-abs t open′ = abs-same bs ws ws′ t st rep open′ (same-later bs ws ws′ st rep long low)
 
 -- bindings changed above `top`
 pub beside-words : (n held : ℕ) {top r : ℕ} {ws ws′ : List ℕ} → n ≤ 2049 → held ≤ 256 → r ≤ 1200 →
@@ -100,16 +98,17 @@ beside-low h k l r = h .low k (omega arith)
 
 -- ---- a child's symbol stored at word p, and its definition bound
 
-pub record Stored (bs ws : List ℕ) (st : State) (i held top symbol : ℕ) (ws′ : List ℕ) (top′ : ℕ) : Type 0 where
-  pub rep : Rep bs ws′ st
-  pub abs : absOf bs ws′ st ≡ absOf bs ws st
-  pub env : envOf ws′ top′ ≡ bindDef (treeAt bs i) symbol (envOf ws top)
-  pub words : (n : ℕ) → n ≤ 2049 → Words n held top ws ws′
-  pub pending : (from j : ℕ) → from + j ≡ held →
-      pendingFrom ws′ from (suc j) ≡ pendingFrom ws from j ++ (symbol ∷ [])
+pub record Stored (bs ws : List ℕ) (t : Tables) (st : State) (i held top symbol : ℕ) (ws′ : List ℕ) (top′ : ℕ) : Type 0
+  where
+    pub rep : Rep bs ws′ st
+    pub abs : absOf bs ws′ t st ≡ absOf bs ws t st
+    pub env : envOf ws′ top′ ≡ bindDef (treeAt bs i) symbol (envOf ws top)
+    pub words : (n : ℕ) → n ≤ 2049 → Words n held top ws ws′
+    pub pending : (from j : ℕ) → from + j ≡ held →
+        pendingFrom ws′ from (suc j) ≡ pendingFrom ws from j ++ (symbol ∷ [])
 
-module _ (bs ws : List ℕ) (st : State) (i held top symbol : ℕ) (ws′ : List ℕ) (top′ : ℕ) (rep : Rep bs ws st)
-    (pend : held < 256) (room : top < 1200) (d : DefBound bs i top symbol (set ws (8200 + held) symbol) ws′ top′) where
+module _ (bs ws : List ℕ) (t : Tables) (st : State) (i held top symbol : ℕ) (ws′ : List ℕ) (top′ : ℕ)
+    (rep : Rep bs ws st) (open′ : Open t (st .entries)) (pend : held < 256) (room : top < 1200) (d : DefBound bs i top symbol (set ws (8200 + held) symbol) ws′ top′) where
   abbrev ws₁ : List ℕ
   ws₁ = set ws (8200 + held) symbol
 
@@ -125,8 +124,8 @@ module _ (bs ws : List ℕ) (st : State) (i held top symbol : ℕ) (ws′ : List
   stored-rep : Rep bs ws′ st
   stored-rep = later-rep bs ws ws′ st rep both-long both-low
 
-  stored-abs : absOf bs ws′ st ≡ absOf bs ws st
-  stored-abs = later-abs bs ws ws′ st rep both-long both-low
+  stored-abs : absOf bs ws′ t st ≡ absOf bs ws t st
+  stored-abs = later-abs bs ws ws′ st rep both-long both-low t open′
 
   stored-env : envOf ws′ top′ ≡ bindDef (treeAt bs i) symbol (envOf ws top)
   stored-env =
@@ -161,7 +160,7 @@ module _ (bs ws : List ℕ) (st : State) (i held top symbol : ℕ) (ws′ : List
       arith)) in
       words-more ws′ (8200 + from) j ∙ rw (at, old, stored-at)
 
-  pub stored : Stored bs ws st i held top symbol ws′ top′
+  pub stored : Stored bs ws t st i held top symbol ws′ top′
   stored = record {
     rep = stored-rep;
     abs = stored-abs;

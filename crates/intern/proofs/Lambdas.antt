@@ -20,6 +20,7 @@ use Rattle.walk.proofs.Bridge.{row-fits}
 use Rattle.symbols.specs.Words.{pendingFrom}
 use Rattle.scopes.specs.Scopes.{scopeWord, parentOf, argsIn}
 use Rattle.bindings.specs.Bindings.{envOf}
+use Rattle.tables.specs.declared.Tables.{Tables}
 use Rattle.interner.specs.declared.State.{State}
 use Rattle.interner.specs.declared.Step.{Step}
 use Rattle.interner.specs.State.{absOf}
@@ -40,10 +41,10 @@ use Rattle.intern.proofs.Bodies.{lambda-kind}
 use Rattle.intern.proofs.Records.{reads-refused, reads-answers, Below, Gave, kids-operands, kids-fail, kids-gave}
 use Rattle.intern.proofs.Cases.{func-refused, func-kids-refused, func-good}
 
-module _ (bs ws : List ℕ) (st : State) (i : ℕ) (at : Here) (sound : Sound bs) (lt : i < recordCount bs)
-    (twelve : recAt bs i .shape ≡ 12) (stands : Stands bs ws st i (depth (treeAt bs i)) at)
-    (counted : Counted (treeAt bs i) (at .scope) (envOf ws (at .top)) (absOf bs ws st)) (ws₁ : List ℕ) (e : Entered)
-    (enters : Enters bs ws st i at ws₁ e) where
+module _ (bs ws : List ℕ) (t : Tables) (st : State) (i : ℕ) (at : Here) (sound : Sound bs) (lt : i < recordCount bs)
+    (twelve : recAt bs i .shape ≡ 12) (stands : Stands bs ws t st i (depth (treeAt bs i)) at)
+    (counted : Counted (treeAt bs i) (at .scope) (envOf ws (at .top)) (absOf bs ws t st)) (ws₁ : List ℕ) (e : Entered)
+    (enters : Enters bs ws t st i at ws₁ e) where
   abbrev r : Rec
   r = recAt bs i
 
@@ -51,21 +52,21 @@ module _ (bs ws : List ℕ) (st : State) (i : ℕ) (at : Here) (sound : Sound bs
   env = envOf ws (at .top)
 
   abbrev out : Out
-  out = internFunc i (at .scope) r env (kidsRead bs i) (absOf bs ws st)
+  out = internFunc i (at .scope) r env (kidsRead bs i) (absOf bs ws t st)
 
   -- the arguments are refused
   pub lambda-unmade : (z : Read) → z ≡ refusedRead (e .st) (e .number) (e .place) i → (e .number ≡ 0 → ⊥) →
-      Reads bs ws st i at out ws₁ z
+      Reads bs ws t st i at out ws₁ z
   lambda-unmade z f h =
-      subst (Reads bs ws st i at out ws₁) (sym f)
-      (reads-refused i at out (enters .kept) (enters .rep) (e .number) (e .place) i h
-      (func-refused i (at .scope) r env (kidsRead bs i) (absOf bs ws st) (e .number) (e .place) (enters .fails h)))
+      subst (Reads bs ws t st i at out ws₁) (sym f)
+      (reads-refused i at out (enters .kept) (enters .rep) (enters .opened) (e .number) (e .place) i h
+      (func-refused i (at .scope) r env (kidsRead bs i) (absOf bs ws t st) (e .number) (e .place) (enters .fails h)))
 
   pub lambda-one : _≡_ {A = ℕ} 1 (rowAt bs i .kids)
   lambda-one = sym (fits-func (rowAt bs i) (row-fits bs i (sound .fit) lt) twelve .0)
 
   module _ (ok : e .number ≡ 0) where
-    abbrev body : Body bs ws st i at ws₁ e
+    abbrev body : Body bs ws t st i at ws₁ e
     body = enters .opens ok
 
     abbrev own : List ℕ
@@ -77,38 +78,39 @@ module _ (bs ws : List ℕ) (st : State) (i : ℕ) (at : Here) (sound : Sound bs
     abbrev opened : intern.State
     opened = openScope (at .scope) (some own) (body .made .tables) (body .made)
 
-    below : Below bs ws₁ (e .st) i (e .at)
+    below : Below bs ws₁ t (e .st) i (e .at)
     unfolding depth
     below = record {
       rep = enters .rep;
+      opened = enters .opened;
       scope = body .body .low;
       held = omega (arith, body .held, stands .held);
       top = omega (arith, body .most, stands .top, stands .level);
       level = omega (arith, body .level, stands .level);
-      tables = omega (arith, enters .kept .depth, stands .tables);
+      tables = omega (arith, stands .tables);
     }
 
-    well : WellAll (kidsAt bs i) false (r .opcode) 0 (e .at .scope) (envOf ws₁ (e .at .top)) (absOf bs ws₁ (e .st)) 1
+    well : WellAll (kidsAt bs i) false (r .opcode) 0 (e .at .scope) (envOf ws₁ (e .at .top)) (absOf bs ws₁ t (e .st)) 1
     well =
-        subst (λ (z : ℕ). WellAll (kidsAt bs i) false (r .opcode) 0 z (envOf ws₁ (e .at .top)) (absOf bs ws₁ (e .st)) 1)
+        subst (λ (z : ℕ). WellAll (kidsAt bs i) false (r .opcode) 0 z (envOf ws₁ (e .at .top)) (absOf bs ws₁ t (e .st)) 1)
         (sym (body .scope))
         (subst (λ (z : Env). WellAll (kidsAt bs i) false (r .opcode) 0 (length (body .made .scopes)) z
-        (absOf bs ws₁ (e .st)) 1) (sym (body .env))
+        (absOf bs ws₁ t (e .st)) 1) (sym (body .env))
         (subst (λ (z : intern.State). WellAll (kidsAt bs i) false (r .opcode) 0 (length (body .made .scopes)) inner z 1)
         (sym (body .abs))
         (lambda-well (counted .legible .well) (lambda-kind _ twelve) (counted .few) i (own, [], body .made)
         (ap (argsMade bs i (at .scope)) (sym (counted .is)) ∙ body .is) .1)))
 
     module _ (op : ℕ) (eo : op ≡ recAt bs i .opcode) where
-      pub lambda-operands : Operands bs ws₁ (e .st) (i + 1) 1 op (e .at)
-      lambda-operands = kids-operands bs i sound lt ws₁ (e .st) (e .at) false below well 1 op lambda-one eo
+      pub lambda-operands : Operands bs ws₁ t (e .st) (i + 1) 1 op (e .at)
+      lambda-operands = kids-operands bs i sound lt ws₁ t (e .st) (e .at) false below well 1 op lambda-one eo
 
-      module _ (ws₂ : List ℕ) (k : Kids) (v : ReadsAll bs ws₁ (e .st) (i + 1) 1 op (e .at) ws₂ k) where
+      module _ (ws₂ : List ℕ) (k : Kids) (v : ReadsAll bs ws₁ t (e .st) (i + 1) 1 op (e .at) ws₂ k) where
         kept₂ : Kept at ws ws₂ st (k .st)
         kept₂ = kept-then (omega (arith, body .held)) (body .more) (enters .kept) (v .kept)
 
         kids-same : kidsRead bs i (length (body .made .scopes)) inner opened
-            ≡ kidsRead bs i (e .at .scope) (envOf ws₁ (e .at .top)) (absOf bs ws₁ (e .st))
+            ≡ kidsRead bs i (e .at .scope) (envOf ws₁ (e .at .top)) (absOf bs ws₁ t (e .st))
         kids-same =
             ap (λ (z : ℕ). kidsRead bs i z inner opened) (sym (body .scope))
             ∙ ap (λ (z : Env). kidsRead bs i (e .at .scope) z opened) (sym (body .env))
@@ -116,18 +118,18 @@ module _ (bs ws : List ℕ) (st : State) (i : ℕ) (at : Here) (sound : Sound bs
 
         -- the body is refused
         pub lambda-refused : (z : Read) → z ≡ refusedRead (k .st) (k .number) (k .place) i → (k .number ≡ 0 → ⊥) →
-            Reads bs ws st i at out ws₂ z
+            Reads bs ws t st i at out ws₂ z
         lambda-refused z f h =
-            subst (Reads bs ws st i at out ws₂) (sym f)
-            (reads-refused i at out kept₂ (v .rep) (k .number) (k .place) i h
-            (func-kids-refused i (at .scope) r env (kidsRead bs i) (absOf bs ws st) (own, [], body .made) (body .is)
+            subst (Reads bs ws t st i at out ws₂) (sym f)
+            (reads-refused i at out kept₂ (v .rep) (v .opened) (k .number) (k .place) i h
+            (func-kids-refused i (at .scope) r env (kidsRead bs i) (absOf bs ws t st) (own, [], body .made) (body .is)
             (k .number) (k .place)
-            (kids-same ∙ kids-fail bs i sound lt ws₁ (e .st) (e .at) false below well 1 op lambda-one eo ws₂ k v h)))
+            (kids-same ∙ kids-fail bs i sound lt ws₁ t (e .st) (e .at) false below well 1 op lambda-one eo ws₂ k v h)))
 
         -- the body is read
         module _ (done : k .number ≡ 0) where
-          gave : Gave bs ws₁ (e .st) i (e .at) false 1 ws₂ k
-          gave = kids-gave bs i sound lt ws₁ (e .st) (e .at) false below well 1 op lambda-one eo ws₂ k v done
+          gave : Gave bs ws₁ t (e .st) i (e .at) false 1 ws₂ k
+          gave = kids-gave bs i sound lt ws₁ t (e .st) (e .at) false below well 1 op lambda-one eo ws₂ k v done
 
           pub lambda-conclude : Concludes bs ws₂ (k .st) i (at .scope) (e .at .scope) (at .held) 1
           lambda-conclude =
@@ -151,12 +153,12 @@ module _ (bs ws : List ℕ) (st : State) (i : ℕ) (at : Here) (sound : Sound bs
           lambda-first = omega (arith, body .low)
 
           pub lambda-done : (ws₃ : List ℕ) (step : Step) →
-              Answers bs ws₂ (k .st)
+              Answers bs ws₂ t (k .st)
               (finish i (at .scope) r (pendingFrom ws₂ (at .held) 1) own
-              (func (withOpts (argsOf (r .aux) (r .lit)) own) (e .at .scope)) (absOf bs ws₂ (k .st))) ws₃ step →
-              Reads bs ws st i at out ws₃ (record { step = step; next = k .next })
+              (func (withOpts (argsOf (r .aux) (r .lit)) own) (e .at .scope)) (absOf bs ws₂ t (k .st))) ws₃ step →
+              Reads bs ws t st i at out ws₃ (record { step = step; next = k .next })
           lambda-done ws₃ step a =
-              reads-answers i at out kept₂ (v .rep) ws₃ step (k .next)
+              reads-answers i at out kept₂ (v .rep) (v .opened) ws₃ step (k .next)
               (gave .past)
               (record {
                 rep = a .rep;
@@ -165,11 +167,11 @@ module _ (bs ws : List ℕ) (st : State) (i : ℕ) (at : Here) (sound : Sound bs
                 is =
                     a .is
                     ∙ ap (λ (z : ℕ). finish i (at .scope) r (pendingFrom ws₂ z 1) own
-                    (func (withOpts (argsOf (r .aux) (r .lit)) own) (e .at .scope)) (absOf bs ws₂ (k .st)))
+                    (func (withOpts (argsOf (r .aux) (r .lit)) own) (e .at .scope)) (absOf bs ws₂ t (k .st)))
                     (sym (body .held))
                     ∙ ap (λ (z : ℕ). finish i (at .scope) r (pendingFrom ws₂ (e .at .held) 1) own
-                    (func (withOpts (argsOf (r .aux) (r .lit)) own) z) (absOf bs ws₂ (k .st))) (body .scope)
-                    ∙ sym (func-good i (at .scope) r env (kidsRead bs i) (absOf bs ws st) (own, [], body .made)
+                    (func (withOpts (argsOf (r .aux) (r .lit)) own) z) (absOf bs ws₂ t (k .st))) (body .scope)
+                    ∙ sym (func-good i (at .scope) r env (kidsRead bs i) (absOf bs ws t st) (own, [], body .made)
                     (body .is) _
                     (kids-same ∙ gave .is));
               })

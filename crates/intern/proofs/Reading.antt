@@ -21,6 +21,7 @@ use Rattle.scopes.specs.Scopes.{scopeWord, levelOf}
 use Rattle.bindings.specs.Bindings.{envOf}
 use Rattle.bindings.specs.Made.{DefBound}
 use Rattle.bindings.proofs.Laws.{env-words}
+use Rattle.tables.specs.declared.Tables.{Tables}
 use Rattle.interner.specs.declared.State.{State}
 use Rattle.interner.specs.State.{absOf}
 use Rattle.interner.specs.Step.{outOf}
@@ -42,20 +43,21 @@ use Rattle.intern.proofs.After.{after-turn, after-refused, after-same, 
 use Rattle.intern.proofs.After.{noted-list, noted-branched, noted-thunks}
 use Rattle.intern.proofs.After.{thunk-few}
 
-module _ (bs : List ℕ) (i count op : ℕ) (at : Here) (ws₀ : List ℕ) (st₀ : State) (few-records : recordCount bs ≤ 256)
-    (h₀ : Operands bs ws₀ st₀ i count op at) where
+module _ (bs : List ℕ) (t : Tables) (i count op : ℕ) (at : Here) (ws₀ : List ℕ) (st₀ : State)
+    (few-records : recordCount bs ≤ 256) (h₀ : Operands bs ws₀ t st₀ i count op at) where
   abbrev D : ℕ
   D = depths (trees bs i count)
 
   -- ---- the start
 
-  pub reading-start : (k : Kids) → k ≡ unread st₀ i → Reading bs i count op at ws₀ st₀ ws₀ k (at .top) 0
+  pub reading-start : (k : Kids) → k ≡ unread st₀ i → Reading bs t i count op at ws₀ st₀ ws₀ k (at .top) 0
   unfolding wordsFrom
-  reading-start k e = subst (λ (z : Kids). Reading bs i count op at ws₀ st₀ ws₀ z (at .top) 0) (sym e) (record {
+  reading-start k e = subst (λ (z : Kids). Reading bs t i count op at ws₀ st₀ ws₀ z (at .top) 0) (sym e) (record {
     left = count;
     remains = record {
       sum = omega arith;
       rep = h₀ .stands .rep;
+      opened = h₀ .stands .opened;
       number = refl;
       there = h₀ .there;
       is = after-none _;
@@ -79,9 +81,9 @@ module _ (bs : List ℕ) (i count op : ℕ) (at : Here) (ws₀ : List ℕ) (st�
   module _ (ws : List ℕ) (k : Kids) (top j : ℕ) where
     -- ---- the next child: what is left is not nothing
 
-    module _ (m : ℕ) (h : Remains bs i count op at ws₀ st₀ ws k top j (suc m)) where
-      abbrev t : Tree
-      t = treeAt bs (k .next)
+    module _ (m : ℕ) (h : Remains bs t i count op at ws₀ st₀ ws k top j (suc m)) where
+      abbrev u : Tree
+      u = treeAt bs (k .next)
 
       abbrev us : Trees
       us = takeT m (restAt bs (k .next))
@@ -89,7 +91,7 @@ module _ (bs : List ℕ) (i count op : ℕ) (at : Here) (ws₀ : List ℕ) (st�
       left-there : k .next < recordCount bs
       left-there = trees-left bs (k .next) (omega (arith, h .there))
 
-      left-is : trees bs (k .next) (suc m) ≡ cons t us
+      left-is : trees bs (k .next) (suc m) ≡ cons u us
       unfolding takeT
       left-is = ap (takeT (suc m)) (trees-at bs (k .next) left-there)
 
@@ -101,18 +103,18 @@ module _ (bs : List ℕ) (i count op : ℕ) (at : Here) (ws₀ : List ℕ) (st�
       unfolding many
       left-many = omega (arith, h .there, ap many (trees-at bs (k .next) left-there))
 
-      left-sizes : sizes (trees bs (k .next) (suc m)) ≡ size t + sizes us
+      left-sizes : sizes (trees bs (k .next) (suc m)) ≡ size u + sizes us
       unfolding sizes
       left-sizes = ap sizes left-is
 
-      left-depths : depths (trees bs (k .next) (suc m)) ≡ max (depth t) (depths us)
+      left-depths : depths (trees bs (k .next) (suc m)) ≡ max (depth u) (depths us)
       unfolding depths
       left-depths = ap depths left-is
 
-      left-deep : depth t ≤ D
+      left-deep : depth u ≤ D
       left-deep = omega (arith, left-depths, h .shallow)
 
-      left-well : WellAll (cons t us) (h .block) op j (at .scope) (envOf ws top) (absOf bs ws (k .st)) (h .paid)
+      left-well : WellAll (cons u us) (h .block) op j (at .scope) (envOf ws top) (absOf bs ws t (k .st)) (h .paid)
       left-well = well-moved (sym left-is) refl refl refl (h .well)
 
       scope-low : at .scope < k .st .scopes
@@ -121,26 +123,27 @@ module _ (bs : List ℕ) (i count op : ℕ) (at : Here) (ws₀ : List ℕ) (st�
       scope-kept : scopeWord ws (at .scope) ≡ scopeWord ws₀ (at .scope)
       scope-kept = h .kept .words .scopes (5120 + at .scope) (omega arith) (omega (arith, h₀ .stands .scope))
 
-      next-stands : Stands bs ws (k .st) (k .next) (depth t) (childAt at j top)
+      next-stands : Stands bs ws t (k .st) (k .next) (depth u) (childAt at j top)
       next-stands = record {
         rep = h .rep;
+        opened = h .opened;
         scope = scope-low;
         held = h .held;
         top = omega (arith, h .few, left-deep);
         level = omega (arith, ap levelOf scope-kept, h₀ .stands .level, left-deep);
-        tables = omega (arith, h .kept .depth, h₀ .stands .tables, left-deep);
+        tables = omega (arith, h₀ .stands .tables, left-deep);
       }
 
-      next-child : (thunk : Bool) → thunk ≡ thunked op j → Child bs ws (k .st) (k .next) thunk (childAt at j top)
+      next-child : (thunk : Bool) → thunk ≡ thunked op j → Child bs ws t (k .st) (k .next) thunk (childAt at j top)
       next-child thunk e = record {
         stands = next-stands;
         def = h .block && not (isNil us);
         plain = λ f. child-plain left-well (sym e ∙ f);
-        room = λ f. omega (arith, h .kept .depth, h₀ .room j (sym e ∙ f), left-deep);
-        few = λ f. omega (arith, child-thunk left-well (sym e ∙ f) .0, scopes-count bs ws (k .st));
+        room = λ f. omega (arith, h₀ .room j (sym e ∙ f), left-deep);
+        few = λ f. omega (arith, child-thunk left-well (sym e ∙ f) .0, scopes-count bs ws t (k .st));
         inside = λ f.
-            subst (λ (z : ℕ). Well t (h .block && not (isNil us)) z (envOf ws top)
-            (intern.openThunk (at .scope) (absOf bs ws (k .st)))) (scopes-count bs ws (k .st))
+            subst (λ (z : ℕ). Well u (h .block && not (isNil us)) z (envOf ws top)
+            (intern.openThunk (at .scope) (absOf bs ws t (k .st)))) (scopes-count bs ws t (k .st))
             (child-thunk left-well (sym e ∙ f) .1);
       }
 
@@ -155,19 +158,19 @@ module _ (bs : List ℕ) (i count op : ℕ) (at : Here) (ws₀ : List ℕ) (st�
       next-room = (omega (arith, h .held, left-there), omega (arith, h .few, left-there, deep-some))
 
       left-whole : after (pendingFrom ws (at .held) j) (branchesOf (k .branches))
-          (internAll (cons t us) op j (k .next) (at .scope) (envOf ws top) (absOf bs ws (k .st)))
-          ≡ internAll (trees bs i count) op 0 i (at .scope) (envOf ws₀ (at .top)) (absOf bs ws₀ st₀)
+          (internAll (cons u us) op j (k .next) (at .scope) (envOf ws top) (absOf bs ws t (k .st)))
+          ≡ internAll (trees bs i count) op 0 i (at .scope) (envOf ws₀ (at .top)) (absOf bs ws₀ t st₀)
       left-whole =
           ap (λ (z : Trees). after (pendingFrom ws (at .held) j) (branchesOf (k .branches))
-          (internAll z op j (k .next) (at .scope) (envOf ws top) (absOf bs ws (k .st)))) (sym left-is)
+          (internAll z op j (k .next) (at .scope) (envOf ws top) (absOf bs ws t (k .st)))) (sym left-is)
           ∙ h .is
 
       module _ (thunk : Bool) (et : thunk ≡ thunked op j) (ws₁ : List ℕ) (r : Read)
-          (v : Reads bs ws (k .st) (k .next) (childAt at j top)
-          (internScoped thunk (at .scope) (λ c s. intern t (k .next) c (envOf ws top) s) (absOf bs ws (k .st))) ws₁ r)
+          (v : Reads bs ws t (k .st) (k .next) (childAt at j top)
+          (internScoped thunk (at .scope) (λ c s. intern u (k .next) c (envOf ws top) s) (absOf bs ws t (k .st))) ws₁ r)
         where
-          scoped-is : internScoped (thunked op j) (at .scope) (λ c s. intern t (k .next) c (envOf ws top) s)
-              (absOf bs ws (k .st)) ≡ outOf bs ws₁ (r .step)
+          scoped-is : internScoped (thunked op j) (at .scope) (λ c s. intern u (k .next) c (envOf ws top) s)
+              (absOf bs ws t (k .st)) ≡ outOf bs ws₁ t (r .step)
           scoped-is = sym (v .is ∙ rw et)
 
           child-kept : Kept at ws₀ ws₁ st₀ (r .step .st)
@@ -175,13 +178,14 @@ module _ (bs : List ℕ) (i count op : ℕ) (at : Here) (ws₀ : List ℕ) (st�
 
           -- ---- a child that is refused
 
-          pub next-refused : (r .step .number ≡ 0 → ⊥) → ReadsAll bs ws₀ st₀ i count op at ws₁ (failed k r)
+          pub next-refused : (r .step .number ≡ 0 → ⊥) → ReadsAll bs ws₀ t st₀ i count op at ws₁ (failed k r)
           next-refused n = record {
             rep = v .rep;
+            opened = v .opened;
             is =
-                kids-refused bs ws₁ (at .held) count (failed k r) n
-                ∙ sym (after-refused _ _ op j (k .next) (at .scope) (envOf ws top) (absOf bs ws (k .st)) t us
-                (r .step .number) (r .step .place) (scoped-is ∙ out-refused bs ws₁ (r .step) n))
+                kids-refused bs ws₁ t (at .held) count (failed k r) n
+                ∙ sym (after-refused _ _ op j (k .next) (at .scope) (envOf ws top) (absOf bs ws t (k .st)) u us
+                (r .step .number) (r .step .place) (scoped-is ∙ out-refused bs ws₁ t (r .step) n))
                 ∙ left-whole;
             past = λ e. absurd (n e);
             pending = λ e. absurd (n e);
@@ -201,7 +205,7 @@ module _ (bs : List ℕ) (i count op : ℕ) (at : Here) (ws₀ : List ℕ) (st�
               d : DefBound bs (k .next) top s (set ws₁ (8200 + (at .held + j)) s) ws₂ top′
               d = let e : 8200 + (at .held + j) ≡ 8200 + at .held + j = omega arith in rw e d₀
 
-              next-is : r .next ≡ k .next + size t
+              next-is : r .next ≡ k .next + size u
               next-is = v .past ok .0
 
               rest-is : treesFrom bs (r .next) ≡ restAt bs (k .next)
@@ -211,24 +215,25 @@ module _ (bs : List ℕ) (i count op : ℕ) (at : Here) (ws₀ : List ℕ) (st�
               us-is = ap (takeT m) rest-is
 
               forward : k .next + 1 ≤ r .next
-              forward = omega (arith, next-is, size-some t)
+              forward = omega (arith, next-is, size-some u)
 
               abbrev st₁ : State
               st₁ = r .step .st
 
-              gives : internScoped (thunked op j) (at .scope) (λ c s. intern t (k .next) c (envOf ws top) s)
-                  (absOf bs ws (k .st)) ≡ good (s, absOf bs ws₁ st₁)
-              gives = scoped-is ∙ out-good bs ws₁ (r .step) ok
+              gives : internScoped (thunked op j) (at .scope) (λ c s. intern u (k .next) c (envOf ws top) s)
+                  (absOf bs ws t (k .st)) ≡ good (s, absOf bs ws₁ t st₁)
+              gives = scoped-is ∙ out-good bs ws₁ t (r .step) ok
 
-              after₁ : Stored bs ws₁ st₁ (k .next) (at .held + j) top s ws₂ top′
+              after₁ : Stored bs ws₁ t st₁ (k .next) (at .held + j) top s ws₂ top′
               after₁ =
-                  stored bs ws₁ st₁ (k .next) (at .held + j) top s ws₂ top′ (v .rep) (next-room .0) (next-room .1) d
+                  stored bs ws₁ t st₁ (k .next) (at .held + j) top s ws₂ top′ (v .rep) (v .opened) (next-room .0)
+                  (next-room .1) d
 
-              abs₂ : absOf bs ws₂ st₁ ≡ absOf bs ws₁ st₁
+              abs₂ : absOf bs ws₂ t st₁ ≡ absOf bs ws₁ t st₁
               abs₂ = after₁ .abs
 
-              env₂ : envOf ws₂ top′ ≡ bindDef t s (envOf ws top)
-              env₂ = after₁ .env ∙ ap (bindDef t s) (env-words ws₁ ws top (v .kept .words .bound))
+              env₂ : envOf ws₂ top′ ≡ bindDef u s (envOf ws top)
+              env₂ = after₁ .env ∙ ap (bindDef u s) (env-words ws₁ ws top (v .kept .words .bound))
 
               pending₂ : pendingFrom ws₂ (at .held) (suc j) ≡ pendingFrom ws (at .held) j ++ (s ∷ [])
               pending₂ =
@@ -238,36 +243,33 @@ module _ (bs : List ℕ) (i count op : ℕ) (at : Here) (ws₀ : List ℕ) (st�
                   (λ x l y. v .kept .words .pending x (omega arith) (omega arith)))
 
               branches₂ : branchesOf (noted thunk (k .branches) (k .st .scopes))
-                  ≡ branchesOf (k .branches) ++ branch (thunked op j) (length (absOf bs ws (k .st) .scopes)) []
+                  ≡ branchesOf (k .branches) ++ branch (thunked op j) (length (absOf bs ws t (k .st) .scopes)) []
               branches₂ =
                   noted-list (k .branches) (k .st .scopes) thunk
                   (thunk-few (k .branches) (k .st .scopes) op j thunk et (h .thunks))
-                  ∙ rw (et, scopes-count bs ws (k .st))
+                  ∙ rw (et, scopes-count bs ws t (k .st))
 
               is₂ : after (pendingFrom ws₂ (at .held) (j + 1)) (branchesOf (noted thunk (k .branches) (k .st .scopes)))
                   (internAll (trees bs (r .next) m) op (j + 1) (r .next) (at .scope) (envOf ws₂ top′)
-                  (absOf bs ws₂ st₁))
-                  ≡ internAll (trees bs i count) op 0 i (at .scope) (envOf ws₀ (at .top)) (absOf bs ws₀ st₀)
+                  (absOf bs ws₂ t st₁))
+                  ≡ internAll (trees bs i count) op 0 i (at .scope) (envOf ws₀ (at .top)) (absOf bs ws₀ t st₀)
               is₂ =
                   after-same op (at .scope) (ap (pendingFrom ws₂ (at .held)) (add-one j) ∙ pending₂) branches₂ us-is
                   (add-one j) next-is env₂ abs₂
-                  ∙ sym (after-turn _ _ op j (k .next) (at .scope) (envOf ws top) (absOf bs ws (k .st)) t us
-                  (s, absOf bs ws₁ st₁) gives)
+                  ∙ sym (after-turn _ _ op j (k .next) (at .scope) (envOf ws top) (absOf bs ws t (k .st)) u us
+                  (s, absOf bs ws₁ t st₁) gives)
                   ∙ left-whole
 
               step₂ : Kept (childAt at j top) ws₁ ws₂ st₁ st₁
-              step₂ = record {
-                words = after₁ .words (st₁ .scopes) (v .rep .few-scopes);
-                depth = refl;
-                scopes = omega arith;
-              }
+              step₂ = record { words = after₁ .words (st₁ .scopes) (v .rep .few-scopes); scopes = omega arith }
 
-              turned : Reading bs i count op at ws₀ st₀ ws₂ (withChild k thunk r) top′ (j + 1)
+              turned : Reading bs t i count op at ws₀ st₀ ws₂ (withChild k thunk r) top′ (j + 1)
               turned = record {
                 left = m;
                 remains = record {
                   sum = omega (arith, h .sum);
                   rep = after₁ .rep;
+                  opened = v .opened;
                   number = refl;
                   there = rw rest-is left-many;
                   is = is₂;
@@ -278,7 +280,7 @@ module _ (bs : List ℕ) (i count op : ℕ) (at : Here) (ws₀ : List ℕ) (st�
                   paid = suc (h .paid);
                   well =
                       well-moved us-is (add-one j) env₂ abs₂
-                      (next-well left-well (k .next) (s, absOf bs ws₁ st₁) gives);
+                      (next-well left-well (k .next) (s, absOf bs ws₁ t st₁) gives);
                   onward = omega (arith, forward, h .onward);
                   held = omega (arith, forward, h .held);
                   pending = omega (arith, next-room .0);
@@ -294,17 +296,18 @@ module _ (bs : List ℕ) (i count op : ℕ) (at : Here) (ws₀ : List ℕ) (st�
 
     -- ---- the end
 
-    at-end : Remains bs i count op at ws₀ st₀ ws k top j zero → ReadsAll bs ws₀ st₀ i count op at ws k
+    at-end : Remains bs t i count op at ws₀ st₀ ws k top j zero → ReadsAll bs ws₀ t st₀ i count op at ws k
     unfolding takeT dropT sizes
     at-end h =
         let e : j ≡ count = omega (arith, h .sum) in
         record {
           rep = h .rep;
+          opened = h .opened;
           is =
-              kids-good bs ws (at .held) count k (h .number)
-              ∙ ap (λ (z : ℕ). kidsAnswer bs ws (at .held) z k) (sym e)
+              kids-good bs ws t (at .held) count k (h .number)
+              ∙ ap (λ (z : ℕ). kidsAnswer bs ws t (at .held) z k) (sym e)
               ∙ sym (after-end (pendingFrom ws (at .held) j) (branchesOf (k .branches)) op j (k .next) (at .scope)
-              (envOf ws top) (absOf bs ws (k .st)))
+              (envOf ws top) (absOf bs ws t (k .st)))
               ∙ h .is;
           past = λ n. (omega (arith, h .place), h .rest);
           pending = λ n. omega (arith, h .pending);
@@ -312,17 +315,17 @@ module _ (bs : List ℕ) (i count op : ℕ) (at : Here) (ws₀ : List ℕ) (st�
           kept = h .kept;
         }
 
-    module _ (g : Reading bs i count op at ws₀ st₀ ws k top j) where
-      pub reading-end : count ≤ j → ReadsAll bs ws₀ st₀ i count op at ws k
+    module _ (g : Reading bs t i count op at ws₀ st₀ ws k top j) where
+      pub reading-end : count ≤ j → ReadsAll bs ws₀ t st₀ i count op at ws k
       reading-end l =
           let e : g .left ≡ 0 = omega (arith, g .remains .sum) in
-          at-end (subst (λ (z : ℕ). Remains bs i count op at ws₀ st₀ ws k top j z) e (g .remains))
+          at-end (subst (λ (z : ℕ). Remains bs t i count op at ws₀ st₀ ws k top j z) e (g .remains))
 
       module _ (lt : j < count) where
-        some : Remains bs i count op at ws₀ st₀ ws k top j (suc (g .left - 1))
+        some : Remains bs t i count op at ws₀ st₀ ws k top j (suc (g .left - 1))
         some =
             let e : g .left ≡ suc (g .left - 1) = omega (arith, g .remains .sum) in
-            subst (λ (z : ℕ). Remains bs i count op at ws₀ st₀ ws k top j z) e (g .remains)
+            subst (λ (z : ℕ). Remains bs t i count op at ws₀ st₀ ws k top j z) e (g .remains)
 
         pub reading-there : k .next < recordCount bs
         reading-there = next-there (g .left - 1) some
@@ -331,50 +334,50 @@ module _ (bs : List ℕ) (i count op : ℕ) (at : Here) (ws₀ : List ℕ) (st�
         reading-room = next-room (g .left - 1) some
 
         pub reading-child : (thunk : Bool) → thunk ≡ thunked op j → (c : Here) → c ≡ childAt at j top →
-            Child bs ws (k .st) (k .next) thunk c
+            Child bs ws t (k .st) (k .next) thunk c
         reading-child thunk e c f =
-            subst (Child bs ws (k .st) (k .next) thunk) (sym f) (next-child (g .left - 1) some thunk e)
+            subst (Child bs ws t (k .st) (k .next) thunk) (sym f) (next-child (g .left - 1) some thunk e)
 
         module _ (thunk : Bool) (et : thunk ≡ thunked op j) (ws₁ : List ℕ) (r : Read) (c : Here)
             (ec : c ≡ childAt at j top)
-            (v₀ : Reads bs ws (k .st) (k .next) c
+            (v₀ : Reads bs ws t (k .st) (k .next) c
             (internScoped thunk (c .scope) (λ c′ s. intern (treeAt bs (k .next)) (k .next) c′ (envOf ws (c .top)) s)
-            (absOf bs ws (k .st))) ws₁ r) where
-          v : Reads bs ws (k .st) (k .next) (childAt at j top)
+            (absOf bs ws t (k .st))) ws₁ r) where
+          v : Reads bs ws t (k .st) (k .next) (childAt at j top)
               (internScoped thunk (at .scope) (λ c′ s. intern (treeAt bs (k .next)) (k .next) c′ (envOf ws top) s)
-              (absOf bs ws (k .st))) ws₁ r
-          v = subst (λ (z : Here). Reads bs ws (k .st) (k .next) z
+              (absOf bs ws t (k .st))) ws₁ r
+          v = subst (λ (z : Here). Reads bs ws t (k .st) (k .next) z
               (internScoped thunk (z .scope) (λ c′ s. intern (treeAt bs (k .next)) (k .next) c′ (envOf ws (z .top)) s)
-              (absOf bs ws (k .st))) ws₁ r) ec v₀
+              (absOf bs ws t (k .st))) ws₁ r) ec v₀
 
           pub reading-refused : (z : Kids) → z ≡ failed k r → (r .step .number ≡ 0 → ⊥) →
-              ReadsAll bs ws₀ st₀ i count op at ws₁ z
+              ReadsAll bs ws₀ t st₀ i count op at ws₁ z
           reading-refused z e n =
-              subst (λ (y : Kids). ReadsAll bs ws₀ st₀ i count op at ws₁ y) (sym e)
+              subst (λ (y : Kids). ReadsAll bs ws₀ t st₀ i count op at ws₁ y) (sym e)
               (next-refused (g .left - 1) some thunk et ws₁ r v n)
 
           pub reading-turn : r .step .number ≡ 0 → (ws₂ : List ℕ) (top′ : ℕ) →
               DefBound bs (k .next) top (r .step .symbol) (set ws₁ (8200 + at .held + j) (r .step .symbol)) ws₂ top′ →
-              (z : Kids) → z ≡ withChild k thunk r → Reading bs i count op at ws₀ st₀ ws₂ z top′ (j + 1)
+              (z : Kids) → z ≡ withChild k thunk r → Reading bs t i count op at ws₀ st₀ ws₂ z top′ (j + 1)
           reading-turn ok ws₂ top′ d z e =
-              subst (λ (y : Kids). Reading bs i count op at ws₀ st₀ ws₂ y top′ (j + 1)) (sym e)
+              subst (λ (y : Kids). Reading bs t i count op at ws₀ st₀ ws₂ y top′ (j + 1)) (sym e)
               (turned (g .left - 1) some thunk et ws₁ r v ok ws₂ top′ d)
 
 -- ---- the loop begins with no child read
 
-module _ (bs : List ℕ) (i count op : ℕ) (at : Here) (ws₀ : List ℕ) (st : State) (few-records : recordCount bs ≤ 256)
-    (h : Operands bs ws₀ st i count op at) (k₀ : Kids) (e : k₀ ≡ unread st i) where
+module _ (bs : List ℕ) (t : Tables) (i count op : ℕ) (at : Here) (ws₀ : List ℕ) (st : State)
+    (few-records : recordCount bs ≤ 256) (h : Operands bs ws₀ t st i count op at) (k₀ : Kids) (e : k₀ ≡ unread st i) where
   first-state : k₀ .st ≡ st
   first-state = ap (λ (z : Kids). z .st) e
 
-  pub loop-operands : Operands bs ws₀ (k₀ .st) i count op at
-  loop-operands = subst (λ (z : State). Operands bs ws₀ z i count op at) (sym first-state) h
+  pub loop-operands : Operands bs ws₀ t (k₀ .st) i count op at
+  loop-operands = subst (λ (z : State). Operands bs ws₀ t z i count op at) (sym first-state) h
 
-  pub loop-start : Reading bs i count op at ws₀ (k₀ .st) ws₀ k₀ (at .top) 0
+  pub loop-start : Reading bs t i count op at ws₀ (k₀ .st) ws₀ k₀ (at .top) 0
   loop-start =
-      reading-start bs i count op at ws₀ (k₀ .st) few-records loop-operands k₀
+      reading-start bs t i count op at ws₀ (k₀ .st) few-records loop-operands k₀
       (e ∙ ap (λ (z : State). unread z i) (sym first-state))
 
-  pub loop-reads : (ws′ : List ℕ) (k : Kids) → ReadsAll bs ws₀ (k₀ .st) i count op at ws′ k →
-      ReadsAll bs ws₀ st i count op at ws′ k
-  loop-reads ws′ k v = subst (λ (z : State). ReadsAll bs ws₀ z i count op at ws′ k) first-state v
+  pub loop-reads : (ws′ : List ℕ) (k : Kids) → ReadsAll bs ws₀ t (k₀ .st) i count op at ws′ k →
+      ReadsAll bs ws₀ t st i count op at ws′ k
+  loop-reads ws′ k v = subst (λ (z : State). ReadsAll bs ws₀ t z i count op at ws′ k) first-state v

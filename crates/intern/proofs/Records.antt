@@ -28,6 +28,9 @@ use Rattle.symbols.proofs.Words.{words-length}
 use Rattle.scopes.specs.Scopes.{scopeWord, levelOf}
 use Rattle.bindings.specs.Bindings.{envOf}
 use Rattle.bindings.proofs.Laws.{env-words}
+use Rattle.tables.specs.declared.Tables.{Tables}
+use Rattle.tables.specs.Tables.{Open}
+use Rattle.tables.proofs.Stack.{open-later}
 use Rattle.interner.specs.declared.State.{State}
 use Rattle.interner.specs.declared.Step.{Step}
 use Rattle.interner.specs.State.{absOf, Rep}
@@ -49,21 +52,23 @@ use Rattle.intern.proofs.After.{out-refused, kids-good, kids-refused}
 
 -- ---- a step's answer
 
-module _ {bs ws ws₁ : List ℕ} {st st₁ : State} (i : ℕ) (at : Here) (o : Out) (kept : Kept at ws ws₁ st st₁)
-    (rep : Rep bs ws₁ st₁) where
+module _ {bs ws ws₁ : List ℕ} {t : Tables} {st st₁ : State} (i : ℕ) (at : Here) (o : Out) (kept : Kept at ws ws₁ st st₁)
+    (rep : Rep bs ws₁ st₁) (open′ : Open t (st₁ .entries)) where
   pub reads-refused : (n p next : ℕ) → (n ≡ 0 → ⊥) → o ≡ refused n p →
-      Reads bs ws st i at o ws₁ (refusedRead st₁ n p next)
+      Reads bs ws t st i at o ws₁ (refusedRead st₁ n p next)
   reads-refused n p next h e = record {
     rep = rep;
-    is = out-refused bs ws₁ (refusedRead st₁ n p next .step) h ∙ sym e;
+    opened = open′;
+    is = out-refused bs ws₁ t (refusedRead st₁ n p next .step) h ∙ sym e;
     past = λ z. absurd (h z);
     kept = kept;
   }
 
   pub reads-answers : (ws₂ : List ℕ) (r : Step) (next : ℕ) → Past bs i (size (treeAt bs i)) (restAt bs i) next →
-      Answers bs ws₁ st₁ o ws₂ r → Reads bs ws st i at o ws₂ (record { step = r; next = next })
+      Answers bs ws₁ t st₁ o ws₂ r → Reads bs ws t st i at o ws₂ (record { step = r; next = next })
   reads-answers ws₂ r next p a = record {
     rep = a .rep;
+    opened = open-later t (st₁ .entries) open′ (r .st .entries) (a .leaves .entries);
     is = a .is;
     past = λ z. p;
     kept = kept-then (omega arith) (omega arith) kept (leaves-kept at (rep .few-scopes) (a .leaves));
@@ -102,15 +107,15 @@ module _ (bs : List ℕ) (i : ℕ) (sound : Sound bs) (lt : i < recordCount bs) 
   pub block-last : recAt bs i .shape ≡ 11 → 1 ≤ rowAt bs i .kids
   block-last e = fits-block (rowAt bs i) (row-fits bs i (sound .fit) lt) e
 
-module _ (bs ws : List ℕ) (i : ℕ) (at : Here) (k : Kids) where
+module _ (bs ws : List ℕ) (t : Tables) (i : ℕ) (at : Here) (k : Kids) where
   abbrev read : Outs
-  read = kidsAnswer bs ws (at .held) (rowAt bs i .kids) k
+  read = kidsAnswer bs ws t (at .held) (rowAt bs i .kids) k
 
   abbrev Gives : List ℕ → Step → Type 0
-  Gives ws′ r = Answers bs ws (k .st) (concluded i (at .scope) (recAt bs i) read) ws′ r
+  Gives ws′ r = Answers bs ws t (k .st) (concluded i (at .scope) (recAt bs i) read) ws′ r
 
   answers-as : {o : Out} (ws′ : List ℕ) (r : Step) → concluded i (at .scope) (recAt bs i) read ≡ o →
-      Answers bs ws (k .st) o ws′ r → Gives ws′ r
+      Answers bs ws t (k .st) o ws′ r → Gives ws′ r
   answers-as ws′ r e a = record { rep = a .rep; leaves = a .leaves; low = a .low; is = a .is ∙ sym e }
 
   module _ (rep : Rep bs ws (k .st))
@@ -120,7 +125,7 @@ module _ (bs ws : List ℕ) (i : ℕ) (at : Here) (k : Kids) where
     unfolding internLast _>>=_
     last-gives some e =
         answers-as ws r e
-        (given-answers bs ws (k .st) (last (pendingFrom ws (at .held) (rowAt bs i .kids))) r rep
+        (given-answers bs ws t (k .st) (last (pendingFrom ws (at .held) (rowAt bs i .kids))) r rep
         (last-low ws (at .held) (rowAt bs i .kids) (k .st .symbols) some (h .lower)) (is ∙ rw en))
 
     pub last-answers-10 : Sound bs → recAt bs i .shape ≡ 10 → Gives ws r
@@ -133,10 +138,10 @@ module _ (bs ws : List ℕ) (i : ℕ) (at : Here) (k : Kids) where
 
   pub general-answers : (recAt bs i .shape ≡ 10 → ⊥) → (recAt bs i .shape ≡ 11 → ⊥) → (n : ℕ) →
       n ≡ rowAt bs i .kids → (ws′ : List ℕ) (r : Step) →
-      Answers bs ws (k .st)
+      Answers bs ws t (k .st)
       (finish i (at .scope) (recAt bs i) (pendingFrom ws (at .held) n) [] (nodeOf (recAt bs i) (branchesOf
       (k .branches)))
-      (absOf bs ws (k .st))) ws′ r → Gives ws′ r
+      (absOf bs ws t (k .st))) ws′ r → Gives ws′ r
   unfolding internGeneral _>>=_
   general-answers a b n en ws′ r g =
       answers-as ws′ r (concluded-other i (at .scope) (recAt bs i) read a b ∙ rw (← en)) g
@@ -152,19 +157,21 @@ pending-in ws at (suc n) (suc j) l =
     let e : at + suc j ≡ suc at + j = omega arith in inr (rw e (pending-in ws (suc at) n j (omega arith)))
 
 -- where the children of record i are read
-pub record Below (bs ws : List ℕ) (st : State) (i : ℕ) (at : Here) : Type 0 where
+pub record Below (bs ws : List ℕ) (t : Tables) (st : State) (i : ℕ) (at : Here) : Type 0 where
   pub rep : Rep bs ws st
+  pub opened : Open t (st .entries)
   pub scope : at .scope < st .scopes
   pub held : at .held ≤ i
   pub top : at .top ≤ 14 * (64 - depths (kidsAt bs i)) + (i + 1)
   pub level : levelOf (scopeWord ws (at .scope)) + depths (kidsAt bs i) ≤ 64
-  pub tables : st .tables .depth + depths (kidsAt bs i) < 65
+  pub tables : t .depth + depths (kidsAt bs i) < 65
 
-pub stands-below : (bs ws : List ℕ) (st : State) (i : ℕ) (at : Here) → Stands bs ws st i (depth (treeAt bs i)) at →
-    Below bs ws st i at
+pub stands-below : (bs ws : List ℕ) (t : Tables) (st : State) (i : ℕ) (at : Here) →
+    Stands bs ws t st i (depth (treeAt bs i)) at → Below bs ws t st i at
 unfolding depth
-stands-below bs ws st i at h = record {
+stands-below bs ws t st i at h = record {
   rep = h .rep;
+  opened = h .opened;
   scope = h .scope;
   held = h .held;
   top = omega (arith, h .top);
@@ -173,10 +180,11 @@ stands-below bs ws st i at h = record {
 }
 
 -- the same place, later
-pub stands-later : {bs ws ws₁ : List ℕ} {st st₁ : State} {i d : ℕ} {at : Here} → Stands bs ws st i d at →
-    Rep bs ws₁ st₁ → Kept at ws ws₁ st st₁ → Stands bs ws₁ st₁ i d at
-stands-later {at} h rep kept = record {
+pub stands-later : {bs ws ws₁ : List ℕ} {t : Tables} {st st₁ : State} {i d : ℕ} {at : Here} → Stands bs ws t st i d at →
+    Rep bs ws₁ st₁ → Open t (st₁ .entries) → Kept at ws ws₁ st st₁ → Stands bs ws₁ t st₁ i d at
+stands-later {at} h rep open′ kept = record {
   rep = rep;
+  opened = open′;
   scope = omega (arith, h .scope, kept .scopes);
   held = h .held;
   top = h .top;
@@ -186,35 +194,36 @@ stands-later {at} h rep kept = record {
         h .level,
         ap levelOf (kept .words .scopes (5120 + at .scope) (omega arith) (omega (arith, h .scope))),
       );
-  tables = omega (arith, h .tables, kept .depth);
+  tables = h .tables;
 }
 
 -- the children of record i were read: what they gave, where the next record is, and what their symbols are
-pub record Gave (bs ws : List ℕ) (st : State) (i : ℕ) (at : Here) (b : Bool) (n : ℕ) (ws₁ : List ℕ) (k : Kids) : Type 0
+pub record Gave (bs ws : List ℕ) (t : Tables) (st : State) (i : ℕ) (at : Here) (b : Bool) (n : ℕ) (ws₁ : List ℕ)
+    (k : Kids) : Type 0
   where
-    pub is : kidsRead bs i (at .scope) (envOf ws (at .top)) (absOf bs ws st) ≡ kidsAnswer bs ws₁ (at .held) n k
+    pub is : kidsRead bs i (at .scope) (envOf ws (at .top)) (absOf bs ws t st) ≡ kidsAnswer bs ws₁ t (at .held) n k
     pub past : Past bs i (size (treeAt bs i)) (restAt bs i) (k .next)
     pub slots : k .st .slots + (1 + n) ≤ 2560
     pub conclude : (cur : ℕ) → cur < st .scopes → Concludes bs ws₁ (k .st) i cur (at .scope) (at .held) n
     pub again : WellAll (kidsAt bs i) b (recAt bs i .opcode) 0 (at .scope) (envOf ws₁ (at .top))
-        (absOf bs ws₁ (k .st)) 1
+        (absOf bs ws₁ t (k .st)) 1
 
-module _ (bs : List ℕ) (i : ℕ) (sound : Sound bs) (lt : i < recordCount bs) (ws : List ℕ) (st : State) (at : Here)
-    (b : Bool) (below : Below bs ws st i at)
-    (well : WellAll (kidsAt bs i) b (recAt bs i .opcode) 0 (at .scope) (envOf ws (at .top)) (absOf bs ws st) 1)
+module _ (bs : List ℕ) (i : ℕ) (sound : Sound bs) (lt : i < recordCount bs) (ws : List ℕ) (t : Tables) (st : State)
+    (at : Here) (b : Bool) (below : Below bs ws t st i at)
+    (well : WellAll (kidsAt bs i) b (recAt bs i .opcode) 0 (at .scope) (envOf ws (at .top)) (absOf bs ws t st) 1)
     (n op : ℕ) (en : n ≡ rowAt bs i .kids) (eo : op ≡ recAt bs i .opcode) where
   abbrev env : Env
   env = envOf ws (at .top)
 
   abbrev A : intern.State
-  A = absOf bs ws st
+  A = absOf bs ws t st
 
   trees-are : trees bs (i + 1) n ≡ kidsAt bs i
   unfolding kidsAt
   trees-are = rw en
 
   -- that they may be read
-  pub kids-operands : Operands bs ws st (i + 1) n op at
+  pub kids-operands : Operands bs ws t st (i + 1) n op at
   kids-operands =
       let d : depths (trees bs (i + 1) n) ≡ depths (kidsAt bs i) = ap depths trees-are in
       record {
@@ -222,6 +231,7 @@ module _ (bs : List ℕ) (i : ℕ) (sound : Sound bs) (lt : i < recordCount bs) 
         within = omega arith;
         stands = record {
           rep = below .rep;
+          opened = below .opened;
           scope = below .scope;
           held = omega (arith, below .held);
           top = omega (arith, below .top, d);
@@ -235,16 +245,16 @@ module _ (bs : List ℕ) (i : ℕ) (sound : Sound bs) (lt : i < recordCount bs) 
       }
 
   -- what is known once they are
-  module _ (ws₁ : List ℕ) (k : Kids) (v : ReadsAll bs ws st (i + 1) n op at ws₁ k) where
-    all-is : kidsOf bs ws₁ (at .held) n k ≡ kidsRead bs i (at .scope) env A
+  module _ (ws₁ : List ℕ) (k : Kids) (v : ReadsAll bs ws t st (i + 1) n op at ws₁ k) where
+    all-is : kidsOf bs ws₁ t (at .held) n k ≡ kidsRead bs i (at .scope) env A
     all-is = v .is ∙ rw (trees-are, eo, add-one i)
 
     pub kids-fail : (k .number ≡ 0 → ⊥) → kidsRead bs i (at .scope) env A ≡ refused (k .number) (k .place)
-    kids-fail h = sym all-is ∙ kids-refused bs ws₁ (at .held) n k h
+    kids-fail h = sym all-is ∙ kids-refused bs ws₁ t (at .held) n k h
 
     module _ (ok : k .number ≡ 0) where
-      kids-give : kidsRead bs i (at .scope) env A ≡ kidsAnswer bs ws₁ (at .held) n k
-      kids-give = sym all-is ∙ kids-good bs ws₁ (at .held) n k ok
+      kids-give : kidsRead bs i (at .scope) env A ≡ kidsAnswer bs ws₁ t (at .held) n k
+      kids-give = sym all-is ∙ kids-good bs ws₁ t (at .held) n k ok
 
       kids-past : Past bs i (size (treeAt bs i)) (restAt bs i) (k .next)
       unfolding size restAt
@@ -253,7 +263,7 @@ module _ (bs : List ℕ) (i : ℕ) (sound : Sound bs) (lt : i < recordCount bs) 
           (omega (arith, p .0, ap sizes trees-are), p .1 ∙ rw en)
 
       kids-all : AllRead (kidsAt bs i) (at .scope) A 1
-          (pendingFrom ws₁ (at .held) n, branchesOf (k .branches), absOf bs ws₁ (k .st))
+          (pendingFrom ws₁ (at .held) n, branchesOf (k .branches), absOf bs ws₁ t (k .st))
       kids-all = all-results well (suc i) _ kids-give
 
       kids-count : many (kidsAt bs i) ≡ n
@@ -273,20 +283,20 @@ module _ (bs : List ℕ) (i : ℕ) (sound : Sound bs) (lt : i < recordCount bs) 
             omega (
               arith,
               kids-all .results (getD ws₁ (8200 + at .held + j) 0) (pending-in ws₁ (8200 + at .held) n j m) .low,
-              symbols-count bs ws₁ (k .st),
+              symbols-count bs ws₁ t (k .st),
             );
-        forced = union-forced (absOf bs ws₁ (k .st)) (at .scope) (pendingFrom ws₁ (at .held) n) (kids-all .results);
+        forced = union-forced (absOf bs ws₁ t (k .st)) (at .scope) (pendingFrom ws₁ (at .held) n) (kids-all .results);
       }
 
       -- they may be read again
       kids-again : WellAll (kidsAt bs i) b (recAt bs i .opcode) 0 (at .scope) (envOf ws₁ (at .top))
-          (absOf bs ws₁ (k .st)) 1
+          (absOf bs ws₁ t (k .st)) 1
       kids-again =
-          subst (λ (z : Env). WellAll (kidsAt bs i) b (recAt bs i .opcode) 0 (at .scope) z (absOf bs ws₁ (k .st)) 1)
+          subst (λ (z : Env). WellAll (kidsAt bs i) b (recAt bs i .opcode) 0 (at .scope) z (absOf bs ws₁ t (k .st)) 1)
           (sym (env-words ws₁ ws (at .top) (v .kept .words .bound)))
           (again-well well (suc i) _ kids-give)
 
-      pub kids-gave : Gave bs ws st i at b n ws₁ k
+      pub kids-gave : Gave bs ws t st i at b n ws₁ k
       kids-gave = record {
         is = kids-give;
         past = kids-past;

@@ -12,6 +12,8 @@ use Rattle.model.specs.Intern as intern
 use Rattle.walk.specs.Walk.{treesFrom}
 use Rattle.symbols.specs.Words.{pendingFrom}
 use Rattle.bindings.specs.Bindings.{envOf}
+use Rattle.tables.specs.declared.Tables.{Tables}
+use Rattle.tables.specs.Tables.{Open}
 use Rattle.interner.specs.declared.State.{State}
 use Rattle.interner.specs.State.{absOf, Rep}
 use Rattle.concluding.specs.Concluding.{branchesOf, Branched}
@@ -37,21 +39,22 @@ well-moved {ts} {us} {b} {op} {j} {m} {cur} {env} {env′} {s} {s′} {k} e f g 
     (subst (λ (z : Trees). WellAll z b op j cur env s k) (sym e) w)))
 
 -- of `count` operands from record i on, j are read and `left` are left, from record k .next on
-pub record Remains (bs : List ℕ) (i count op : ℕ) (at : Here) (ws₀ : List ℕ) (st₀ : State) (ws : List ℕ) (k : Kids)
-    (top j left : ℕ) : Type 0 where
+pub record Remains (bs : List ℕ) (t : Tables) (i count op : ℕ) (at : Here) (ws₀ : List ℕ) (st₀ : State) (ws : List ℕ)
+    (k : Kids) (top j left : ℕ) : Type 0 where
   pub sum : j + left ≡ count
   pub rep : Rep bs ws (k .st)
+  pub opened : Open t (k .st .entries)
   pub number : k .number ≡ 0
   pub there : left ≤ many (treesFrom bs (k .next))
   pub is : after (pendingFrom ws (at .held) j) (branchesOf (k .branches))
-      (internAll (trees bs (k .next) left) op j (k .next) (at .scope) (envOf ws top) (absOf bs ws (k .st)))
-      ≡ internAll (trees bs i count) op 0 i (at .scope) (envOf ws₀ (at .top)) (absOf bs ws₀ st₀)
+      (internAll (trees bs (k .next) left) op j (k .next) (at .scope) (envOf ws top) (absOf bs ws t (k .st)))
+      ≡ internAll (trees bs i count) op 0 i (at .scope) (envOf ws₀ (at .top)) (absOf bs ws₀ t st₀)
   pub place : k .next + sizes (trees bs (k .next) left) ≡ i + sizes (trees bs i count)
   pub rest : dropT left (treesFrom bs (k .next)) ≡ dropT count (treesFrom bs i)
   pub shallow : depths (trees bs (k .next) left) ≤ depths (trees bs i count)
   pub block : Bool
   pub paid : ℕ
-  pub well : WellAll (trees bs (k .next) left) block op j (at .scope) (envOf ws top) (absOf bs ws (k .st)) paid
+  pub well : WellAll (trees bs (k .next) left) block op j (at .scope) (envOf ws top) (absOf bs ws t (k .st)) paid
   pub onward : i ≤ k .next
   pub held : at .held + j ≤ k .next
   pub pending : at .held + j ≤ 256
@@ -61,7 +64,7 @@ pub record Remains (bs : List ℕ) (i count op : ℕ) (at : Here) (ws₀ : List 
   pub thunks : Thunks j (k .branches .count)
   pub kept : Kept at ws₀ ws st₀ (k .st)
 
-pub record Reading (bs : List ℕ) (i count op : ℕ) (at : Here) (ws₀ : List ℕ) (st₀ : State) (ws : List ℕ) (k : Kids)
-    (top j : ℕ) : Type 0 where
+pub record Reading (bs : List ℕ) (t : Tables) (i count op : ℕ) (at : Here) (ws₀ : List ℕ) (st₀ : State) (ws : List ℕ)
+    (k : Kids) (top j : ℕ) : Type 0 where
   pub left : ℕ
-  pub remains : Remains bs i count op at ws₀ st₀ ws k top j left
+  pub remains : Remains bs t i count op at ws₀ st₀ ws k top j left

@@ -26,11 +26,13 @@ use Rattle.codec.proofs.Accepting.{Passed, accept-passed}
 use Rattle.symbols.specs.Words.{pendingFrom}
 use Rattle.scopes.specs.Scopes.{scopeWord, levelOf}
 use Rattle.bindings.specs.Bindings.{envOf}
+use Rattle.tables.specs.declared.Tables.{Tables}
+use Rattle.tables.specs.Tables.{first}
 use Rattle.interner.specs.declared.State.{State}
 use Rattle.interner.specs.declared.Step.{Step}
 use Rattle.interner.specs.State.{absOf, Rep, Started}
 use Rattle.interner.specs.Step.{given}
-use Rattle.opening.proofs.Counts.{symbols-count, tables-count}
+use Rattle.opening.proofs.Counts.{symbols-count}
 use Rattle.standing.specs.Standing.{WellAll}
 use Rattle.standing.proofs.Enter.{forest-well}
 use Rattle.standing.proofs.Next.{last-result}
@@ -88,12 +90,6 @@ module _ (bs ws : List ℕ) (accepted : accept bs ≡ good (treesOf bs)) where
     rep : Rep bs ws₁ st
     rep = started .rep bs
 
-    one-table : st .tables .depth ≡ 1
-    unfolding start
-    one-table =
-        sym (tables-count bs ws₁ st)
-        ∙ ap (λ (z : intern.State). length (z .tables)) (started .is bs)
-
     no-ids : envOf ws₁ 0 ≡ []
     unfolding envOf
     no-ids = refl
@@ -104,17 +100,18 @@ module _ (bs ws : List ℕ) (accepted : accept bs ≡ good (treesOf bs)) where
     outermost : levelOf (scopeWord ws₁ 0) ≡ 0
     outermost = ap levelOf (rep .nested .outermost)
 
-    pub forest-operands : Operands bs ws₁ st 0 count 0 origin
-    forest-operands = record {
+    operands₁ : Operands bs ws₁ first st 0 count 0 origin
+    operands₁ = record {
       there = trees-there bs count forest-sound is;
       within = omega arith;
       stands = record {
         rep = rep;
+        opened = started .opened;
         scope = rep .some-scope;
         held = omega arith;
         top = omega arith;
         level = omega (arith, outermost, shallow);
-        tables = omega (arith, one-table, shallow);
+        tables = omega (arith, shallow);
       };
       room = λ j e. absurd (none-thunked j e);
       block = false;
@@ -126,65 +123,72 @@ module _ (bs ws : List ℕ) (accepted : accept bs ≡ good (treesOf bs)) where
           (forest-well bs (treesOf bs) accepted)));
     }
 
-    -- ---- after
+    module _ (t : Tables) (new : t ≡ first) where
+      pub forest-operands : Operands bs ws₁ t st 0 count 0 origin
+      forest-operands = subst (λ (z : Tables). Operands bs ws₁ z st 0 count 0 origin) (sym new) operands₁
 
-    module _ (ws₂ : List ℕ) (k : Kids) (v : ReadsAll bs ws₁ st 0 count 0 origin ws₂ k) where
-      all-read : internAll (trees bs 0 count) 0 0 0 0 (envOf ws₁ 0) (absOf bs ws₁ st) ≡ internForest (treesOf bs)
-      unfolding internForest
-      all-read =
-          ap (λ (z : intern.State). internAll (trees bs 0 count) 0 0 0 0 (envOf ws₁ 0) z) (started .is bs)
-          ∙ ap (λ (z : Env). internAll (trees bs 0 count) 0 0 0 0 z start) no-ids
-          ∙ ap (λ (z : Trees). internAll z 0 0 0 0 [] start) whole
+      -- ---- after
 
-      interned-is : (m : Outs) → internForest (treesOf bs) ≡ m → interned bs ≡ internLast m
-      unfolding interned _>>=_
-      interned-is m e = rw (accepted, e)
+      module _ (ws₂ : List ℕ) (k : Kids) (v₀ : ReadsAll bs ws₁ t st 0 count 0 origin ws₂ k) where
+        v : ReadsAll bs ws₁ first st 0 count 0 origin ws₂ k
+        v = subst (λ (z : Tables). ReadsAll bs ws₁ z st 0 count 0 origin ws₂ k) new v₀
 
-      later₂ : (j : ℕ) → 10856 ≤ j → getD ws₂ j 0 ≡ getD ws j 0
-      later₂ j l = v .kept .words .later j l ∙ started .later j (omega arith)
+        all-read : internAll (trees bs 0 count) 0 0 0 0 (envOf ws₁ 0) (absOf bs ws₁ first st) ≡ internForest (treesOf bs)
+        unfolding internForest
+        all-read =
+            ap (λ (z : intern.State). internAll (trees bs 0 count) 0 0 0 0 (envOf ws₁ 0) z) (started .is bs)
+            ∙ ap (λ (z : Env). internAll (trees bs 0 count) 0 0 0 0 z start) no-ids
+            ∙ ap (λ (z : Trees). internAll z 0 0 0 0 [] start) whole
 
-      pub forest-refused : (k .number ≡ 0 → ⊥) →
-          Interned bs ws ws₂ (record { st = k .st; symbol = 0; number = k .number; place = k .place })
-      unfolding internLast _>>=_
-      forest-refused h = record {
-        rep = v .rep;
-        is =
-            out-refused bs ws₂ (record { st = k .st; symbol = 0; number = k .number; place = k .place }) h
-            ∙ sym (interned-is (refused (k .number) (k .place))
-            (sym (v .is ∙ all-read) ∙ kids-refused bs ws₂ 0 count k h));
-        low = λ e. absurd (h e);
-        later = later₂;
-      }
+        interned-is : (m : Outs) → internForest (treesOf bs) ≡ m → interned bs ≡ internLast m
+        unfolding interned _>>=_
+        interned-is m e = rw (accepted, e)
 
-      module _ (ok : k .number ≡ 0) where
-        pub forest-last : (0 < count) × (0 + count ≤ 256) × (8456 ≤ length ws₂)
-        forest-last = (
-          omega (arith, is, header-of bs (forest-sound .laid .header) .trees-least),
-          v .pending ok,
-          omega (arith, v .rep .words),
-        )
+        later₂ : (j : ℕ) → 10856 ≤ j → getD ws₂ j 0 ≡ getD ws j 0
+        later₂ j l = v .kept .words .later j l ∙ started .later j (omega arith)
 
-        root-low : last (pendingFrom ws₂ 0 count) < k .st .symbols
-        root-low =
-            let some : 1 ≤ many (trees bs 0 count) = omega (
-              arith,
-              ap many whole,
-              tree-count bs (forest-sound .closed),
-              header-of bs (forest-sound .laid .header) .trees-least,
-            ) in
-            omega (
-              arith,
-              last-result (forest-operands .well) 0 _ (sym (v .is) ∙ kids-good bs ws₂ 0 count k ok) some .low,
-              symbols-count bs ws₂ (k .st),
-            )
-
-        pub forest-done : (r : Step) → r ≡ given (k .st) (last (pendingFrom ws₂ 0 count)) → Interned bs ws ws₂ r
+        pub forest-refused : (k .number ≡ 0 → ⊥) →
+            Interned bs ws ws₂ (record { st = k .st; symbol = 0; number = k .number; place = k .place })
         unfolding internLast _>>=_
-        forest-done r e = subst (Interned bs ws ws₂) (sym e) (record {
+        forest-refused h = record {
           rep = v .rep;
           is =
-              out-good bs ws₂ (given (k .st) (last (pendingFrom ws₂ 0 count))) refl
-              ∙ sym (interned-is _ (sym (v .is ∙ all-read) ∙ kids-good bs ws₂ 0 count k ok));
-          low = λ z. root-low;
+              out-refused bs ws₂ first (record { st = k .st; symbol = 0; number = k .number; place = k .place }) h
+              ∙ sym (interned-is (refused (k .number) (k .place))
+              (sym (v .is ∙ all-read) ∙ kids-refused bs ws₂ first 0 count k h));
+          low = λ e. absurd (h e);
           later = later₂;
-        })
+        }
+
+        module _ (ok : k .number ≡ 0) where
+          pub forest-last : (0 < count) × (0 + count ≤ 256) × (8456 ≤ length ws₂)
+          forest-last = (
+            omega (arith, is, header-of bs (forest-sound .laid .header) .trees-least),
+            v .pending ok,
+            omega (arith, v .rep .words),
+          )
+
+          root-low : last (pendingFrom ws₂ 0 count) < k .st .symbols
+          root-low =
+              let some : 1 ≤ many (trees bs 0 count) = omega (
+                arith,
+                ap many whole,
+                tree-count bs (forest-sound .closed),
+                header-of bs (forest-sound .laid .header) .trees-least,
+              ) in
+              omega (
+                arith,
+                last-result (operands₁ .well) 0 _ (sym (v .is) ∙ kids-good bs ws₂ first 0 count k ok) some .low,
+                symbols-count bs ws₂ first (k .st),
+              )
+
+          pub forest-done : (r : Step) → r ≡ given (k .st) (last (pendingFrom ws₂ 0 count)) → Interned bs ws ws₂ r
+          unfolding internLast _>>=_
+          forest-done r e = subst (Interned bs ws ws₂) (sym e) (record {
+            rep = v .rep;
+            is =
+                out-good bs ws₂ first (given (k .st) (last (pendingFrom ws₂ 0 count))) refl
+                ∙ sym (interned-is _ (sym (v .is ∙ all-read) ∙ kids-good bs ws₂ first 0 count k ok));
+            low = λ z. root-low;
+            later = later₂;
+          })

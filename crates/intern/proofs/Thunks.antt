@@ -15,13 +15,15 @@ use Rattle.model.specs.Intern.{Out, Env, openThunk, closeThunk, internScoped, i
 use Rattle.model.specs.Intern as intern
 use Rattle.walk.specs.Walk.{treeAt}
 use Rattle.scopes.specs.Scopes.{scopeWord, levelOf, thunkWord, withThunk}
-use Rattle.tables.specs.Tables.{opened}
 use Rattle.bindings.specs.Bindings.{envOf}
 use Rattle.bindings.proofs.Laws.{env-words}
+use Rattle.tables.specs.declared.Tables.{Tables}
+use Rattle.tables.specs.Tables.{opened, Open}
+use Rattle.tables.proofs.Stack.{opened-open}
 use Rattle.interner.specs.declared.State.{State}
 use Rattle.interner.specs.State.{absOf, Rep}
 use Rattle.interner.specs.Step.{outOf}
-use Rattle.opening.specs.Opening.{thunkOpened, thunkClosed}
+use Rattle.opening.specs.Opening.{withScope, thunkClosed}
 use Rattle.opening.proofs.Counts.{scopes-count}
 use Rattle.opening.proofs.Thunks.{thunk-level, thunk-abs, thunk-rep, closed-abs, closed-rep}
 use Rattle.intern.specs.declared.Here.{Here}
@@ -36,46 +38,53 @@ use Rattle.intern.proofs.Kept.{words-then}
 abbrev closing : Out → Out
 closing o = o >>= (λ (z : ℕ × intern.State). good (z .0, closeThunk (z .1)))
 
-out-closed : (bs ws : List ℕ) (r : Read) → Rep bs ws (r .step .st) → 1 < r .step .st .tables .depth →
-    outOf bs ws (closedRead r (thunkClosed (r .step .st)) .step) ≡ closing (outOf bs ws (r .step))
+out-closed : (bs ws : List ℕ) (t : Tables) (top : ℕ) (r : Read) → Open t top → t .depth < 64 →
+    outOf bs ws t (closedRead r (thunkClosed (r .step .st) top) .step) ≡ closing (outOf bs ws (opened t top) (r .step))
 unfolding outOf _>>=_
-out-closed bs ws r rep two = go (eqb (r .step .number) 0)
+out-closed bs ws t top r is room = go (eqb (r .step .number) 0)
   where
     go : (b : Bool) →
         _≡_ {A = Out} (elim b [
-          | true ↦ good (r .step .symbol, absOf bs ws (thunkClosed (r .step .st)))
+          | true ↦ good (r .step .symbol, absOf bs ws t (thunkClosed (r .step .st) top))
           | false ↦ refused (r .step .number) (r .step .place)
         ]) (closing (elim b [
-          | true ↦ good (r .step .symbol, absOf bs ws (r .step .st))
+          | true ↦ good (r .step .symbol, absOf bs ws (opened t top) (r .step .st))
           | false ↦ refused (r .step .number) (r .step .place)
         ]))
     go true =
-        ap (λ (z : intern.State). good (r .step .symbol, z)) (closed-abs bs ws (r .step .st) rep two)
+        ap (λ (z : intern.State). good (r .step .symbol, z)) (closed-abs bs ws t (r .step .st) top is room)
     go false = refl
 
 -- ---- the thunk opened
 
-module _ (bs ws : List ℕ) (st : State) (i : ℕ) (thunk : Bool) (at : Here) (h : Child bs ws st i thunk at) where
+module _ (bs ws : List ℕ) (t : Tables) (st : State) (i : ℕ) (thunk : Bool) (at : Here)
+    (h : Child bs ws t st i thunk at) where
   abbrev childOut : Out
   childOut =
-      internScoped thunk (at .scope) (λ c s. intern (treeAt bs i) i c (envOf ws (at .top)) s) (absOf bs ws st)
+      internScoped thunk (at .scope) (λ c s. intern (treeAt bs i) i c (envOf ws (at .top)) s) (absOf bs ws t st)
 
   pub child-legible : thunk ≡ false →
-      Legible (treeAt bs i) (at .scope) (envOf ws (at .top)) (absOf bs ws st)
+      Legible (treeAt bs i) (at .scope) (envOf ws (at .top)) (absOf bs ws t st)
   child-legible e = record { def = h .def; well = h .plain e }
 
   pub child-plainly : thunk ≡ false → (ws′ : List ℕ) (r : Read) →
-      Reads bs ws st i at (intern (treeAt bs i) i (at .scope) (envOf ws (at .top)) (absOf bs ws st)) ws′ r →
-      Reads bs ws st i at childOut ws′ r
+      Reads bs ws t st i at (intern (treeAt bs i) i (at .scope) (envOf ws (at .top)) (absOf bs ws t st)) ws′ r →
+      Reads bs ws t st i at childOut ws′ r
   unfolding internScoped
-  child-plainly e ws′ r v = record { rep = v .rep; is = v .is ∙ sym (rw e); past = v .past; kept = v .kept }
+  child-plainly e ws′ r v = record {
+    rep = v .rep;
+    opened = v .opened;
+    is = v .is ∙ sym (rw e);
+    past = v .past;
+    kept = v .kept;
+  }
 
   module _ (is : thunk ≡ true) where
-    tables-room : st .tables .depth < 64
+    tables-room : t .depth < 64
     unfolding depth
     tables-room = omega (arith, h .room is)
 
-    pub child-room : (10856 ≤ length ws) × (at .scope < st .scopes) × (st .scopes ≤ 2048) × (st .tables .depth < 64)
+    pub child-room : (10856 ≤ length ws) × (at .scope < st .scopes) × (st .scopes ≤ 2048) × (t .depth < 64)
         × (st .entries ≤ 512)
     child-room = (
       h .stands .rep .words,
@@ -86,7 +95,7 @@ module _ (bs ws : List ℕ) (st : State) (i : ℕ) (thunk : Bool) (at : Here) (h
     )
 
     module _ (ws₁ : List ℕ) (inside : State) (wrote : ws₁ ≡ withThunk ws (st .scopes) (at .scope))
-        (isOpen : inside ≡ thunkOpened st) where
+        (isOpen : inside ≡ withScope st) (inner : Tables) (pushed : inner ≡ opened t (st .entries)) where
       abbrev own : Here
       own = record { scope = st .scopes; held = at .held; top = at .top }
 
@@ -105,13 +114,18 @@ module _ (bs ws : List ℕ) (st : State) (i : ℕ) (thunk : Bool) (at : Here) (h
       rep₁ : Rep bs ws₁ inside
       rep₁ =
           rw (wrote, isOpen)
-          (thunk-rep bs ws st (at .scope) (h .stands .rep) (h .few is) (h .stands .scope) tables-room)
+          (thunk-rep bs ws st (at .scope) (h .stands .rep) (h .few is) (h .stands .scope))
 
-      abs₁ : absOf bs ws₁ inside ≡ openThunk (at .scope) (absOf bs ws st)
+      opened₁ : Open inner (inside .entries)
+      opened₁ = rw (isOpen, pushed) (opened-open t (st .entries) (h .stands .opened) tables-room)
+
+      abs₁ : absOf bs ws₁ inner inside ≡ openThunk (at .scope) (absOf bs ws t st)
       abs₁ =
-          ap (λ (z : List ℕ). absOf bs z inside) wrote
-          ∙ ap (absOf bs (withThunk ws (st .scopes) (at .scope))) isOpen
-          ∙ thunk-abs bs ws st (at .scope) (h .stands .rep) (h .few is) (h .stands .scope) tables-room
+          ap (λ (z : List ℕ). absOf bs z inner inside) wrote
+          ∙ ap (λ (z : Tables). absOf bs (withThunk ws (st .scopes) (at .scope)) z inside) pushed
+          ∙ ap (absOf bs (withThunk ws (st .scopes) (at .scope)) (opened t (st .entries))) isOpen
+          ∙ thunk-abs bs ws st (at .scope) (h .stands .rep) (h .few is) (h .stands .scope) t (h .stands .opened)
+          tables-room
 
       level₁ : levelOf (scopeWord ws₁ (st .scopes)) ≡ levelOf (scopeWord ws (at .scope))
       level₁ =
@@ -121,12 +135,13 @@ module _ (bs ws : List ℕ) (st : State) (i : ℕ) (thunk : Bool) (at : Here) (h
       scopes₁ : inside .scopes ≡ st .scopes + 1
       scopes₁ = ap (λ (z : State). z .scopes) isOpen
 
-      depth₁ : inside .tables .depth ≡ st .tables .depth + 1
-      depth₁ = ap (λ (z : State). z .tables .depth) isOpen
+      depth₁ : inner .depth ≡ t .depth + 1
+      depth₁ = ap (λ (z : Tables). z .depth) pushed
 
-      pub thunk-stands : Stands bs ws₁ inside i (depth (treeAt bs i)) own
+      pub thunk-stands : Stands bs ws₁ inner inside i (depth (treeAt bs i)) own
       thunk-stands = record {
         rep = rep₁;
+        opened = opened₁;
         scope = omega (arith, scopes₁);
         held = h .stands .held;
         top = h .stands .top;
@@ -137,51 +152,50 @@ module _ (bs ws : List ℕ) (st : State) (i : ℕ) (thunk : Bool) (at : Here) (h
       env₁ : envOf ws₁ (at .top) ≡ envOf ws (at .top)
       env₁ = env-words ws₁ ws (at .top) (words₁ .bound)
 
-      pub thunk-legible : Legible (treeAt bs i) (st .scopes) (envOf ws₁ (at .top)) (absOf bs ws₁ inside)
+      pub thunk-legible : Legible (treeAt bs i) (st .scopes) (envOf ws₁ (at .top)) (absOf bs ws₁ inner inside)
       thunk-legible =
-          subst (λ (z : Env). Legible (treeAt bs i) (st .scopes) z (absOf bs ws₁ inside)) (sym env₁)
+          subst (λ (z : Env). Legible (treeAt bs i) (st .scopes) z (absOf bs ws₁ inner inside)) (sym env₁)
           (subst (Legible (treeAt bs i) (st .scopes) (envOf ws (at .top))) (sym abs₁)
           (record { def = h .def; well = h .inside is }))
 
       -- ---- what a child gives
 
       module _ (ws₂ : List ℕ) (r : Read)
-          (v : Reads bs ws₁ inside i own
-          (intern (treeAt bs i) i (st .scopes) (envOf ws₁ (at .top)) (absOf bs ws₁ inside)) ws₂ r) where
-        depth₂ : r .step .st .tables .depth ≡ st .tables .depth + 1
-        depth₂ = v .kept .depth ∙ depth₁
-
-        some-table : 0 < st .tables .depth
-        some-table = h .stands .rep .opened .some
-
-        pub thunk-depth : (1 < r .step .st .tables .depth) × (r .step .st .tables .depth ≤ 64)
-        thunk-depth = (omega (arith, depth₂, some-table), omega (arith, depth₂, tables-room))
-
+          (v : Reads bs ws₁ inner inside i own
+          (intern (treeAt bs i) i (st .scopes) (envOf ws₁ (at .top)) (absOf bs ws₁ inner inside)) ws₂ r) where
         scoped-is : childOut
-            ≡ closing (intern (treeAt bs i) i (st .scopes) (envOf ws₁ (at .top)) (absOf bs ws₁ inside))
+            ≡ closing (intern (treeAt bs i) i (st .scopes) (envOf ws₁ (at .top)) (absOf bs ws₁ inner inside))
         unfolding internScoped
         scoped-is =
             ap (λ (b : Bool). internScoped b (at .scope) (λ c s. intern (treeAt bs i) i c (envOf ws (at .top)) s)
-            (absOf bs ws st)) is
+            (absOf bs ws t st)) is
             ∙ ap (λ (z : ℕ). closing (intern (treeAt bs i) i z (envOf ws (at .top))
-            (openThunk (at .scope) (absOf bs ws st)))) (scopes-count bs ws st)
+            (openThunk (at .scope) (absOf bs ws t st)))) (scopes-count bs ws t st)
             ∙ ap (λ (z : Env). closing (intern (treeAt bs i) i (st .scopes) z
-            (openThunk (at .scope) (absOf bs ws st)))) (sym env₁)
+            (openThunk (at .scope) (absOf bs ws t st)))) (sym env₁)
             ∙ ap (λ (z : intern.State). closing (intern (treeAt bs i) i (st .scopes) (envOf ws₁ (at .top)) z)) (sym
             abs₁)
 
-        closed₂ : Reads bs ws st i at childOut ws₂ (closedRead r (thunkClosed (r .step .st)))
+        last-opened : Open (opened t (st .entries)) (r .step .st .entries)
+        last-opened = rw pushed at (v .opened)
+
+        closed₂ : Reads bs ws t st i at childOut ws₂ (closedRead r (thunkClosed (r .step .st) (st .entries)))
         closed₂ = record {
-          rep = closed-rep bs ws₂ (r .step .st) (v .rep) (thunk-depth .0);
-          is = out-closed bs ws₂ r (v .rep) (thunk-depth .0) ∙ ap closing (v .is) ∙ sym scoped-is;
+          rep =
+              closed-rep bs ws₂ t (r .step .st) (st .entries) (h .stands .opened) tables-room (v .rep) last-opened;
+          opened = h .stands .opened;
+          is =
+              out-closed bs ws₂ t (st .entries) r (h .stands .opened) tables-room
+              ∙ ap (λ (z : Tables). closing (outOf bs ws₂ z (r .step))) (sym pushed)
+              ∙ ap closing (v .is)
+              ∙ sym scoped-is;
           past = v .past;
           kept = record {
             words = words-then (omega (arith, scopes₁)) (omega arith) (omega arith) words₁ (v .kept .words);
-            depth = omega (arith, depth₂);
             scopes = omega (arith, v .kept .scopes, scopes₁);
           };
         }
 
-        pub thunk-done : (last : State) → last ≡ thunkClosed (r .step .st) →
-            Reads bs ws st i at childOut ws₂ (closedRead r last)
+        pub thunk-done : (last : State) → last ≡ thunkClosed (r .step .st) (st .entries) →
+            Reads bs ws t st i at childOut ws₂ (closedRead r last)
         thunk-done last e = rw e closed₂

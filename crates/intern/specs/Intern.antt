@@ -23,6 +23,8 @@ use Rattle.walk.specs.Walk.{treesFrom, recAt, kidsAt, restAt, treeAt}
 use Rattle.symbols.specs.Words.{pendingFrom}
 use Rattle.scopes.specs.Scopes.{scopeWord, levelOf}
 use Rattle.bindings.specs.Bindings.{envOf}
+use Rattle.tables.specs.declared.Tables.{Tables}
+use Rattle.tables.specs.Tables.{first, Open}
 use Rattle.interner.specs.declared.State.{State}
 use Rattle.interner.specs.declared.Step.{Step}
 use Rattle.interner.specs.State.{absOf, Rep}
@@ -32,6 +34,8 @@ use Rattle.standing.specs.Standing.{Well, WellAll}
 use Rattle.intern.specs.declared.Here.{Here}
 use Rattle.intern.specs.declared.Read.{Read}
 use Rattle.intern.specs.declared.Kids.{Kids}
+use Rattle.intern.specs.declared.Selected.{Selected}
+use Rattle.intern.specs.declared.Selected.the-variants.{Done, Anew}
 use Rattle.intern.specs.declared.Entered.{Entered}
 use Rattle.intern.specs.Words.{Kept}
 
@@ -39,18 +43,19 @@ use Rattle.intern.specs.Words.{Kept}
 
 -- a record of depth d may be read at `at`, as number i: the words hold the state; each symbol that is pending and each
 -- definition in force has a record before i, a lambda's arguments but one are paid for by its depth, and levels and
--- tables suffice for what is below
-pub record Stands (bs ws : List ℕ) (st : State) (i d : ℕ) (at : Here) : Type 0 where
+-- open tables, which are t, suffice for what is below
+pub record Stands (bs ws : List ℕ) (t : Tables) (st : State) (i d : ℕ) (at : Here) : Type 0 where
   pub rep : Rep bs ws st
+  pub opened : Open t (st .entries)
   pub scope : at .scope < st .scopes
   pub held : at .held ≤ i
   pub top : at .top ≤ 14 * (64 - d) + i
   pub level : levelOf (scopeWord ws (at .scope)) + d ≤ 64
-  pub tables : st .tables .depth + d ≤ 65
+  pub tables : t .depth + d ≤ 65
 
 -- record i, with its own depth
-abbrev pub StandsAt : List ℕ → List ℕ → State → ℕ → Here → Type 0
-StandsAt bs ws st i at = Stands bs ws st i (depth (treeAt bs i)) at
+abbrev pub StandsAt : List ℕ → List ℕ → Tables → State → ℕ → Here → Type 0
+StandsAt bs ws t st i at = Stands bs ws t st i (depth (treeAt bs i)) at
 
 -- ---- answers
 
@@ -59,9 +64,11 @@ abbrev pub Past : List ℕ → ℕ → ℕ → Trees → ℕ → Type 0
 Past bs i n rest j = (j ≡ i + n) × (treesFrom bs j ≡ rest)
 
 -- record i's subtree is read at `at`, and o is the answer
-pub record Reads (bs ws : List ℕ) (st : State) (i : ℕ) (at : Here) (o : Out) (ws′ : List ℕ) (r : Read) : Type 0 where
+pub record Reads (bs ws : List ℕ) (t : Tables) (st : State) (i : ℕ) (at : Here) (o : Out) (ws′ : List ℕ) (r : Read)
+    : Type 0 where
   pub rep : Rep bs ws′ (r .step .st)
-  pub is : outOf bs ws′ (r .step) ≡ o
+  pub opened : Open t (r .step .st .entries)
+  pub is : outOf bs ws′ t (r .step) ≡ o
   pub past : r .step .number ≡ 0 → Past bs i (size (treeAt bs i)) (restAt bs i) (r .next)
   pub kept : Kept at ws ws′ st (r .step .st)
 
@@ -79,11 +86,11 @@ pub record Counted (t : Tree) (cur : ℕ) (env : Env) (s : intern.State) : Type 
   pub few : before .readings < 2048
   pub is : s ≡ read before
 
-abbrev pub LegibleAt : List ℕ → List ℕ → State → ℕ → Here → Type 0
-LegibleAt bs ws st i at = Legible (treeAt bs i) (at .scope) (envOf ws (at .top)) (absOf bs ws st)
+abbrev pub LegibleAt : List ℕ → List ℕ → Tables → State → ℕ → Here → Type 0
+LegibleAt bs ws t st i at = Legible (treeAt bs i) (at .scope) (envOf ws (at .top)) (absOf bs ws t st)
 
-abbrev pub CountedAt : List ℕ → List ℕ → State → ℕ → Here → Type 0
-CountedAt bs ws st i at = Counted (treeAt bs i) (at .scope) (envOf ws (at .top)) (absOf bs ws st)
+abbrev pub CountedAt : List ℕ → List ℕ → Tables → State → ℕ → Here → Type 0
+CountedAt bs ws t st i at = Counted (treeAt bs i) (at .scope) (envOf ws (at .top)) (absOf bs ws t st)
 
 -- the definition's reading of record i's children
 abbrev pub kidsRead : List ℕ → ℕ → intern.Kids
@@ -98,47 +105,61 @@ concluded at cur r m =
     ]
 
 -- the children of record i may be read
-abbrev pub WellKids : List ℕ → List ℕ → State → ℕ → Here → Type 0
-WellKids bs ws st i at =
+abbrev pub WellKids : List ℕ → List ℕ → Tables → State → ℕ → Here → Type 0
+WellKids bs ws t st i at =
     WellAll (kidsAt bs i) (isBlock (recAt bs i)) (recAt bs i .opcode) 0 (at .scope) (envOf ws (at .top))
-    (absOf bs ws st) 1
+    (absOf bs ws t st) 1
 
--- record i is read, whatever it is; as a lambda; as a SelectField; as any other record
-abbrev pub RecordRead : List ℕ → List ℕ → State → ℕ → Here → List ℕ → Read → Type 0
-RecordRead bs ws st i at ws′ r =
-    Reads bs ws st i at (intern.intern (treeAt bs i) i (at .scope) (envOf ws (at .top)) (absOf bs ws st)) ws′ r
+-- record i is read, whatever it is; as a lambda; as any other record
+abbrev pub RecordRead : List ℕ → List ℕ → Tables → State → ℕ → Here → List ℕ → Read → Type 0
+RecordRead bs ws t st i at ws′ r =
+    Reads bs ws t st i at (intern.intern (treeAt bs i) i (at .scope) (envOf ws (at .top)) (absOf bs ws t st)) ws′ r
 
-abbrev pub LambdaRead : List ℕ → List ℕ → State → ℕ → Here → List ℕ → Read → Type 0
-LambdaRead bs ws st i at ws′ r =
-    Reads bs ws st i at
-    (internFunc i (at .scope) (recAt bs i) (envOf ws (at .top)) (kidsRead bs i) (absOf bs ws st)) ws′ r
+abbrev pub LambdaRead : List ℕ → List ℕ → Tables → State → ℕ → Here → List ℕ → Read → Type 0
+LambdaRead bs ws t st i at ws′ r =
+    Reads bs ws t st i at
+    (internFunc i (at .scope) (recAt bs i) (envOf ws (at .top)) (kidsRead bs i) (absOf bs ws t st)) ws′ r
 
-abbrev pub FieldRead : List ℕ → List ℕ → State → ℕ → Here → List ℕ → Read → Type 0
-FieldRead bs ws st i at ws′ r =
-    Reads bs ws st i at
-    (internKind field i (at .scope) (recAt bs i) (envOf ws (at .top)) (kidsRead bs i) (absOf bs ws st)) ws′ r
+abbrev pub KeyedRead : List ℕ → List ℕ → Tables → State → ℕ → Here → List ℕ → Read → Type 0
+KeyedRead bs ws t st i at ws′ r =
+    Reads bs ws t st i at
+    (concluded i (at .scope) (recAt bs i) (kidsRead bs i (at .scope) (envOf ws (at .top)) (absOf bs ws t st))) ws′ r
 
-abbrev pub KeyedRead : List ℕ → List ℕ → State → ℕ → Here → List ℕ → Read → Type 0
-KeyedRead bs ws st i at ws′ r =
-    Reads bs ws st i at
-    (concluded i (at .scope) (recAt bs i) (kidsRead bs i (at .scope) (envOf ws (at .top)) (absOf bs ws st))) ws′ r
+-- record i is read in part, and o is the answer to come: it is read again, as any other record, in state `next`
+pub record Again (bs ws : List ℕ) (t : Tables) (st : State) (i : ℕ) (at : Here) (o : Out) (ws′ : List ℕ) (next : State)
+    : Type 0
+  where
+    pub stands : StandsAt bs ws′ t next i at
+    pub well : WellKids bs ws′ t next i at
+    pub then : (ws″ : List ℕ) (r : Read) → KeyedRead bs ws′ t next i at ws″ r → Reads bs ws t st i at o ws″ r
+
+-- it is done, or read again
+abbrev pub ReadsOn : List ℕ → List ℕ → Tables → State → ℕ → Here → Out → List ℕ → Selected → Type 0
+ReadsOn bs ws t st i at o ws′ (Done r) = Reads bs ws t st i at o ws′ r
+ReadsOn bs ws t st i at o ws′ (Anew next) = Again bs ws t st i at o ws′ next
+
+-- a SelectField whose input is read
+abbrev pub SelectedRead : List ℕ → List ℕ → Tables → State → ℕ → Here → List ℕ → Selected → Type 0
+SelectedRead bs ws t st i at ws′ s =
+    ReadsOn bs ws t st i at
+    (internKind field i (at .scope) (recAt bs i) (envOf ws (at .top)) (kidsRead bs i) (absOf bs ws t st)) ws′ s
 
 -- ---- a child
 
 -- record i may be read as a child in scope `at .scope`, in a thunk of its own or not
-pub record Child (bs ws : List ℕ) (st : State) (i : ℕ) (thunk : Bool) (at : Here) : Type 0 where
-  pub stands : Stands bs ws st i (depth (treeAt bs i)) at
+pub record Child (bs ws : List ℕ) (t : Tables) (st : State) (i : ℕ) (thunk : Bool) (at : Here) : Type 0 where
+  pub stands : Stands bs ws t st i (depth (treeAt bs i)) at
   pub def : Bool
-  pub plain : thunk ≡ false → Well (treeAt bs i) def (at .scope) (envOf ws (at .top)) (absOf bs ws st)
-  pub room : thunk ≡ true → st .tables .depth + depth (treeAt bs i) < 65
+  pub plain : thunk ≡ false → Well (treeAt bs i) def (at .scope) (envOf ws (at .top)) (absOf bs ws t st)
+  pub room : thunk ≡ true → t .depth + depth (treeAt bs i) < 65
   pub few : thunk ≡ true → st .scopes ≤ 2048
   pub inside : thunk ≡ true → Well (treeAt bs i) def (st .scopes) (envOf ws (at .top))
-      (openThunk (at .scope) (absOf bs ws st))
+      (openThunk (at .scope) (absOf bs ws t st))
 
-abbrev pub ChildRead : List ℕ → List ℕ → State → ℕ → Bool → Here → List ℕ → Read → Type 0
-ChildRead bs ws st i thunk at ws′ r =
-    Reads bs ws st i at
-    (internScoped thunk (at .scope) (λ c s. intern.intern (treeAt bs i) i c (envOf ws (at .top)) s) (absOf bs ws st))
+abbrev pub ChildRead : List ℕ → List ℕ → Tables → State → ℕ → Bool → Here → List ℕ → Read → Type 0
+ChildRead bs ws t st i thunk at ws′ r =
+    Reads bs ws t st i at
+    (internScoped thunk (at .scope) (λ c s. intern.intern (treeAt bs i) i c (envOf ws (at .top)) s) (absOf bs ws t st))
     ws′ r
 
 -- ---- operands
@@ -148,37 +169,39 @@ abbrev pub trees : List ℕ → ℕ → ℕ → Trees
 trees bs i count = takeT count (treesFrom bs i)
 
 -- they may be read at `at`, the operands of an opcode
-pub record Operands (bs ws : List ℕ) (st : State) (i count op : ℕ) (at : Here) : Type 0 where
+pub record Operands (bs ws : List ℕ) (t : Tables) (st : State) (i count op : ℕ) (at : Here) : Type 0 where
   pub there : count ≤ many (treesFrom bs i)
   pub within : i ≤ recordCount bs
-  pub stands : Stands bs ws st i (depths (trees bs i count)) at
-  pub room : (j : ℕ) → thunked op j ≡ true → st .tables .depth + depths (trees bs i count) < 65
+  pub stands : Stands bs ws t st i (depths (trees bs i count)) at
+  pub room : (j : ℕ) → thunked op j ≡ true → t .depth + depths (trees bs i count) < 65
   pub block : Bool
   pub paid : ℕ
-  pub well : WellAll (trees bs i count) block op 0 (at .scope) (envOf ws (at .top)) (absOf bs ws st) paid
+  pub well : WellAll (trees bs i count) block op 0 (at .scope) (envOf ws (at .top)) (absOf bs ws t st) paid
 
 -- `count` symbols pending from `held` on, the scopes of their thunks, and the state after them
-abbrev pub kidsAnswer : List ℕ → List ℕ → ℕ → ℕ → Kids → Outs
-kidsAnswer bs ws held count k = good (pendingFrom ws held count, branchesOf (k .branches), absOf bs ws (k .st))
+abbrev pub kidsAnswer : List ℕ → List ℕ → Tables → ℕ → ℕ → Kids → Outs
+kidsAnswer bs ws t held count k = good (pendingFrom ws held count, branchesOf (k .branches), absOf bs ws t (k .st))
 
 -- record i's children are read, and it can be concluded
 abbrev pub Concluding : List ℕ → List ℕ → ℕ → Here → Kids → Type 0
 Concluding bs ws i at k = Concludes bs ws (k .st) i (at .scope) (at .scope) (at .held) (rowAt bs i .kids)
 
-abbrev pub Concluded : List ℕ → List ℕ → ℕ → Here → Kids → List ℕ → Step → Type 0
-Concluded bs ws i at k ws′ r =
-    Answers bs ws (k .st)
-    (concluded i (at .scope) (recAt bs i) (kidsAnswer bs ws (at .held) (rowAt bs i .kids) k)) ws′ r
+abbrev pub Concluded : List ℕ → List ℕ → Tables → ℕ → Here → Kids → List ℕ → Step → Type 0
+Concluded bs ws t i at k ws′ r =
+    Answers bs ws t (k .st)
+    (concluded i (at .scope) (recAt bs i) (kidsAnswer bs ws t (at .held) (rowAt bs i .kids) k)) ws′ r
 
 -- or a refusal
-unfoldable pub kidsOf : List ℕ → List ℕ → ℕ → ℕ → Kids → Outs
-kidsOf bs ws held count k =
-    elim (eqb (k .number) 0) [ true ↦ kidsAnswer bs ws held count k | false ↦ refused (k .number) (k .place) ]
+unfoldable pub kidsOf : List ℕ → List ℕ → Tables → ℕ → ℕ → Kids → Outs
+kidsOf bs ws t held count k =
+    elim (eqb (k .number) 0) [ true ↦ kidsAnswer bs ws t held count k | false ↦ refused (k .number) (k .place) ]
 
-pub record ReadsAll (bs ws : List ℕ) (st : State) (i count op : ℕ) (at : Here) (ws′ : List ℕ) (k : Kids) : Type 0 where
+pub record ReadsAll (bs ws : List ℕ) (t : Tables) (st : State) (i count op : ℕ) (at : Here) (ws′ : List ℕ) (k : Kids)
+    : Type 0 where
   pub rep : Rep bs ws′ (k .st)
-  pub is : kidsOf bs ws′ (at .held) count k
-      ≡ internAll (trees bs i count) op 0 i (at .scope) (envOf ws (at .top)) (absOf bs ws st)
+  pub opened : Open t (k .st .entries)
+  pub is : kidsOf bs ws′ t (at .held) count k
+      ≡ internAll (trees bs i count) op 0 i (at .scope) (envOf ws (at .top)) (absOf bs ws t st)
   pub past : k .number ≡ 0 → Past bs i (sizes (trees bs i count)) (dropT count (treesFrom bs i)) (k .next)
   pub pending : k .number ≡ 0 → at .held + count ≤ 256
   pub branched : Branched (k .branches)
@@ -191,11 +214,12 @@ abbrev pub argsMade : List ℕ → ℕ → ℕ → intern.State → Outs
 argsMade bs i cur s = allocArgs i cur (recAt bs i) (argsOf (recAt bs i .aux) (recAt bs i .lit)) s
 
 -- the body of lambda i is opened over arguments from symbol `first` on, which are bound
-pub record Body (bs ws : List ℕ) (st : State) (i : ℕ) (at : Here) (ws′ : List ℕ) (e : Entered) : Type 0 where
+pub record Body (bs ws : List ℕ) (t : Tables) (st : State) (i : ℕ) (at : Here) (ws′ : List ℕ) (e : Entered)
+    : Type 0 where
   pub made : intern.State
-  pub is : argsMade bs i (at .scope) (absOf bs ws st) ≡ good (range (e .first) (recAt bs i .aux), [], made)
+  pub is : argsMade bs i (at .scope) (absOf bs ws t st) ≡ good (range (e .first) (recAt bs i .aux), [], made)
   pub scope : e .at .scope ≡ length (made .scopes)
-  pub abs : absOf bs ws′ (e .st)
+  pub abs : absOf bs ws′ t (e .st)
       ≡ openScope (at .scope) (some (range (e .first) (recAt bs i .aux))) (made .tables) made
   pub env : envOf ws′ (e .at .top)
       ≡ bindArgs (argsOf (recAt bs i .aux) (recAt bs i .lit)) (range (e .first) (recAt bs i .aux)) (envOf ws (at .top))
@@ -206,17 +230,19 @@ pub record Body (bs ws : List ℕ) (st : State) (i : ℕ) (at : Here) (ws′ : L
   pub most : e .at .top ≤ at .top + 15
   pub low : e .first < 512
 
-pub record Enters (bs ws : List ℕ) (st : State) (i : ℕ) (at : Here) (ws′ : List ℕ) (e : Entered) : Type 0 where
+pub record Enters (bs ws : List ℕ) (t : Tables) (st : State) (i : ℕ) (at : Here) (ws′ : List ℕ) (e : Entered)
+    : Type 0 where
   pub rep : Rep bs ws′ (e .st)
+  pub opened : Open t (e .st .entries)
   pub kept : Kept at ws ws′ st (e .st)
-  pub fails : (e .number ≡ 0 → ⊥) → argsMade bs i (at .scope) (absOf bs ws st) ≡ refused (e .number) (e .place)
-  pub opens : e .number ≡ 0 → Body bs ws st i at ws′ e
+  pub fails : (e .number ≡ 0 → ⊥) → argsMade bs i (at .scope) (absOf bs ws t st) ≡ refused (e .number) (e .place)
+  pub opens : e .number ≡ 0 → Body bs ws t st i at ws′ e
 
 -- ---- a forest
 
 -- the root's symbol and the state after it, or a refusal
 pub record Interned (bs ws ws′ : List ℕ) (r : Step) : Type 0 where
   pub rep : Rep bs ws′ (r .st)
-  pub is : outOf bs ws′ r ≡ interned bs
+  pub is : outOf bs ws′ first r ≡ interned bs
   pub low : r .number ≡ 0 → r .symbol < r .st .symbols
   pub later : (k : ℕ) → 10856 ≤ k → getD ws′ k 0 ≡ getD ws k 0

@@ -16,8 +16,7 @@ pub record Words (n held top : ℕ) (ws ws′ : List ℕ) : Type 0 where
   pub bound : Agree ws ws′ 8456 (8456 + 2 * top)
   pub later : (k : ℕ) → 10856 ≤ k → getD ws′ k 0 ≡ getD ws k 0
 
--- reading at `at`: the same tables are open, and scopes are only added
+-- reading at `at`: scopes are only added
 pub record Kept (at : Here) (ws ws′ : List ℕ) (st st′ : State) : Type 0 where
   pub words : Words (st .scopes) (at .held) (at .top) ws ws′
-  pub depth : st′ .tables .depth ≡ st .tables .depth
   pub scopes : st .scopes ≤ st′ .scopes

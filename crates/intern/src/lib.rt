@@ -1,5 +1,5 @@
 // The walk over records that interns them (intern.rs). A record's children are read first; their symbols are pending
-// in work words, from `held` on. The ids in force stand in work words too.
+// in work words, from `held` on. The ids in force stand in work words too. The stack of open tables, t, is handed down.
 // In order: what a walk is given and gives; a lambda's body; what a record gives; the walk; a forest. Its small steps
 // are in small.rt.
 mod small;
@@ -8,6 +8,7 @@ use concluding::Branches;
 use interner::State;
 use interner::Step;
 use symbols::PENDING;
+use tables::Tables;
 ghost use mathlib.Core.Path.{_≡_};
 ghost use Prim.Native.Nat.{_<_, _≤_};
 ghost use lib.ListN.{length};
@@ -15,10 +16,11 @@ ghost use Rattle.model.specs.Answer.{good};
 ghost use Rattle.model.specs.Forest.{recordCount, treesOf};
 ghost use Rattle.model.specs.Accept.{accept};
 ghost use Rattle.walk.specs.Walk.{recAt, Sound};
+ghost use Rattle.tables.specs.Tables.{Open};
 ghost use Rattle.interner.specs.State.{Rep};
 ghost use Rattle.concluding.specs.Concluding.{Branched};
 ghost use Rattle.intern.specs.Intern.{StandsAt, LegibleAt, CountedAt, WellKids, Child, Operands, Concluding};
-ghost use Rattle.intern.specs.Intern.{RecordRead, LambdaRead, FieldRead, KeyedRead, ChildRead, ReadsAll};
+ghost use Rattle.intern.specs.Intern.{RecordRead, LambdaRead, SelectedRead, KeyedRead, ChildRead, ReadsAll};
 ghost use Rattle.intern.specs.Intern.{Enters, Concluded, Interned};
 
 // Where a record is read: its scope, how many symbols are pending, how many ids are bound.
@@ -53,16 +55,29 @@ pub struct Entered {
     pub first: u32,
 }
 
+// A SelectField whose input is read: done; or, of a Tuple's field, the state in which the record is read again.
+pub enum Selected {
+    Done(Read),
+    Anew(State),
+}
+
 // ---- a lambda's body
 
 // The arguments of lambda i are made and bound, and its body is opened. Rules out: a body in the lambda's own scope;
 // arguments bound in another order.
-fn enter_lambda(forest: &[u8], work: &mut [u32], i: usize, at: Here, st: State) -> Entered
+fn enter_lambda(
+    forest: &[u8],
+    work: &mut [u32],
+    t: Tables,
+    i: usize,
+    at: Here,
+    st: State,
+) -> Entered
     requires { ⌜ Sound (now forest) ⌝ }
     requires { ⌜ (i < recordCount (now forest)) × (recAt (now forest) i .shape ≡ 12) ⌝ }
-    requires { ⌜ StandsAt (now forest) (now work) st i at ⌝ }
-    requires { ⌜ CountedAt (now forest) (now work) st i at ⌝ }
-    ensures { λ e. ⌜ Enters (now (forest .entry)) (now (work .entry)) st i at (now (work .exit)) e ⌝ }
+    requires { ⌜ StandsAt (now forest) (now work) t st i at ⌝ }
+    requires { ⌜ CountedAt (now forest) (now work) t st i at ⌝ }
+    ensures { λ e. ⌜ Enters (now (forest .entry)) (now (work .entry)) t st i at (now (work .exit)) e ⌝ }
 {
     let cur = at.scope;
     let top = at.top;
@@ -99,12 +114,13 @@ fn enter_lambda(forest: &[u8], work: &mut [u32], i: usize, at: Here, st: State) 
 // ---- what a record gives
 
 // The symbol of record i, whose children are read: of a definition and a block that of the last.
-fn conclude(forest: &[u8], work: &mut [u32], i: usize, at: Here, k: Kids) -> Step
+fn conclude(forest: &[u8], work: &mut [u32], t: Tables, i: usize, at: Here, k: Kids) -> Step
     requires { ⌜ Sound (now forest) ⌝ }
     requires { ⌜ Rep (now forest) (now work) (k .st) ⌝ }
+    requires { ⌜ Open t (k .st .entries) ⌝ }
     requires { ⌜ Concluding (now forest) (now work) i at k ⌝ }
     requires { ⌜ Branched (k .branches) ⌝ }
-    ensures { λ r. ⌜ Concluded (now (forest .entry)) (now (work .entry)) i at k (now (work .exit)) r ⌝ }
+    ensures { λ r. ⌜ Concluded (now (forest .entry)) (now (work .entry)) t i at k (now (work .exit)) r ⌝ }
 {
     let st = k.st;
     let b = k.branches;
@@ -118,18 +134,18 @@ fn conclude(forest: &[u8], work: &mut [u32], i: usize, at: Here, k: Kids) -> Ste
     if shape == 11 {
         return concluding::last(work, st, held, count);
     }
-    concluding::general(forest, work, st, i, cur, held, count, b)
+    concluding::general(forest, work, t, st, i, cur, held, count, b)
 }
 
 // ---- the walk
 
 // Record i's subtree. Rules out: a reading that is not counted; the record after i's first child.
-pub fn subtree(forest: &[u8], work: &mut [u32], i: usize, at: Here, st: State) -> Read
+pub fn subtree(forest: &[u8], work: &mut [u32], t: Tables, i: usize, at: Here, st: State) -> Read
     requires { ⌜ Sound (now forest) ⌝ }
     requires { ⌜ i < recordCount (now forest) ⌝ }
-    requires { ⌜ StandsAt (now forest) (now work) st i at ⌝ }
-    requires { ⌜ LegibleAt (now forest) (now work) st i at ⌝ }
-    ensures { λ r. ⌜ RecordRead (now (forest .entry)) (now (work .entry)) st i at (now (work .exit)) r ⌝ }
+    requires { ⌜ StandsAt (now forest) (now work) t st i at ⌝ }
+    requires { ⌜ LegibleAt (now forest) (now work) t st i at ⌝ }
+    ensures { λ r. ⌜ RecordRead (now (forest .entry)) (now (work .entry)) t st i at (now (work .exit)) r ⌝ }
 {
     if st.readings == 2048 {
         return small::refused(st, 11, i as u32, i);
@@ -142,30 +158,35 @@ pub fn subtree(forest: &[u8], work: &mut [u32], i: usize, at: Here, st: State) -
         return Read { step, next: i + 1 };
     }
     if shape == 12 {
-        return lambda(forest, work, i, at, counted);
+        return lambda(forest, work, t, i, at, counted);
     }
-    if shape == 17 {
-        return field(forest, work, i, at, counted);
+    let selected = if shape == 17 {
+        field(forest, work, t, i, at, counted)
+    } else {
+        Selected::Anew(counted)
+    };
+    match selected {
+        Selected::Done(r) => r,
+        Selected::Anew(next) => keyed(forest, work, t, i, at, next),
     }
-    keyed(forest, work, i, at, counted)
 }
 
 // A lambda. Rules out: arguments in force past its body; a body that is read in the lambda's own scope.
-fn lambda(forest: &[u8], work: &mut [u32], i: usize, at: Here, st: State) -> Read
+fn lambda(forest: &[u8], work: &mut [u32], t: Tables, i: usize, at: Here, st: State) -> Read
     requires { ⌜ Sound (now forest) ⌝ }
     requires { ⌜ (i < recordCount (now forest)) × (recAt (now forest) i .shape ≡ 12) ⌝ }
-    requires { ⌜ StandsAt (now forest) (now work) st i at ⌝ }
-    requires { ⌜ CountedAt (now forest) (now work) st i at ⌝ }
-    ensures { λ r. ⌜ LambdaRead (now (forest .entry)) (now (work .entry)) st i at (now (work .exit)) r ⌝ }
+    requires { ⌜ StandsAt (now forest) (now work) t st i at ⌝ }
+    requires { ⌜ CountedAt (now forest) (now work) t st i at ⌝ }
+    ensures { λ r. ⌜ LambdaRead (now (forest .entry)) (now (work .entry)) t st i at (now (work .exit)) r ⌝ }
 {
-    let e = enter_lambda(forest, work, i, at, st);
+    let e = enter_lambda(forest, work, t, i, at, st);
     let inside = e.st;
     if e.number != 0 {
         return small::refused(inside, e.number, e.place, i);
     }
     let inner = e.at;
     let op = record::opcode(forest, i);
-    let k = operands(forest, work, i + 1, 1, op, inner, inside);
+    let k = operands(forest, work, t, i + 1, 1, op, inner, inside);
     let after = k.st;
     if k.number != 0 {
         return small::refused(after, k.number, k.place, i);
@@ -173,6 +194,7 @@ fn lambda(forest: &[u8], work: &mut [u32], i: usize, at: Here, st: State) -> Rea
     let step = concluding::lambda(
         forest,
         work,
+        t,
         after,
         i,
         at.scope,
@@ -184,45 +206,45 @@ fn lambda(forest: &[u8], work: &mut [u32], i: usize, at: Here, st: State) -> Rea
 }
 
 // A SelectField. Rules out: the input of a Tuple's field read once; any other input read twice.
-fn field(forest: &[u8], work: &mut [u32], i: usize, at: Here, st: State) -> Read
+fn field(forest: &[u8], work: &mut [u32], t: Tables, i: usize, at: Here, st: State) -> Selected
     requires { ⌜ Sound (now forest) ⌝ }
     requires { ⌜ i < recordCount (now forest) ⌝ }
     requires { ⌜ (recAt (now forest) i .shape ≡ 17) × (recAt (now forest) i .opcode ≡ 0x8C) ⌝ }
-    requires { ⌜ StandsAt (now forest) (now work) st i at ⌝ }
-    requires { ⌜ WellKids (now forest) (now work) st i at ⌝ }
-    ensures { λ r. ⌜ FieldRead (now (forest .entry)) (now (work .entry)) st i at (now (work .exit)) r ⌝ }
+    requires { ⌜ StandsAt (now forest) (now work) t st i at ⌝ }
+    requires { ⌜ WellKids (now forest) (now work) t st i at ⌝ }
+    ensures { λ r. ⌜ SelectedRead (now (forest .entry)) (now (work .entry)) t st i at (now (work .exit)) r ⌝ }
 {
     let op = record::opcode(forest, i);
-    let k = operands(forest, work, i + 1, 1, op, at, st);
+    let k = operands(forest, work, t, i + 1, 1, op, at, st);
     let after = k.st;
     if k.number != 0 {
-        return small::refused(after, k.number, k.place, i);
+        return Selected::Done(small::refused(after, k.number, k.place, i));
     }
     let held = at.held;
     if concluding::reads_again(forest, work, i, held) {
-        return keyed(forest, work, i, at, after);
+        return Selected::Anew(after);
     }
-    let step = concluding::field(forest, work, after, i, at.scope, held);
-    Read { step, next: k.next }
+    let step = concluding::field(forest, work, t, after, i, at.scope, held);
+    Selected::Done(Read { step, next: k.next })
 }
 
 // Any other record; and a SelectField of a Tuple, once more. Rules out: a key with the symbols of other children; a
 // block's own symbol.
-fn keyed(forest: &[u8], work: &mut [u32], i: usize, at: Here, st: State) -> Read
+fn keyed(forest: &[u8], work: &mut [u32], t: Tables, i: usize, at: Here, st: State) -> Read
     requires { ⌜ Sound (now forest) ⌝ }
     requires { ⌜ i < recordCount (now forest) ⌝ }
-    requires { ⌜ StandsAt (now forest) (now work) st i at ⌝ }
-    requires { ⌜ WellKids (now forest) (now work) st i at ⌝ }
-    ensures { λ r. ⌜ KeyedRead (now (forest .entry)) (now (work .entry)) st i at (now (work .exit)) r ⌝ }
+    requires { ⌜ StandsAt (now forest) (now work) t st i at ⌝ }
+    requires { ⌜ WellKids (now forest) (now work) t st i at ⌝ }
+    ensures { λ r. ⌜ KeyedRead (now (forest .entry)) (now (work .entry)) t st i at (now (work .exit)) r ⌝ }
 {
     let count = record::kids(forest, i);
     let op = record::opcode(forest, i);
-    let k = operands(forest, work, i + 1, count, op, at, st);
+    let k = operands(forest, work, t, i + 1, count, op, at, st);
     if k.number != 0 {
         let after = k.st;
         return small::refused(after, k.number, k.place, i);
     }
-    let step = conclude(forest, work, i, at, k);
+    let step = conclude(forest, work, t, i, at, k);
     Read { step, next: k.next }
 }
 
@@ -231,6 +253,7 @@ fn keyed(forest: &[u8], work: &mut [u32], i: usize, at: Here, st: State) -> Read
 fn operands(
     forest: &[u8],
     work: &mut [u32],
+    t: Tables,
     i: usize,
     count: usize,
     op: u8,
@@ -238,8 +261,8 @@ fn operands(
     st: State,
 ) -> Kids
     requires { ⌜ Sound (now forest) ⌝ }
-    requires { ⌜ Operands (now forest) (now work) st i count op at ⌝ }
-    ensures { λ k. ⌜ ReadsAll (now (forest .entry)) (now (work .entry)) st i count op at (now (work .exit)) k ⌝ }
+    requires { ⌜ Operands (now forest) (now work) t st i count op at ⌝ }
+    ensures { λ k. ⌜ ReadsAll (now (forest .entry)) (now (work .entry)) t st i count op at (now (work .exit)) k ⌝ }
 {
     let held = at.held;
     let mut k = small::unread(st, i);
@@ -252,6 +275,7 @@ fn operands(
         let r = child(
             forest,
             work,
+            t,
             next,
             thunk,
             small::child_at(at, j, top),
@@ -271,14 +295,22 @@ fn operands(
 
 // A child, in a thunk of its own or in the scope of its parent. Rules out: a thunk's table left open; a symbol made in
 // the thunk that is found after it.
-fn child(forest: &[u8], work: &mut [u32], i: usize, thunk: bool, at: Here, st: State) -> Read
+fn child(
+    forest: &[u8],
+    work: &mut [u32],
+    t: Tables,
+    i: usize,
+    thunk: bool,
+    at: Here,
+    st: State,
+) -> Read
     requires { ⌜ Sound (now forest) ⌝ }
     requires { ⌜ i < recordCount (now forest) ⌝ }
-    requires { ⌜ Child (now forest) (now work) st i thunk at ⌝ }
-    ensures { λ r. ⌜ ChildRead (now (forest .entry)) (now (work .entry)) st i thunk at (now (work .exit)) r ⌝ }
+    requires { ⌜ Child (now forest) (now work) t st i thunk at ⌝ }
+    ensures { λ r. ⌜ ChildRead (now (forest .entry)) (now (work .entry)) t st i thunk at (now (work .exit)) r ⌝ }
 {
     if !thunk {
-        return subtree(forest, work, i, at, st);
+        return subtree(forest, work, t, i, at, st);
     }
     let scope = st.scopes;
     let cur = at.scope;
@@ -288,11 +320,13 @@ fn child(forest: &[u8], work: &mut [u32], i: usize, thunk: bool, at: Here, st: S
         held: at.held,
         top: at.top,
     };
-    let r = subtree(forest, work, i, own, inside);
+    let top = st.entries;
+    let inner = t.push(top);
+    let r = subtree(forest, work, inner, i, own, inside);
     let step = r.step;
     let last = step.st;
     let closed = Step {
-        st: opening::close_thunk(last),
+        st: opening::close_thunk(last, top),
         symbol: step.symbol,
         number: step.number,
         place: step.place,
@@ -318,7 +352,8 @@ pub fn forest(forest: &[u8], work: &mut [u32]) -> Step
         held: 0,
         top: 0,
     };
-    let k = operands(forest, work, 0, count, 0, at, st);
+    let t = Tables::new();
+    let k = operands(forest, work, t, 0, count, 0, at, st);
     let after = k.st;
     if k.number != 0 {
         return Step {

@@ -27,6 +27,9 @@ use Rattle.symbols.specs.Words.{wordsFrom}
 use Rattle.laws.specs.Range.{range}
 use Rattle.symbols.specs.Symbols.{keyRec}
 use Rattle.symbols.proofs.Laws.{syms-length}
+use Rattle.tables.specs.declared.Tables.{Tables}
+use Rattle.tables.specs.Tables.{Open}
+use Rattle.tables.proofs.Stack.{open-later}
 use Rattle.levels.specs.Levels.{has}
 use Rattle.scopes.specs.Scopes.{scopeWord, levelOf, scopesOf, outward}
 use Rattle.scopes.proofs.Laws.{scopes-length, scope-level, scope-args}
@@ -157,8 +160,9 @@ pub record SoFar (bs ws₀ : List ℕ) (st₀ : State) (cur at count k : ℕ) (w
   pub rep : Rep bs ws s
   pub leaves : Leaves ws₀ ws st₀ s
   pub symbols : s .symbols ≡ st₀ .symbols + k
-  pub left : pushArgs cur (rowAt bs at .rec) (count - k) (absOf bs ws s)
-      ≡ pushArgs cur (rowAt bs at .rec) count (absOf bs ws₀ st₀)
+  pub left : (t : Tables) → Open t (st₀ .entries) →
+      pushArgs cur (rowAt bs at .rec) (count - k) (absOf bs ws t s)
+      ≡ pushArgs cur (rowAt bs at .rec) count (absOf bs ws₀ t st₀)
   pub args : (i : ℕ) → i < k → AtLevel ws (s .symbols) (levelOf (scopeWord ws₀ cur) + 1) (st₀ .symbols + i)
 
 range-in : (first n x : ℕ) → In x (range first n) → (i : ℕ) × (i < n) × (x ≡ first + i)
@@ -175,7 +179,7 @@ module _ (bs ws₀ : List ℕ) (st₀ : State) (cur at count : ℕ) where
     rep = rep;
     leaves = leaves-none ws₀ st₀;
     symbols = omega arith;
-    left = let e : count - 0 ≡ count = omega arith in rw e;
+    left = λ t opened. let e : count - 0 ≡ count = omega arith in rw e;
     args = λ i lt. absurd (omega arith);
   }
 
@@ -198,17 +202,21 @@ module _ (bs ws₀ : List ℕ) (st₀ : State) (cur at count : ℕ) where
   module _ (k levels : ℕ) (ws ws₁ : List ℕ) (s s₁ : State) (lt : k < count)
       (are : (j : ℕ) → has levels j ≡ eqb j (levelOf (scopeWord ws₀ cur) + 1))
       (f : SoFar bs ws₀ st₀ cur at count k ws s) (done : Pushed bs ws s cur (arg at) 0 0 levels ws₁ s₁) where
-    one-is : absOf bs ws₁ s₁ ≡ oneArg cur (rowAt bs at .rec) (absOf bs ws s)
+    one-is : (t : Tables) → Open t (st₀ .entries) →
+        absOf bs ws₁ t s₁ ≡ oneArg cur (rowAt bs at .rec) (absOf bs ws t s)
     unfolding keyRec wordsFrom
-    one-is = done .is ∙ rw (syms-length bs ws (s .symbols))
+    one-is t opened =
+        done .is t (open-later t (st₀ .entries) opened (s .entries) (f .leaves .entries))
+        ∙ rw (syms-length bs ws (s .symbols))
 
-    left-more : pushArgs cur (rowAt bs at .rec) (count - (k + 1)) (absOf bs ws₁ s₁)
-        ≡ pushArgs cur (rowAt bs at .rec) count (absOf bs ws₀ st₀)
+    left-more : (t : Tables) → Open t (st₀ .entries) →
+        pushArgs cur (rowAt bs at .rec) (count - (k + 1)) (absOf bs ws₁ t s₁)
+        ≡ pushArgs cur (rowAt bs at .rec) count (absOf bs ws₀ t st₀)
     unfolding pushArgs
-    left-more =
+    left-more t opened =
         let e : count - k ≡ suc (count - (k + 1)) = omega (arith, lt) in
-        ap (pushArgs cur (rowAt bs at .rec) (count - (k + 1))) one-is
-        ∙ (ap (λ (z : ℕ). pushArgs cur (rowAt bs at .rec) z (absOf bs ws s)) (sym e) ∙ f .left)
+        ap (pushArgs cur (rowAt bs at .rec) (count - (k + 1))) (one-is t opened)
+        ∙ (ap (λ (z : ℕ). pushArgs cur (rowAt bs at .rec) z (absOf bs ws t s)) (sym e) ∙ f .left t opened)
 
     new-level : AtLevel ws₁ (s₁ .symbols) (levelOf (scopeWord ws₀ cur) + 1) (s .symbols)
     new-level = record {
@@ -245,18 +253,19 @@ module _ (bs ws₀ : List ℕ) (st₀ : State) (cur at count : ℕ) where
     args-done ws s r le f e = subst (Bindings bs ws₀ st₀ cur at count ws) (sym e) (record {
       rep = f .rep;
       leaves = f .leaves;
-      is = λ xs l. sym (good-args xs l);
+      is = λ t opened xs l. sym (good-args t opened xs l);
       first = λ z. (refl, f .symbols);
       args = λ z x i. let w = range-in (st₀ .symbols) count x i in rw (w .2) (f .args (w .0) (w .1));
     })
       where
-        good-args : (xs : List (ℕ × List ℕ)) → length xs ≡ count →
-            allocArgs at cur (rowAt bs at .rec) xs (absOf bs ws₀ st₀) ≡ outsOf bs ws count (given s (st₀ .symbols))
-        good-args xs l =
+        good-args : (t : Tables) → Open t (st₀ .entries) → (xs : List (ℕ × List ℕ)) → length xs ≡ count →
+            allocArgs at cur (rowAt bs at .rec) xs (absOf bs ws₀ t st₀)
+            ≡ outsOf bs ws t count (given s (st₀ .symbols))
+        good-args t opened xs l =
             let n = syms-length bs ws₀ (st₀ .symbols) in
             let z : count - count ≡ 0 = omega arith in
-            args-good at cur (rowAt bs at .rec) xs (absOf bs ws₀ st₀) (omega (arith, n))
-            ∙ rw (n, l, ← f .left, z)
+            args-good at cur (rowAt bs at .rec) xs (absOf bs ws₀ t st₀) (omega (arith, n))
+            ∙ rw (n, l, ← f .left t opened, z)
 
     pub args-refused : (r : Step) → 512 < st₀ .symbols + count → r ≡ overFull st₀ (arg at) →
         Bindings bs ws₀ st₀ cur at count ws₀ r
@@ -264,14 +273,15 @@ module _ (bs ws₀ : List ℕ) (st₀ : State) (cur at count : ℕ) where
     args-refused r lt e = subst (Bindings bs ws₀ st₀ cur at count ws₀) (sym e) (record {
       rep = rep;
       leaves = leaves-none ws₀ st₀;
-      is = λ xs l. sym (full-args xs l);
+      is = λ t opened xs l. sym (full-args t xs l);
       first = λ z. absurd (omega arith);
       args = λ z. absurd (omega arith);
     })
       where
-        full-args : (xs : List (ℕ × List ℕ)) → length xs ≡ count →
-            allocArgs at cur (rowAt bs at .rec) xs (absOf bs ws₀ st₀) ≡ outsOf bs ws₀ count (overFull st₀ (arg at))
-        full-args xs l =
+        full-args : (t : Tables) (xs : List (ℕ × List ℕ)) → length xs ≡ count →
+            allocArgs at cur (rowAt bs at .rec) xs (absOf bs ws₀ t st₀)
+            ≡ outsOf bs ws₀ t count (overFull st₀ (arg at))
+        full-args t xs l =
             let n = syms-length bs ws₀ (st₀ .symbols) in
-            args-full at cur (rowAt bs at .rec) xs (absOf bs ws₀ st₀) (omega (arith, n, rep .few-symbols))
+            args-full at cur (rowAt bs at .rec) xs (absOf bs ws₀ t st₀) (omega (arith, n, rep .few-symbols))
             (omega (arith, n))

@@ -23,6 +23,9 @@ use Rattle.key.specs.declared.Node.the-variants.{Op}
 use Rattle.symbols.specs.Words.{wordsFrom}
 use Rattle.symbols.specs.Symbols.{symsOf, keyRec}
 use Rattle.symbols.proofs.Laws.{syms-length}
+use Rattle.tables.specs.declared.Tables.{Tables}
+use Rattle.tables.specs.Tables.{Open}
+use Rattle.tables.proofs.Stack.{open-later}
 use Rattle.scopes.specs.Scopes.{scopesOf}
 use Rattle.memo.specs.Memo.{memoOf, remembered}
 use Rattle.interner.specs.declared.State.{State}
@@ -82,39 +85,40 @@ module _ (bs ws : List ℕ) (st : State) (cur at i held : ℕ) where
     forced = h .forced;
   }
 
+module _ (bs ws : List ℕ) (t : Tables) (st : State) (cur at i held : ℕ) where
   pub field-is : 0 < i →
-      finishOf bs ws st cur (field at i) held 1
-      ≡ fieldOf at cur (rowAt bs at .rec) i (getD ws (8200 + held) 0) (absOf bs ws st)
+      finishOf bs ws t st cur (field at i) held 1
+      ≡ fieldOf at cur (rowAt bs at .rec) i (getD ws (8200 + held) 0) (absOf bs ws t st)
   unfolding wordsFrom
   field-is lt =
-      ap (λ (r : Rec). finish at cur r (getD ws (8200 + held) 0 ∷ []) [] (operation []) (absOf bs ws st))
+      ap (λ (r : Rec). finish at cur r (getD ws (8200 + held) 0 ∷ []) [] (operation []) (absOf bs ws t st))
       (key-field bs at i lt)
 
   pub field-answers : (ws′ : List ℕ) (r : Step) → 0 < i →
-      Answers bs ws st (finishOf bs ws st cur (field at i) held 1) ws′ r →
-      Answers bs ws st (fieldOf at cur (rowAt bs at .rec) i (getD ws (8200 + held) 0) (absOf bs ws st)) ws′ r
+      Answers bs ws t st (finishOf bs ws t st cur (field at i) held 1) ws′ r →
+      Answers bs ws t st (fieldOf at cur (rowAt bs at .rec) i (getD ws (8200 + held) 0) (absOf bs ws t st)) ws′ r
   field-answers ws′ r lt a =
       record { rep = a .rep; leaves = a .leaves; low = a .low; is = a .is ∙ field-is lt }
 
 -- ---- answers
 
-module _ (bs ws : List ℕ) (r : Step) where
-  pub out-good : r .number ≡ 0 → outOf bs ws r ≡ good (r .symbol, absOf bs ws (r .st))
+module _ (bs ws : List ℕ) (t : Tables) (r : Step) where
+  pub out-good : r .number ≡ 0 → outOf bs ws t r ≡ good (r .symbol, absOf bs ws t (r .st))
   unfolding outOf
   out-good e = rw (eq-eqb (r .number) 0 e, outOf)
 
-  out-number : (r .number ≡ 0 → ⊥) → outOf bs ws r ≡ refused (r .number) (r .place)
+  out-number : (r .number ≡ 0 → ⊥) → outOf bs ws t r ≡ refused (r .number) (r .place)
   unfolding outOf
   out-number n = rw (ne-eqb (r .number) 0 n, outOf)
 
   -- a refusal is handed on
-  out-refused : (r .number ≡ 0 → ⊥) → (f : ℕ × intern.State → Out) → (outOf bs ws r >>= f) ≡ outOf bs ws r
+  out-refused : (r .number ≡ 0 → ⊥) → (f : ℕ × intern.State → Out) → (outOf bs ws t r >>= f) ≡ outOf bs ws t r
   unfolding _>>=_
   out-refused n f = rw (out-number n)
 
 -- ---- the state between them
 
-module _ (bs ws : List ℕ) (st : State) (cur at held : ℕ) where
+module _ (bs ws : List ℕ) (t : Tables) (st : State) (cur at held : ℕ) where
   abbrev pend : List ℕ → ℕ
   pend us = getD us (8200 + held) 0
 
@@ -122,14 +126,14 @@ module _ (bs ws : List ℕ) (st : State) (cur at held : ℕ) where
   own = rowAt bs at .rec
 
   module _ (i : ℕ) (ws₁ : List ℕ) (a : Step)
-      (h : Answers bs ws st (fieldOf at cur own i (pend ws) (absOf bs ws st)) ws₁ a) (ok : a .number ≡ 0) where
-    pub field-good : fieldOf at cur own i (pend ws) (absOf bs ws st) ≡ good (a .symbol, absOf bs ws₁ (a .st))
-    field-good = sym (h .is) ∙ out-good bs ws₁ a ok
+      (h : Answers bs ws t st (fieldOf at cur own i (pend ws) (absOf bs ws t st)) ws₁ a) (ok : a .number ≡ 0) where
+    pub field-good : fieldOf at cur own i (pend ws) (absOf bs ws t st) ≡ good (a .symbol, absOf bs ws₁ t (a .st))
+    field-good = sym (h .is) ∙ out-good bs ws₁ t a ok
 
-    pub field-keeps : Keeps (absOf bs ws st) 1 (a .symbol, absOf bs ws₁ (a .st))
+    pub field-keeps : Keeps (absOf bs ws t st) 1 (a .symbol, absOf bs ws₁ t (a .st))
     field-keeps =
-        subst (Holds (Keeps (absOf bs ws st) 1)) field-good
-        (finish-keeps at cur (fieldRec own i) (pend ws ∷ []) [] (operation []) (absOf bs ws st))
+        subst (Holds (Keeps (absOf bs ws t st) 1)) field-good
+        (finish-keeps at cur (fieldRec own i) (pend ws ∷ []) [] (operation []) (absOf bs ws t st))
 
     pub same-pending : pend ws₁ ≡ pend ws
     same-pending = h .leaves .later (8200 + held) (omega arith)
@@ -160,7 +164,7 @@ module _ (bs ws : List ℕ) (st : State) (cur at held : ℕ) where
 
 -- ---- both
 
-module _ (bs ws : List ℕ) (st : State) (cur at held : ℕ) where
+module _ (bs ws : List ℕ) (t : Tables) (st : State) (cur at held : ℕ) where
   abbrev pend′ : List ℕ → ℕ
   pend′ us = getD us (8200 + held) 0
 
@@ -174,55 +178,56 @@ module _ (bs ws : List ℕ) (st : State) (cur at held : ℕ) where
       good (pick i (a .0, b .0), remember (pend′ ws) (a .0) (b .0) (b .1))
 
     abbrev newOf : Out
-    newOf = newProjections at cur own′ i (pend′ ws) (absOf bs ws st)
+    newOf = newProjections at cur own′ i (pend′ ws) (absOf bs ws t st)
 
     abbrev pairOf : Out
-    pairOf = pairProjection at cur own′ i (pend′ ws) (absOf bs ws st)
+    pairOf = pairProjection at cur own′ i (pend′ ws) (absOf bs ws t st)
 
-    new-is : newOf ≡ (fieldOf at cur own′ 1 (pend′ ws) (absOf bs ws st) >>= second)
+    new-is : newOf ≡ (fieldOf at cur own′ 1 (pend′ ws) (absOf bs ws t st) >>= second)
     unfolding newProjections
     new-is = refl
 
     pub first-refused : (ws₁ : List ℕ) (a : Step) →
-        Answers bs ws st (fieldOf at cur own′ 1 (pend′ ws) (absOf bs ws st)) ws₁ a → (a .number ≡ 0 → ⊥) →
-        Answers bs ws st newOf ws₁ a
+        Answers bs ws t st (fieldOf at cur own′ 1 (pend′ ws) (absOf bs ws t st)) ws₁ a → (a .number ≡ 0 → ⊥) →
+        Answers bs ws t st newOf ws₁ a
     first-refused ws₁ a h n = record {
       rep = h .rep;
       leaves = h .leaves;
       low = h .low;
-      is = sym (out-refused bs ws₁ a n second) ∙ (ap (λ (m : Out). m >>= second) (h .is) ∙ sym new-is);
+      is = sym (out-refused bs ws₁ t a n second) ∙ (ap (λ (m : Out). m >>= second) (h .is) ∙ sym new-is);
     }
 
-    module _ (ws₁ : List ℕ) (a : Step) (h : Answers bs ws st (fieldOf at cur own′ 1 (pend′ ws) (absOf bs ws st)) ws₁ a)
+    module _ (ws₁ : List ℕ) (a : Step)
+        (h : Answers bs ws t st (fieldOf at cur own′ 1 (pend′ ws) (absOf bs ws t st)) ws₁ a)
         (ok : a .number ≡ 0) (ws₂ : List ℕ) (b : Step)
-        (g : Answers bs ws₁ (a .st) (fieldOf at cur own′ 2 (pend′ ws₁) (absOf bs ws₁ (a .st))) ws₂ b) where
+        (g : Answers bs ws₁ t (a .st) (fieldOf at cur own′ 2 (pend′ ws₁) (absOf bs ws₁ t (a .st))) ws₂ b) where
       abbrev last : ℕ × intern.State → Out
       last o = good (pick i (a .symbol, o .0), remember (pend′ ws) (a .symbol) (o .0) (o .1))
 
-      new-second : newOf ≡ (outOf bs ws₂ b >>= last)
+      new-second : newOf ≡ (outOf bs ws₂ t b >>= last)
       unfolding _>>=_
       new-second =
           new-is
-          ∙ (ap (λ (m : Out). m >>= second) (field-good bs ws st cur at held 1 ws₁ a h ok)
+          ∙ (ap (λ (m : Out). m >>= second) (field-good bs ws t st cur at held 1 ws₁ a h ok)
           ∙ ap (λ (m : Out). m >>= last)
-          (ap (λ (z : ℕ). fieldOf at cur own′ 2 z (absOf bs ws₁ (a .st)))
-          (sym (same-pending bs ws st cur at held 1 ws₁ a h ok))
+          (ap (λ (z : ℕ). fieldOf at cur own′ 2 z (absOf bs ws₁ t (a .st)))
+          (sym (same-pending bs ws t st cur at held 1 ws₁ a h ok))
           ∙ sym (g .is)))
 
-      pub second-refused : (b .number ≡ 0 → ⊥) → Answers bs ws st newOf ws₂ b
+      pub second-refused : (b .number ≡ 0 → ⊥) → Answers bs ws t st newOf ws₂ b
       second-refused n = record {
         rep = g .rep;
         leaves = leaves-then ws ws₁ ws₂ st (a .st) (b .st) (h .leaves) (g .leaves);
         low = g .low;
-        is = out-number bs ws₂ b n
-            ∙ sym (new-second ∙ (out-refused bs ws₂ b n last ∙ out-number bs ws₂ b n));
+        is = out-number bs ws₂ t b n
+            ∙ sym (new-second ∙ (out-refused bs ws₂ t b n last ∙ out-number bs ws₂ t b n));
       }
 
-      module _ (fine : b .number ≡ 0) (rep : Rep bs ws st) (p : Projects bs ws st cur at held 2)
-          (new : recall (memoOf ws (st .memo)) (pend′ ws) ≡ none) where
+      module _ (fine : b .number ≡ 0) (rep : Rep bs ws st) (opened : Open t (st .entries))
+          (p : Projects bs ws st cur at held 2) (new : recall (memoOf ws (st .memo)) (pend′ ws) ≡ none) where
         memo-kept : memoOf ws₂ (b .st .memo) ≡ memoOf ws (st .memo)
         memo-kept =
-            keeps-memo bs ws₁ (a .st) cur at held 2 ws₂ b g fine ∙ keeps-memo bs ws st cur at held 1 ws₁ a h ok
+            keeps-memo bs ws₁ t (a .st) cur at held 2 ws₂ b g fine ∙ keeps-memo bs ws t st cur at held 1 ws₁ a h ok
 
         pub still-new : recall (memoOf ws₂ (b .st .memo)) (pend′ ws) ≡ none
         still-new = ap (λ (ms : List (ℕ × ℕ × ℕ)). recall ms (pend′ ws)) memo-kept ∙ new
@@ -236,23 +241,27 @@ module _ (bs ws : List ℕ) (st : State) (cur at held : ℕ) where
         pub room-memo : b .st .memo < 512
         room-memo = memo-room bs ws₂ (b .st) (pend′ ws) (g .rep) low-p still-new
 
+        still-open : Open t (b .st .entries)
+        still-open =
+            open-later t (st .entries) opened (b .st .entries) (omega (arith, h .leaves .entries, g .leaves .entries))
+
         abbrev ws₃ : List ℕ
         ws₃ = remembered ws₂ (b .st .memo) (pend′ ws) (a .symbol) (b .symbol)
 
         abbrev result : Step
         result = given (withPair (b .st)) (pick i (a .symbol, b .symbol))
 
-        new-both : newOf ≡ outOf bs ws₃ result
+        new-both : newOf ≡ outOf bs ws₃ t result
         unfolding _>>=_
         new-both =
             new-second
-            ∙ (ap (λ (m : Out). m >>= last) (out-good bs ws₂ b fine)
+            ∙ (ap (λ (m : Out). m >>= last) (out-good bs ws₂ t b fine)
             ∙ (ap (λ (s : intern.State). good (pick i (a .symbol, b .symbol), s))
             (sym (abs-remembered bs ws₂ (b .st) (pend′ ws) (g .rep) low-p still-new (a .symbol) (b .symbol) low-a
-            (g .low)))
-            ∙ sym (out-given bs ws₃ (withPair (b .st)) (pick i (a .symbol, b .symbol)))))
+            (g .low) t still-open))
+            ∙ sym (out-given bs ws₃ t (withPair (b .st)) (pick i (a .symbol, b .symbol)))))
 
-        whole : Answers bs ws st newOf ws₃ result
+        whole : Answers bs ws t st newOf ws₃ result
         whole = record {
           rep = rep-remembered bs ws₂ (b .st) (pend′ ws) (g .rep) low-p still-new (a .symbol) (b .symbol) low-a
               (g .low);
@@ -264,15 +273,15 @@ module _ (bs ws : List ℕ) (st : State) (cur at held : ℕ) where
           is = sym new-both;
         }
 
-        pub both-made : (ws′ : List ℕ) (r : Step) → ws′ ≡ ws₃ → r ≡ result → Answers bs ws st newOf ws′ r
+        pub both-made : (ws′ : List ℕ) (r : Step) → ws′ ≡ ws₃ → r ≡ result → Answers bs ws t st newOf ws′ r
         both-made ws′ r d e =
-            subst (λ (z : List ℕ). Answers bs ws st newOf z r) (sym d)
-            (subst (Answers bs ws st newOf ws₃) (sym e) whole)
+            subst (λ (z : List ℕ). Answers bs ws t st newOf z r) (sym d)
+            (subst (Answers bs ws t st newOf ws₃) (sym e) whole)
 
     -- ---- what is remembered, or both made
 
     pair-some : (x y : ℕ) → recall (memoOf ws (st .memo)) (pend′ ws) ≡ some (x, y) →
-        pairOf ≡ good (pick i (x, y), absOf bs ws st)
+        pairOf ≡ good (pick i (x, y), absOf bs ws t st)
     unfolding pairProjection
     pair-some x y e = rw (e, pairProjection)
 
@@ -281,17 +290,17 @@ module _ (bs ws : List ℕ) (st : State) (cur at held : ℕ) where
     pair-none e = rw (e, pairProjection)
 
     pub recalled : (x y : ℕ) (r : Step) → Rep bs ws st → recall (memoOf ws (st .memo)) (pend′ ws) ≡ some (x, y) →
-        r ≡ given st (pick i (x, y)) → Answers bs ws st pairOf ws r
+        r ≡ given st (pick i (x, y)) → Answers bs ws t st pairOf ws r
     recalled x y r rep f e =
         let low = recall-low (st .symbols) (memoOf ws (st .memo)) (pend′ ws) x y (rep .remembered) f in
-        subst (Answers bs ws st pairOf ws) (sym e) (record {
+        subst (Answers bs ws t st pairOf ws) (sym e) (record {
           rep = rep;
           leaves = leaves-none ws st;
           low = pick-low i x y (st .symbols) (low .0) (low .1);
-          is = out-given bs ws st (pick i (x, y)) ∙ sym (pair-some x y f);
+          is = out-given bs ws t st (pick i (x, y)) ∙ sym (pair-some x y f);
         })
 
     pub not-recalled : (ws′ : List ℕ) (r : Step) → recall (memoOf ws (st .memo)) (pend′ ws) ≡ none →
-        Answers bs ws st newOf ws′ r → Answers bs ws st pairOf ws′ r
+        Answers bs ws t st newOf ws′ r → Answers bs ws t st pairOf ws′ r
     not-recalled ws′ r f h =
         record { rep = h .rep; leaves = h .leaves; low = h .low; is = h .is ∙ sym (pair-none f) }

@@ -22,7 +22,8 @@ use Rattle.key.specs.Key.{partsOf}
 use Rattle.symbols.specs.Words.{pendingFrom}
 use Rattle.symbols.specs.Symbols.{symsOf, keyRec, recOf, ownOf, nodeOf}
 use Rattle.tables.specs.declared.Found.{Found}
-use Rattle.tables.specs.Tables.{foundOf, entries, tables, tablesOf, Entries, Below}
+use Rattle.tables.specs.declared.Tables.{Tables}
+use Rattle.tables.specs.Tables.{foundOf, entries, tables, tablesOf, Open, Entries, Below}
 use Rattle.tables.proofs.Stack.{entries-sound}
 use Rattle.interner.specs.declared.State.{State}
 use Rattle.interner.specs.declared.Step.{Step}
@@ -89,25 +90,26 @@ finish-none : (at cur : ℕ) (r : Rec) (ks own : List ℕ) (nd : intern.Node) (s
 unfolding finish
 finish-none at cur r ks own nd s e = rw (e, finish)
 
-module _ (bs ws : List ℕ) (st : State) (cur : ℕ) (node : Node) (held count : ℕ) (rep : Rep bs ws st) where
+module _ (bs ws : List ℕ) (t : Tables) (st : State) (cur : ℕ) (node : Node) (held count : ℕ) (rep : Rep bs ws st)
+    (opened : Open t (st .entries)) where
   abbrev sought : Option ℕ
   sought = lookup (symsOf bs ws (st .symbols)) (recOf bs node) (pendingFrom ws held count)
-      (tablesOf ws (st .tables) (st .entries))
+      (tablesOf ws t (st .entries))
 
   pub found-answers : (s : ℕ) (r : Step) → some s ≡ sought → r ≡ given st s →
-      Answers bs ws st (finishOf bs ws st cur node held count) ws r
+      Answers bs ws t st (finishOf bs ws t st cur node held count) ws r
   found-answers s r f e =
-      subst (Answers bs ws st (finishOf bs ws st cur node held count) ws) (sym e) (record {
+      subst (Answers bs ws t st (finishOf bs ws t st cur node held count) ws) (sym e) (record {
         rep = rep;
         leaves = leaves-none ws st;
         low = lookup-low (symsOf bs ws (st .symbols)) (recOf bs node) (pendingFrom ws held count) (st .symbols)
-            (tablesOf ws (st .tables) (st .entries)) s
-            (tables-low ws (st .entries) (st .symbols) (rep .below) (st .tables .base) (st .tables .depth) (st .entries)
-            (rep .opened .starts) (omega arith))
+            (tablesOf ws t (st .entries)) s
+            (tables-low ws (st .entries) (st .symbols) (rep .below) (t .base) (t .depth) (st .entries)
+            (opened .starts) (omega arith))
             (sym f);
-        is = out-given bs ws st s
+        is = out-given bs ws t st s
             ∙ sym (finish-some (partsOf node .source) cur (recOf bs node) (pendingFrom ws held count) (ownOf bs node)
-            (nodeOf bs node) (absOf bs ws st) s (sym f));
+            (nodeOf bs node) (absOf bs ws t st) s (sym f));
       })
 
   -- the deps of a node that has a key
@@ -121,17 +123,17 @@ module _ (bs ws : List ℕ) (st : State) (cur : ℕ) (node : Node) (held count :
   key-deps (Op o) k = refl
 
   pub made-answers : (ws′ : List ℕ) (r : Step) → Keyed bs ws (st .scopes) cur node → none ≡ sought →
-      Answers bs ws st (allocOf bs ws st cur node held count true) ws′ r →
-      Answers bs ws st (finishOf bs ws st cur node held count) ws′ r
+      Answers bs ws t st (allocOf bs ws t st cur node held count true) ws′ r →
+      Answers bs ws t st (finishOf bs ws t st cur node held count) ws′ r
   made-answers ws′ r keyed f a = record {
     rep = a .rep;
     leaves = a .leaves;
     low = a .low;
     is = a .is
         ∙ (ap (λ (z : List ℕ). alloc (partsOf node .source) cur (recOf bs node) (pendingFrom ws held count) z true
-        (nodeOf bs node) (absOf bs ws st)) (key-deps node keyed)
+        (nodeOf bs node) (absOf bs ws t st)) (key-deps node keyed)
         ∙ sym (finish-none (partsOf node .source) cur (recOf bs node) (pendingFrom ws held count) (ownOf bs node)
-        (nodeOf bs node) (absOf bs ws st) (sym f)));
+        (nodeOf bs node) (absOf bs ws t st) (sym f)));
   }
 
   -- what `find` answers, and what it may be asked
@@ -139,17 +141,18 @@ module _ (bs ws : List ℕ) (st : State) (cur : ℕ) (node : Node) (held count :
   module _ (p : Parts) (is : p ≡ partsOf node) where
     pub found-is : (f : Found) (o : Option ℕ) → ((n : ℕ) → Below ws (st .entries) n →
         foundOf f ≡ lookup (symsOf bs ws n) (keyRec bs (p .source) (p .field)) (pendingFrom ws held count)
-        (tablesOf ws (st .tables) (st .entries))) →
+        (tablesOf ws t (st .entries))) →
         foundOf f ≡ o → o ≡ sought
     found-is f o h e =
         sym e ∙ (h (st .symbols) (rep .below)
         ∙ ap (λ (z : Parts). lookup (symsOf bs ws (st .symbols)) (keyRec bs (z .source) (z .field))
-        (pendingFrom ws held count) (tablesOf ws (st .tables) (st .entries))) is)
+        (pendingFrom ws held count) (tablesOf ws t (st .entries))) is)
 
-    pub sought-from : partsOf node .source < recordCount bs → p .source < recordCount bs
-    sought-from h = rw is h
+module _ (bs ws : List ℕ) (st : State) (cur : ℕ) (node : Node) (held count : ℕ) (rep : Rep bs ws st) where
+  pub sought-from : (p : Parts) → p ≡ partsOf node → partsOf node .source < recordCount bs → p .source < recordCount bs
+  sought-from p is h = rw is h
 
   pub sought-entries : Entries bs ws (st .entries)
   sought-entries =
       entries-sound bs ws (st .slots) (st .symbols) (st .entries) (rep .sound) (rep .few-slots) (rep .few-symbols)
-      (omega (arith, rep .few-entries, rep .few-symbols)) (rep .below)
+      (omega (arith, rep .few-entries, rep .few-symbols)) (rep .below) (rep .marked)

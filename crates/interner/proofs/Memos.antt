@@ -17,6 +17,8 @@ use Rattle.model.specs.Intern.{recall, remember}
 use Rattle.model.specs.Intern as intern
 use Rattle.laws.proofs.Apart.{none-some, some-none}
 use Rattle.laws.proofs.Members.{In, Every, isIn-true, in-one, without-cases}
+use Rattle.tables.specs.declared.Tables.{Tables}
+use Rattle.tables.specs.Tables.{Open}
 use Rattle.memo.specs.Memo.{memoOf, remembered}
 use Rattle.memo.proofs.Laws.{memo-remembered}
 use Rattle.interner.specs.declared.State.{State}
@@ -145,10 +147,12 @@ module _ (bs ws : List ℕ) (st : State) (p : ℕ) (rep : Rep bs ws st) (low : p
         memo-remembered ws (st .memo) p a b (omega (arith, rep .words, memo-room))
         (omega (arith, low, rep .few-symbols)) (omega (arith, la, rep .few-symbols))
 
-    pub abs-remembered : absOf bs ws₁ (withPair st) ≡ remember p a b (absOf bs ws st)
-    abs-remembered =
-        ap (λ (ms : List (ℕ × ℕ × ℕ)). withMemo (absOf bs ws₁ st) ms) memo-is
-        ∙ ap (λ (s : intern.State). withMemo s ((p, a, b) ∷ memoOf ws (st .memo))) (abs-same bs ws ws₁ st rep same)
+    pub abs-remembered : (t : Tables) → Open t (st .entries) →
+        absOf bs ws₁ t (withPair st) ≡ remember p a b (absOf bs ws t st)
+    abs-remembered t opened =
+        ap (λ (ms : List (ℕ × ℕ × ℕ)). withMemo (absOf bs ws₁ t st) ms) memo-is
+        ∙ ap (λ (s : intern.State). withMemo s ((p, a, b) ∷ memoOf ws (st .memo)))
+        (abs-same bs ws ws₁ t st rep opened same)
       where
         withMemo : intern.State → List (ℕ × ℕ × ℕ) → intern.State
         withMemo s ms = record {
@@ -172,8 +176,8 @@ module _ (bs ws : List ℕ) (st : State) (p : ℕ) (rep : Rep bs ws st) (low : p
           few-entries = old .few-entries;
           few-memo = omega (arith, memo-room);
           few-readings = old .few-readings;
-          opened = old .opened;
           below = old .below;
+          marked = old .marked;
           sound = old .sound;
           sourced = old .sourced;
           nested = old .nested;
@@ -189,7 +193,7 @@ module _ (bs ws : List ℕ) (st : State) (p : ℕ) (rep : Rep bs ws st) (low : p
       scope-words = λ k l r. other k (λ e. omega arith);
       later = λ k l. other k (λ e. omega (arith, memo-room));
       scopes = refl;
-      tables = refl;
+      entries = omega arith;
       readings = refl;
       more = omega arith;
     }

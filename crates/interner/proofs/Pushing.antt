@@ -23,8 +23,10 @@ use Rattle.key.specs.Key.{symbolAt}
 use Rattle.symbols.specs.Words.{pendingFrom}
 use Rattle.symbols.specs.Symbols.{symsOf, symOf, recOf, nodeOf, made, Room}
 use Rattle.symbols.proofs.Laws.{syms-length, made-length, made-before, made-between, made-after, made-symbol, syms-made}
-use Rattle.symbols.proofs.Laws.{sound-made}
+use Rattle.symbols.proofs.Laws.{made-kids, sound-made}
 use Rattle.symbols.proofs.Words.{words-length}
+use Rattle.tables.specs.declared.Tables.{Tables}
+use Rattle.tables.specs.Tables.{mark, markOf, Open}
 use Rattle.tables.proofs.Stack.{tables-agree}
 use Rattle.scopes.specs.Scopes.{scopesOf, outward, Placed}
 use Rattle.scopes.proofs.Laws.{scopes-length}
@@ -51,7 +53,6 @@ records-few bs laid = header-of bs (laid .header) .records-most
 -- the state after it
 abbrev pub pushedState : State → ℕ → State
 pushedState st count = record {
-  tables = st .tables;
   entries = st .entries;
   symbols = st .symbols + 1;
   slots = st .slots + count;
@@ -74,9 +75,9 @@ module _ (bs ws : List ℕ) (st : State) (cur : ℕ) (node : Node) (held count l
   abbrev deps : List ℕ
   deps = newDeps bs ws st node held count
 
-  pub scope-is : scope ≡ placement (absOf bs ws st) cur deps
-  scope-is =
-      climb.placed ws (st .scopes) cur levels scope deps (absOf bs ws st) refl (fresh .current) (lv .tracks) place
+  pub scope-is : (t : Tables) → scope ≡ placement (absOf bs ws t st) cur deps
+  scope-is t =
+      climb.placed ws (st .scopes) cur levels scope deps (absOf bs ws t st) refl (fresh .current) (lv .tracks) place
 
   pub scope-low : scope < st .scopes
   scope-low =
@@ -136,17 +137,17 @@ module _ (bs ws : List ℕ) (st : State) (cur : ℕ) (node : Node) (held count l
     abbrev st₁ : State
     st₁ = pushedState st count
 
-    abs-pushed : absOf bs ws₁ st₁
-        ≡ push cur (recOf bs node) (pendingFrom ws held count) deps false (nodeOf bs node) (absOf bs ws st)
+    abs-pushed : (t : Tables) → Open t (st .entries) → absOf bs ws₁ t st₁
+        ≡ push cur (recOf bs node) (pendingFrom ws held count) deps false (nodeOf bs node) (absOf bs ws t st)
     unfolding push symOf
-    abs-pushed =
+    abs-pushed t opened =
         rw (
           add-one (st .symbols),
           syms-new,
-          tables-agree ws ws₁ (st .tables) (st .entries) (rep .opened) (same .entries),
+          tables-agree ws ws₁ t (st .entries) opened (same .entries),
           scopes.scopes-kept ws₁ ws (st .scopes) (λ k lt. after (5120 + k) (omega arith)),
           memo.memo-kept ws₁ ws (st .memo) (λ k lt. after (7688 + k) (omega arith)),
-          ← scope-is,
+          ← scope-is t,
         )
 
     -- ---- what holds of it
@@ -159,6 +160,10 @@ module _ (bs ws : List ℕ) (st : State) (cur : ℕ) (node : Node) (held count l
       others = λ i lt. symbol-same bs ws ws₁ st rep same i lt;
       own = ap (λ (z : Symbol). z .levels) (made-symbol ws (st .symbols) held y room);
     }
+
+    marked-new : markOf bs ws₁ (st .symbols) ≡ mark (recOf bs node .opcode) (pendingFrom ws held count)
+    marked-new =
+        rw (made-kids ws (st .symbols) held y room, made-symbol ws (st .symbols) held y room)
 
     deps-new : depsAt bs ws₁ (st .symbols) ≡ deps
     unfolding symOf
@@ -208,8 +213,8 @@ module _ (bs ws : List ℕ) (st : State) (cur : ℕ) (node : Node) (held count l
       few-entries = omega (arith, rep .few-entries);
       few-memo = rep .few-memo;
       few-readings = rep .few-readings;
-      opened = rep .opened;
       below = λ k lt. let h = old .below k lt in omega (arith, h);
+      marked = old .marked;
       sound = rw (add-one (st .symbols))
           (sound-made ws (st .symbols) held y room bs (st .slots) (omega arith) (rep .sound) (fresh .from)
           (fresh .lower));
@@ -231,7 +236,7 @@ module _ (bs ws : List ℕ) (st : State) (cur : ℕ) (node : Node) (held count l
         scope-words = λ k l r. after k l;
         later = λ k l. after k (omega arith);
         scopes = refl;
-        tables = refl;
+        entries = omega arith;
         readings = refl;
         more = omega arith;
       };
@@ -239,6 +244,7 @@ module _ (bs ws : List ℕ) (st : State) (cur : ℕ) (node : Node) (held count l
       symbols = refl;
       memo = refl;
       stored = stored;
+      marked = marked-new;
       is = abs-pushed;
     }
 

@@ -1,4 +1,4 @@
--- The words that a state hangs on. In order: words kept (`Same`); what the state stands for; what holds of it; a store
+-- The words that a state hangs on. In order: words kept (`Same`); what holds of the state; what it stands for; a store
 -- among the later words.
 -- Assumes nothing.
 use Prim.Native.Nat.{ℕ, suc, _+_, _*_, _<_}
@@ -14,7 +14,9 @@ use Rattle.key.proofs.Runs.{Agree}
 use Rattle.key.proofs.Laws.{symbol-agree}
 use Rattle.symbols.specs.Symbols.{symsOf}
 use Rattle.symbols.proofs.Laws.{syms-agree, sound-agree}
-use Rattle.tables.proofs.Stack.{tables-agree}
+use Rattle.tables.specs.declared.Tables.{Tables}
+use Rattle.tables.specs.Tables.{Open}
+use Rattle.tables.proofs.Stack.{tables-agree, marked-agree}
 use Rattle.scopes.specs.Scopes.{scopeWord, levelOf}
 use Rattle.scopes.proofs.Open as open′
 use Rattle.memo.specs.Memo.{memoOf}
@@ -44,18 +46,7 @@ module _ (bs ws ws′ : List ℕ) (st : State) (rep : Rep bs ws st) (same : Same
   pub syms-same : symsOf bs ws′ (st .symbols) ≡ symsOf bs ws (st .symbols)
   syms-same = syms-agree bs ws ws′ (st .slots) (same .slots) (st .symbols) (same .symbols) (rep .sound)
 
-  -- ---- what the state stands for
-
-  pub abs-same : absOf bs ws′ st ≡ absOf bs ws st
-  abs-same =
-      rw (
-        syms-same,
-        tables-agree ws ws′ (st .tables) (st .entries) (rep .opened) (same .entries),
-        open′.scopes-kept ws′ ws (st .scopes) scopes-same,
-        memo.memo-kept ws′ ws (st .memo) memo-same,
-      )
-
-  -- ---- what holds of it
+  -- ---- what holds of the state
 
   pub symbol-same : (i : ℕ) → i < st .symbols → symbolAt ws′ i ≡ symbolAt ws i
   symbol-same i lt = symbol-agree ws ws′ i (λ k l r. same .symbols k (omega arith) (omega arith))
@@ -99,8 +90,9 @@ module _ (bs ws ws′ : List ℕ) (st : State) (rep : Rep bs ws st) (same : Same
     few-entries = rep .few-entries;
     few-memo = rep .few-memo;
     few-readings = rep .few-readings;
-    opened = rep .opened;
     below = λ k lt. rw (same .entries (7176 + k) (omega arith) (omega arith)) (rep .below k lt);
+    marked = marked-agree bs ws ws′ (st .slots) (st .symbols) (st .entries) (rep .sound) (rep .below) (same .symbols)
+        (same .slots) (same .entries) (rep .marked);
     sound = λ i lt.
         sound-agree bs ws ws′ (st .slots) (same .slots) i (λ k l r. same .symbols k (omega arith) (omega arith))
         (rep .sound i lt);
@@ -111,6 +103,18 @@ module _ (bs ws ws′ : List ℕ) (st : State) (rep : Rep bs ws st) (same : Same
     remembered = rw memos-same (rep .remembered);
     once = rw memos-same (rep .once);
   }
+
+-- ---- what it stands for
+
+pub abs-same : (bs ws ws′ : List ℕ) (t : Tables) (st : State) → Rep bs ws st → Open t (st .entries) → Same ws ws′ st →
+    absOf bs ws′ t st ≡ absOf bs ws t st
+abs-same bs ws ws′ t st rep opened same =
+    rw (
+      syms-same bs ws ws′ st rep same,
+      tables-agree ws ws′ t (st .entries) opened (same .entries),
+      open′.scopes-kept ws′ ws (st .scopes) (scopes-same bs ws ws′ st rep same),
+      memo.memo-kept ws′ ws (st .memo) (memo-same bs ws ws′ st rep same),
+    )
 
 -- ---- a store among pending symbols, bindings or later words leaves the state as it is
 

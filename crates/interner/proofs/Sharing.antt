@@ -1,7 +1,7 @@
 -- A new symbol in the newest table, and the answers of model's `alloc`. In order: entering; answers; the steps of
 -- `alloc`.
 -- Assumes nothing.
-use Prim.Native.Nat.{ℕ, _+_, _<_, _≤_}
+use Prim.Native.Nat.{ℕ, _+_, _*_, _<_, _≤_}
 use mathlib.Core.Path.{_≡_, refl, sym, ap, _∙_, subst}
 use mathlib.Core.Bool.{Bool, true, false}
 use mathlib.Core.List.{List}
@@ -12,13 +12,17 @@ use lib.Seq.{getD-set-other}
 use Rattle.model.specs.Answer.{refused, good, guard}
 use Rattle.model.specs.Intern.{push, alloc, enter}
 use Rattle.model.specs.Intern as intern
+use Rattle.record.specs.Record.{rowAt}
 use Rattle.key.specs.declared.Node.{Node}
+use Rattle.key.specs.declared.Parts.{Parts}
 use Rattle.key.specs.Key.{partsOf}
 use Rattle.symbols.specs.Words.{pendingFrom}
 use Rattle.symbols.specs.Symbols.{recOf, nodeOf}
 use Rattle.symbols.proofs.Laws.{syms-length}
-use Rattle.tables.specs.Tables.{tablesOf}
-use Rattle.tables.proofs.Stack.{open-later, entered-tables, entered-below}
+use Rattle.symbols.proofs.Same.{key-opcode}
+use Rattle.tables.specs.declared.Tables.{Tables}
+use Rattle.tables.specs.Tables.{mark, markOf, tablesOf, Open}
+use Rattle.tables.proofs.Stack.{entered-tables, entered-below, entered-marked}
 use Rattle.interner.specs.declared.State.{State}
 use Rattle.interner.specs.declared.Step.{Step}
 use Rattle.interner.specs.State.{absOf, Rep}
@@ -36,16 +40,17 @@ withTables s ts = record {
   readings = s .readings;
 }
 
-module _ (bs ws : List ℕ) (st : State) (s : ℕ) (rep : Rep bs ws st) (few : st .entries < 512) where
+module _ (bs ws : List ℕ) (t : Tables) (st : State) (s m : ℕ) (rep : Rep bs ws st) (opened : Open t (st .entries))
+    (few : st .entries < 512) (low : s < st .symbols) where
   abbrev ws₁ : List ℕ
-  ws₁ = set ws (7176 + st .entries) s
+  ws₁ = set ws (7176 + st .entries) (s + 512 * m)
 
   other : (k : ℕ) → (k ≡ 7176 + st .entries → ⊥) → getD ws₁ k 0 ≡ getD ws k 0
-  other k h = getD-set-other ws (7176 + st .entries) k s 0 h
+  other k h = getD-set-other ws (7176 + st .entries) k (s + 512 * m) 0 h
 
   same-entered : Same ws ws₁ st
   same-entered = record {
-    long = length-set ws (7176 + st .entries) s;
+    long = length-set ws (7176 + st .entries) (s + 512 * m);
     symbols = λ k l r. other k (λ e. omega (arith, rep .few-symbols));
     slots = λ k l r. other k (λ e. omega (arith, rep .few-slots));
     scopes = λ k l r. other k (λ e. omega (arith, rep .few-scopes));
@@ -53,19 +58,21 @@ module _ (bs ws : List ℕ) (st : State) (s : ℕ) (rep : Rep bs ws st) (few : s
     memo = λ k l r. other k (λ e. omega arith);
   }
 
+  small : s < 512
+  small = omega (arith, rep .few-symbols)
+
   room : 7176 + st .entries < length ws
   room = omega (arith, rep .words)
 
-  abs-entered : absOf bs ws₁ (entered st)
-      ≡ withTables (absOf bs ws st) (enter s (tablesOf ws (st .tables) (st .entries)))
+  abs-entered : absOf bs ws₁ t (entered st) ≡ withTables (absOf bs ws t st) (enter s (tablesOf ws t (st .entries)))
   abs-entered =
-      ap (λ (z : List (List ℕ)). withTables (absOf bs ws₁ st) z)
-      (entered-tables (st .tables) (st .entries) (rep .opened) ws s room)
-      ∙ ap (λ (z : intern.State). withTables z (enter s (tablesOf ws (st .tables) (st .entries))))
-      (abs-same bs ws ws₁ st rep same-entered)
+      ap (λ (z : List (List ℕ)). withTables (absOf bs ws₁ t st) z)
+      (entered-tables t (st .entries) opened ws s m small room)
+      ∙ ap (λ (z : intern.State). withTables z (enter s (tablesOf ws t (st .entries))))
+      (abs-same bs ws ws₁ t st rep opened same-entered)
 
-  rep-entered : s < st .symbols → st .entries < st .symbols → Rep bs ws₁ (entered st)
-  rep-entered low more =
+  rep-entered : st .entries < st .symbols → m ≡ markOf bs ws s → Rep bs ws₁ (entered st)
+  rep-entered more own =
       let old = rep-same bs ws ws₁ st rep same-entered in
       record {
         words = old .words;
@@ -77,8 +84,9 @@ module _ (bs ws : List ℕ) (st : State) (s : ℕ) (rep : Rep bs ws st) (few : s
         few-entries = omega arith;
         few-memo = old .few-memo;
         few-readings = old .few-readings;
-        opened = open-later (st .tables) (st .entries) (rep .opened) (st .entries + 1) (omega arith);
-        below = entered-below (st .tables) (st .entries) (rep .opened) ws s room (st .symbols) (rep .below) low;
+        below = entered-below t (st .entries) opened ws s m small room (st .symbols) (rep .below) low;
+        marked = entered-marked t (st .entries) opened ws s m small room bs (st .slots) (st .symbols) (rep .sound)
+            (rep .few-slots) (rep .few-symbols) (rep .below) low (rep .marked) own;
         sound = old .sound;
         sourced = old .sourced;
         nested = old .nested;
@@ -90,11 +98,11 @@ module _ (bs ws : List ℕ) (st : State) (s : ℕ) (rep : Rep bs ws st) (few : s
 
   leaves-entered : Leaves ws ws₁ st (entered st)
   leaves-entered = record {
-    long = length-set ws (7176 + st .entries) s;
+    long = length-set ws (7176 + st .entries) (s + 512 * m);
     scope-words = λ k l r. other k (λ e. omega arith);
     later = λ k l. other k (λ e. omega arith);
     scopes = refl;
-    tables = refl;
+    entries = omega arith;
     readings = refl;
     more = omega arith;
   }
@@ -105,7 +113,7 @@ leaves-then us ws xs a b c g h = record {
   scope-words = λ k l r. h .scope-words k l r ∙ g .scope-words k l r;
   later = λ k l. h .later k l ∙ g .later k l;
   scopes = h .scopes ∙ g .scopes;
-  tables = h .tables ∙ g .tables;
+  entries = omega (arith, g .entries, h .entries);
   readings = h .readings ∙ g .readings;
   more = omega (arith, g .more, h .more);
 }
@@ -116,84 +124,102 @@ leaves-none ws st = record {
   scope-words = λ k l r. refl;
   later = λ k l. refl;
   scopes = refl;
-  tables = refl;
+  entries = omega arith;
   readings = refl;
   more = omega arith;
 }
 
 -- ---- answers
 
-pub out-given : (bs ws : List ℕ) (st : State) (s : ℕ) → outOf bs ws (given st s) ≡ good (s, absOf bs ws st)
+pub out-given : (bs ws : List ℕ) (t : Tables) (st : State) (s : ℕ) →
+    outOf bs ws t (given st s) ≡ good (s, absOf bs ws t st)
 unfolding outOf
-out-given bs ws st s = refl
+out-given bs ws t st s = refl
 
-pub out-full : (bs ws : List ℕ) (st : State) (node : Node) →
-    outOf bs ws (overFull st node) ≡ refused 12 (partsOf node .source)
+pub out-full : (bs ws : List ℕ) (t : Tables) (st : State) (node : Node) →
+    outOf bs ws t (overFull st node) ≡ refused 12 (partsOf node .source)
 unfolding outOf
-out-full bs ws st node = refl
+out-full bs ws t st node = refl
 
-module _ (bs ws : List ℕ) (st : State) (cur : ℕ) (node : Node) (held count : ℕ) where
+module _ (bs ws : List ℕ) (t : Tables) (st : State) (cur : ℕ) (node : Node) (held count : ℕ) where
   abbrev pushOf : Bool → intern.State
   pushOf shared =
       push cur (recOf bs node) (pendingFrom ws held count) (newDeps bs ws st node held count) shared (nodeOf bs node)
-      (absOf bs ws st)
+      (absOf bs ws t st)
 
   alloc-good : (shared : Bool) → st .symbols < 512 →
-      allocOf bs ws st cur node held count shared ≡ good (st .symbols, pushOf shared)
+      allocOf bs ws t st cur node held count shared ≡ good (st .symbols, pushOf shared)
   unfolding alloc guard
   alloc-good shared few =
       rw (syms-length bs ws (st .symbols), lt-ltb (st .symbols) 512 few)
 
   alloc-full : (shared : Bool) → 512 ≤ st .symbols →
-      allocOf bs ws st cur node held count shared ≡ refused 12 (partsOf node .source)
+      allocOf bs ws t st cur node held count shared ≡ refused 12 (partsOf node .source)
   unfolding alloc guard
   alloc-full shared full = rw (syms-length bs ws (st .symbols), le-ltb (st .symbols) 512 full)
 
   pub full-answers : (shared : Bool) (r : Step) → Rep bs ws st → 512 ≤ st .symbols → r ≡ overFull st node →
-      Answers bs ws st (allocOf bs ws st cur node held count shared) ws r
+      Answers bs ws t st (allocOf bs ws t st cur node held count shared) ws r
   full-answers shared r rep full e =
-      subst (Answers bs ws st (allocOf bs ws st cur node held count shared) ws) (sym e) (record {
+      subst (Answers bs ws t st (allocOf bs ws t st cur node held count shared) ws) (sym e) (record {
         rep = rep;
         leaves = leaves-none ws st;
         low = omega arith;
-        is = out-full bs ws st node ∙ sym (alloc-full shared full);
+        is = out-full bs ws t st node ∙ sym (alloc-full shared full);
       })
 
-  module _ (ws₁ : List ℕ) (st₁ : State) (levels : ℕ) (few : st .symbols < 512) (rep : Rep bs ws st)
-      (done : Pushed bs ws st cur node held count levels ws₁ st₁) where
-    push-shared : pushOf true ≡ withTables (pushOf false) (enter (st .symbols) (tablesOf ws (st .tables) (st .entries)))
+  module _ (ws₁ : List ℕ) (st₁ : State) (levels m : ℕ) (few : st .symbols < 512) (rep : Rep bs ws st)
+      (opened : Open t (st .entries)) (done : Pushed bs ws st cur node held count levels ws₁ st₁) where
+    push-shared : pushOf true ≡ withTables (pushOf false) (enter (st .symbols) (tablesOf ws t (st .entries)))
     unfolding push
     push-shared = rw (syms-length bs ws (st .symbols))
 
-    tables-kept : tablesOf ws₁ (st₁ .tables) (st₁ .entries) ≡ tablesOf ws (st .tables) (st .entries)
+    tables-kept : tablesOf ws₁ t (st₁ .entries) ≡ tablesOf ws t (st .entries)
     unfolding push
-    tables-kept = ap (λ (z : intern.State). z .tables) (done .is)
+    tables-kept = ap (λ (z : intern.State). z .tables) (done .is t opened)
 
     room-entry : st₁ .entries < 512
     room-entry = omega (arith, done .entries, rep .few-entries)
 
-    abbrev ws₂ : List ℕ
-    ws₂ = set ws₁ (7176 + st₁ .entries) (st .symbols)
+    still-open : Open t (st₁ .entries)
+    still-open = subst (Open t) (sym (done .entries)) opened
 
-    abs-shared : absOf bs ws₂ (entered st₁) ≡ pushOf true
+    abbrev ws₂ : List ℕ
+    ws₂ = set ws₁ (7176 + st₁ .entries) (st .symbols + 512 * m)
+
+    newest : st .symbols < st₁ .symbols
+    newest = omega (arith, done .symbols)
+
+    abs-shared : absOf bs ws₂ t (entered st₁) ≡ pushOf true
     abs-shared =
-        abs-entered bs ws₁ st₁ (st .symbols) (done .rep) room-entry
-        ∙ ap (λ (z : List (List ℕ)). withTables (absOf bs ws₁ st₁) (enter (st .symbols) z)) tables-kept
-        ∙ ap (λ (z : intern.State). withTables z (enter (st .symbols) (tablesOf ws (st .tables) (st .entries))))
-        (done .is)
+        abs-entered bs ws₁ t st₁ (st .symbols) m (done .rep) still-open room-entry newest
+        ∙ ap (λ (z : List (List ℕ)). withTables (absOf bs ws₁ t st₁) (enter (st .symbols) z)) tables-kept
+        ∙ ap (λ (z : intern.State). withTables z (enter (st .symbols) (tablesOf ws t (st .entries))))
+        (done .is t opened)
         ∙ sym push-shared
 
-    pub shared-answers : (ws′ : List ℕ) (r : Step) → ws′ ≡ ws₂ → r ≡ given (entered st₁) (st .symbols) →
-        Answers bs ws st (allocOf bs ws st cur node held count true) ws′ r
-    shared-answers ws′ r d e =
-        subst (λ (z : List ℕ). Answers bs ws st (allocOf bs ws st cur node held count true) z r) (sym d)
-        (subst (Answers bs ws st (allocOf bs ws st cur node held count true) ws₂) (sym e) (record {
-          rep = rep-entered bs ws₁ st₁ (st .symbols) (done .rep) room-entry (omega (arith, done .symbols))
-              (omega (arith, done .symbols, done .entries, rep .few-entries));
+    own-mark : (p : Parts) → p ≡ partsOf node →
+        m ≡ mark (rowAt bs (p .source) .rec .opcode) (pendingFrom ws held count) → m ≡ markOf bs ws₁ (st .symbols)
+    own-mark p is h =
+        h
+        ∙ ap (λ (z : Parts). mark (rowAt bs (z .source) .rec .opcode) (pendingFrom ws held count)) is
+        ∙ ap (λ (o : ℕ). mark o (pendingFrom ws held count))
+        (sym (key-opcode bs (partsOf node .source) (partsOf node .field)))
+        ∙ sym (done .marked)
+
+    pub shared-answers : (p : Parts) → p ≡ partsOf node →
+        m ≡ mark (rowAt bs (p .source) .rec .opcode) (pendingFrom ws held count) →
+        (ws′ : List ℕ) (r : Step) → ws′ ≡ ws₂ → r ≡ given (entered st₁) (st .symbols) →
+        Answers bs ws t st (allocOf bs ws t st cur node held count true) ws′ r
+    shared-answers p is h ws′ r d e =
+        subst (λ (z : List ℕ). Answers bs ws t st (allocOf bs ws t st cur node held count true) z r) (sym d)
+        (subst (Answers bs ws t st (allocOf bs ws t st cur node held count true) ws₂) (sym e) (record {
+          rep = rep-entered bs ws₁ t st₁ (st .symbols) m (done .rep) still-open room-entry newest
+              (omega (arith, done .symbols, done .entries, rep .few-entries)) (own-mark p is h);
           leaves = leaves-then ws ws₁ ws₂ st st₁ (entered st₁) (done .leaves)
-              (leaves-entered bs ws₁ st₁ (st .symbols) (done .rep) room-entry);
+              (leaves-entered bs ws₁ t st₁ (st .symbols) m (done .rep) still-open room-entry newest);
           low = omega (arith, done .symbols);
-          is = out-given bs ws₂ (entered st₁) (st .symbols)
+          is = out-given bs ws₂ t (entered st₁) (st .symbols)
               ∙ ap (λ (z : intern.State). good (st .symbols, z)) abs-shared
               ∙ sym (alloc-good true few);
         }))

@@ -9,7 +9,6 @@ use lib.Seq.{getD-set-same, getD-set-other}
 use Rattle.model.specs.Intern.{start}
 use Rattle.laws.proofs.Apart.{none-some}
 use Rattle.symbols.specs.Symbols.{symsOf}
-use Rattle.tables.specs.declared.Tables.{Tables}
 use Rattle.tables.specs.Tables.{first}
 use Rattle.tables.proofs.Stack.{first-open, first-tables}
 use Rattle.scopes.specs.Scopes.{scopeWord, argsIn}
@@ -19,11 +18,8 @@ use Rattle.interner.specs.declared.State.{State}
 use Rattle.interner.specs.Levels.{ArgLevels}
 use Rattle.interner.specs.State.{absOf, Rep, Started}
 
-abbrev pub startWith : Tables → State
-startWith t = record { tables = t; entries = 0; symbols = 0; slots = 0; scopes = 1; memo = 0; readings = 0 }
-
-abbrev firstState : State
-firstState = startWith first
+abbrev pub firstState : State
+firstState = record { entries = 0; symbols = 0; slots = 0; scopes = 1; memo = 0; readings = 0 }
 
 module _ (ws : List ℕ) (words : 10856 ≤ length ws) where
   abbrev ws₁ : List ℕ
@@ -47,8 +43,8 @@ module _ (ws : List ℕ) (words : 10856 ≤ length ws) where
     few-entries = omega arith;
     few-memo = omega arith;
     few-readings = omega arith;
-    opened = first-open;
     below = λ k lt. absurd (omega arith);
+    marked = λ k lt. absurd (omega arith);
     sound = λ i lt. absurd (omega arith);
     sourced = λ s lt. absurd (omega arith);
     nested = nested-outermost ws (omega arith);
@@ -58,15 +54,14 @@ module _ (ws : List ℕ) (words : 10856 ≤ length ws) where
     once = tt;
   }
 
-  abs-start : (bs : List ℕ) → absOf bs ws₁ firstState ≡ start
+  abs-start : (bs : List ℕ) → absOf bs ws₁ first firstState ≡ start
   unfolding start symsOf memoOf
   abs-start bs = rw (first-tables ws₁, scopes-outermost ws₁)
 
-  pub started : (ws′ : List ℕ) (t : Tables) → ws′ ≡ ws₁ → t ≡ first → Started ws ws′ (startWith t)
-  started ws′ t e f =
-      subst (λ (z : List ℕ). Started ws z (startWith t)) (sym e)
-      (subst (λ (z : Tables). Started ws ws₁ (startWith z)) (sym f) (record {
-        rep = rep-start;
-        is = abs-start;
-        later = λ k l. getD-set-other ws 5120 k 0 0 (λ d. omega arith);
-      }))
+  pub started : (ws′ : List ℕ) → ws′ ≡ ws₁ → Started ws ws′ firstState
+  started ws′ e = subst (λ (z : List ℕ). Started ws z firstState) (sym e) (record {
+    rep = rep-start;
+    is = abs-start;
+    opened = first-open;
+    later = λ k l. getD-set-other ws 5120 k 0 0 (λ d. omega arith);
+  })

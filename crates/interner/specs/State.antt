@@ -1,5 +1,5 @@
--- The state of interning, by value and in work words, as model has it: what it stands for (`absOf`), and what holds of
--- it (`Rep`). bs are the forest's bytes, ws the words.
+-- The state of interning, by value and in work words, as model has it: what it stands for with a stack t of open tables
+-- (`absOf`), and what holds of it (`Rep`). bs are the forest's bytes, ws the words.
 -- Assumes nothing.
 use Prim.Native.Nat.{ℕ, _<_, _≤_}
 use mathlib.Core.Path.{_≡_}
@@ -13,16 +13,17 @@ use Rattle.key.specs.declared.Node.{Node}
 use Rattle.key.specs.declared.Node.the-variants.{Const, Unparsed, Arg, Lambda, Op}
 use Rattle.key.specs.Key.{symbolAt}
 use Rattle.symbols.specs.Symbols.{symsOf, AllSound}
-use Rattle.tables.specs.Tables.{tablesOf, Open, Below}
+use Rattle.tables.specs.declared.Tables.{Tables}
+use Rattle.tables.specs.Tables.{tablesOf, first, Open, Below, Marked}
 use Rattle.scopes.specs.Scopes.{scopesOf, Nested}
 use Rattle.memo.specs.Memo.{memoOf}
 use Rattle.interner.specs.declared.State.{State}
 use Rattle.interner.specs.Levels.{Levelled, ArgLevels}
 
-abbrev pub absOf : List ℕ → List ℕ → State → intern.State
-absOf bs ws st = record {
+abbrev pub absOf : List ℕ → List ℕ → Tables → State → intern.State
+absOf bs ws t st = record {
   syms = symsOf bs ws (st .symbols);
-  tables = tablesOf ws (st .tables) (st .entries);
+  tables = tablesOf ws t (st .entries);
   scopes = scopesOf ws (st .scopes);
   memo = memoOf ws (st .memo);
   readings = st .readings;
@@ -73,8 +74,8 @@ pub record Rep (bs ws : List ℕ) (st : State) : Type 0 where
   pub few-entries : st .entries ≤ st .symbols
   pub few-memo : st .memo ≤ 512
   pub few-readings : st .readings ≤ 2048
-  pub opened : Open (st .tables) (st .entries)
   pub below : Below ws (st .entries) (st .symbols)
+  pub marked : Marked bs ws (st .entries)
   pub sound : AllSound bs ws (st .slots) (st .symbols)
   pub sourced : (s : ℕ) → s < st .symbols → Sourced bs (symbolAt ws s .node) (symbolAt ws s .count)
   pub nested : Nested ws (st .scopes)
@@ -83,8 +84,10 @@ pub record Rep (bs ws : List ℕ) (st : State) : Type 0 where
   pub remembered : MemoBelow (st .symbols) (memoOf ws (st .memo))
   pub once : Once (keysIn (memoOf ws (st .memo)))
 
--- the state before any record is read, whatever the forest; pending symbols and later words are as they were
+-- the state before any record is read, whatever the forest, with one open table; pending symbols and later words are
+-- as they were
 pub record Started (ws ws′ : List ℕ) (st : State) : Type 0 where
   pub rep : (bs : List ℕ) → Rep bs ws′ st
-  pub is : (bs : List ℕ) → absOf bs ws′ st ≡ intern.start
+  pub is : (bs : List ℕ) → absOf bs ws′ first st ≡ intern.start
+  pub opened : Open first (st .entries)
   pub later : (k : ℕ) → 8200 ≤ k → getD ws′ k 0 ≡ getD ws k 0

@@ -22,6 +22,8 @@ use Rattle.key.specs.Key.{partsOf, symbolAt}
 use Rattle.symbols.specs.Words.{pendingFrom}
 use Rattle.laws.specs.Range.{range}
 use Rattle.symbols.specs.Symbols.{symsOf, recOf, nodeOf, ownOf, depsOf}
+use Rattle.tables.specs.declared.Tables.{Tables}
+use Rattle.tables.specs.Tables.{mark, markOf, Open}
 use Rattle.levels.specs.Levels.{has}
 use Rattle.scopes.specs.Scopes.{scopesOf, scopeWord, parentOf, levelOf, argsIn, outward, Tracks}
 use Rattle.interner.specs.declared.State.{State}
@@ -32,10 +34,10 @@ use Rattle.interner.specs.State.{absOf, Sourced, Rep}
 -- ---- answers
 
 -- the symbol and the state after it, or a refusal
-unfoldable pub outOf : List ℕ → List ℕ → Step → Out
-outOf bs ws r =
+unfoldable pub outOf : List ℕ → List ℕ → Tables → Step → Out
+outOf bs ws t r =
     elim (eqb (r .number) 0) [
-      | true ↦ good (r .symbol, absOf bs ws (r .st))
+      | true ↦ good (r .symbol, absOf bs ws t (r .st))
       | false ↦ refused (r .number) (r .place)
     ]
 
@@ -50,7 +52,6 @@ overFull st node = record { st = st; symbol = 0; number = 12; place = partsOf no
 -- one entry more
 abbrev pub entered : State → State
 entered st = record {
-  tables = st .tables;
   entries = st .entries + 1;
   symbols = st .symbols;
   slots = st .slots;
@@ -60,13 +61,13 @@ entered st = record {
 }
 
 -- what a step from words ws and state st to words ws′ leaves: pending symbols and bindings, and all words after them;
--- scopes, tables, readings
+-- scopes and readings; entries are only added
 pub record Leaves (ws ws′ : List ℕ) (st st′ : State) : Type 0 where
   pub long : length ws′ ≡ length ws
   pub scope-words : Agree ws ws′ 5120 7176
   pub later : (k : ℕ) → 8200 ≤ k → getD ws′ k 0 ≡ getD ws k 0
   pub scopes : st′ .scopes ≡ st .scopes
-  pub tables : st′ .tables ≡ st .tables
+  pub entries : st .entries ≤ st′ .entries
   pub readings : st′ .readings ≡ st .readings
   pub more : st .symbols ≤ st′ .symbols
 
@@ -109,22 +110,23 @@ pub record Pushed (bs ws : List ℕ) (st : State) (cur : ℕ) (node : Node) (hel
   pub symbols : r .symbols ≡ st .symbols + 1
   pub memo : r .memo ≡ st .memo
   pub stored : Stored ws ws′ (st .symbols) levels
-  pub is : absOf bs ws′ r
+  pub marked : markOf bs ws′ (st .symbols) ≡ mark (recOf bs node .opcode) (pendingFrom ws held count)
+  pub is : (t : Tables) → Open t (st .entries) → absOf bs ws′ t r
       ≡ push cur (recOf bs node) (pendingFrom ws held count) (newDeps bs ws st node held count) false (nodeOf bs node)
-      (absOf bs ws st)
+      (absOf bs ws t st)
 
 -- the definition's new symbol, in a table where it is shared
-abbrev pub allocOf : List ℕ → List ℕ → State → ℕ → Node → ℕ → ℕ → Bool → Out
-allocOf bs ws st cur node held count shared =
+abbrev pub allocOf : List ℕ → List ℕ → Tables → State → ℕ → Node → ℕ → ℕ → Bool → Out
+allocOf bs ws t st cur node held count shared =
     alloc (partsOf node .source) cur (recOf bs node) (pendingFrom ws held count) (newDeps bs ws st node held count)
-    shared (nodeOf bs node) (absOf bs ws st)
+    shared (nodeOf bs node) (absOf bs ws t st)
 
--- the answer r is that of the definition
-pub record Answers (bs ws : List ℕ) (st : State) (o : Out) (ws′ : List ℕ) (r : Step) : Type 0 where
+-- the answer r is that of the definition, over the tables t
+pub record Answers (bs ws : List ℕ) (t : Tables) (st : State) (o : Out) (ws′ : List ℕ) (r : Step) : Type 0 where
   pub rep : Rep bs ws′ (r .st)
   pub leaves : Leaves ws ws′ st (r .st)
   pub low : r .symbol < r .st .symbols
-  pub is : outOf bs ws′ r ≡ o
+  pub is : outOf bs ws′ t r ≡ o
 
 -- ---- the symbol of a key
 
@@ -167,18 +169,18 @@ keyLevels ws node held count j =
     ]
 
 -- the definition's symbol of a key
-abbrev pub finishOf : List ℕ → List ℕ → State → ℕ → Node → ℕ → ℕ → Out
-finishOf bs ws st cur node held count =
+abbrev pub finishOf : List ℕ → List ℕ → Tables → State → ℕ → Node → ℕ → ℕ → Out
+finishOf bs ws t st cur node held count =
     finish (partsOf node .source) cur (recOf bs node) (pendingFrom ws held count) (ownOf bs node) (nodeOf bs node)
-    (absOf bs ws st)
+    (absOf bs ws t st)
 
 -- ---- a lambda's arguments
 
 -- `count` symbols from the answer's on, and the state after them; or a refusal
-unfoldable pub outsOf : List ℕ → List ℕ → ℕ → Step → Outs
-outsOf bs ws count r =
+unfoldable pub outsOf : List ℕ → List ℕ → Tables → ℕ → Step → Outs
+outsOf bs ws t count r =
     elim (eqb (r .number) 0) [
-      | true ↦ good (range (r .symbol) count, [], absOf bs ws (r .st))
+      | true ↦ good (range (r .symbol) count, [], absOf bs ws t (r .st))
       | false ↦ refused (r .number) (r .place)
     ]
 
@@ -193,8 +195,8 @@ pub record Binds (bs ws : List ℕ) (st : State) (cur at count : ℕ) : Type 0 w
 pub record Bindings (bs ws : List ℕ) (st : State) (cur at count : ℕ) (ws′ : List ℕ) (r : Step) : Type 0 where
   pub rep : Rep bs ws′ (r .st)
   pub leaves : Leaves ws ws′ st (r .st)
-  pub is : (xs : List (ℕ × List ℕ)) → length xs ≡ count →
-      outsOf bs ws′ count r ≡ allocArgs at cur (rowAt bs at .rec) xs (absOf bs ws st)
+  pub is : (t : Tables) → Open t (st .entries) → (xs : List (ℕ × List ℕ)) → length xs ≡ count →
+      outsOf bs ws′ t count r ≡ allocArgs at cur (rowAt bs at .rec) xs (absOf bs ws t st)
   pub first : r .number ≡ 0 → (r .symbol ≡ st .symbols) × (r .st .symbols ≡ st .symbols + count)
   pub args : r .number ≡ 0 →
       Every (AtLevel ws′ (r .st .symbols) (levelOf (scopeWord ws cur) + 1)) (range (r .symbol) count)
@@ -223,7 +225,6 @@ fieldOf at cur r i p s = finish at cur (fieldRec r i) (p ∷ []) [] (operation [
 -- one pair more is remembered
 abbrev pub withPair : State → State
 withPair st = record {
-  tables = st .tables;
   entries = st .entries;
   symbols = st .symbols;
   slots = st .slots;

@@ -1,35 +1,36 @@
-// Interning's state, and its symbols, new or found (interner.rs).
+// Interning's state, and its symbols, new or found (interner.rs). In order: the state; a new symbol; the symbol of a
+// key; a lambda's arguments; projections, the steps of which are in projections.rt.
+mod projections;
+
 use key::Leaf;
 use key::Node;
-use key::Operation;
 use key::Symbol;
 use memo::Projections;
 use symbols::PENDING;
 use tables::Found;
 use tables::Tables;
 ghost use mathlib.Core.Path.{_≡_};
-ghost use mathlib.Core.Bool.{true, false};
-ghost use Prim.Native.Nat.{ℕ, _+_, _<_, _≤_};
+ghost use mathlib.Core.Bool.{true};
+ghost use Prim.Native.Nat.{ℕ, _+_, _*_, _<_, _≤_};
 ghost use lib.Dec.{eqb};
 ghost use lib.ListN.{length, getD, set};
 ghost use Rattle.levels.specs.Levels.{has};
 ghost use Rattle.scopes.specs.Scopes.{scopeWord, levelOf};
 ghost use Rattle.symbols.specs.Words.{pendingFrom};
-ghost use mathlib.Core.Option.{none};
-ghost use Rattle.model.specs.Intern.{recall, pick, newProjections, pairProjection};
+ghost use Rattle.model.specs.Intern.{pairProjection};
 ghost use Rattle.record.specs.Record.{Laid, rowAt};
-ghost use Rattle.memo.specs.Memo.{memoOf, remembered};
+ghost use Rattle.tables.specs.declared.Tables.{Tables};
+ghost use Rattle.tables.specs.Tables.{Open};
 ghost use Rattle.key.specs.Key.{partsOf};
 ghost use Rattle.interner.specs.State.{absOf, Rep, Started};
 ghost use Rattle.interner.specs.Step.{Fresh, Levels, Pushed, Answers, Ready, Binds, Bindings};
-ghost use Rattle.interner.specs.Step.{Projects, fieldOf, withPair};
+ghost use Rattle.interner.specs.Step.{Projects};
 ghost use Rattle.interner.specs.Step.{newDeps, given, overFull, entered, allocOf, keyLevels, finishOf};
 ghost use Rattle.interner.specs.Levels.{anyHas};
 
-// The open tables and how many entries they have; how many symbols, child slots, scopes and projections there are; the
-// readings so far.
+// How many entries the open tables have; how many symbols, child slots, scopes and projections there are; the readings
+// so far. The stack of open tables goes beside it, and is handed down only: a thunk's table is dropped at its end.
 pub struct State {
-    pub tables: Tables,
     pub entries: usize,
     pub symbols: usize,
     pub slots: usize,
@@ -46,15 +47,13 @@ pub struct Step {
     pub place: u32,
 }
 
-// Nothing is read yet: one table and the outermost scope are open. Rules out: a scope's word left as it was; no table.
+// Nothing is read yet: the outermost scope is open. Rules out: a scope's word left as it was; an entry.
 pub fn start(work: &mut [u32]) -> State
     requires { ⌜ 10856 ≤ length (now work) ⌝ }
     ensures { λ r. ⌜ Started (now (work .entry)) (now (work .exit)) r ⌝ }
 {
     scopes::open_outermost(work);
-    let tables = Tables::new();
     State {
-        tables,
         entries: 0,
         symbols: 0,
         slots: 0,
@@ -94,11 +93,8 @@ fn push(
         levels,
     };
     symbols::make(work, n, held, y);
-    let tables = st.tables;
-    let entries = st.entries;
     State {
-        tables,
-        entries,
+        entries: st.entries,
         symbols: n + 1,
         slots: slots + count,
         scopes: st.scopes,
@@ -132,17 +128,16 @@ fn over_full(st: State, node: Node) -> Step
     }
 }
 
-// The newest symbol, entered in the newest table.
-fn enter(work: &mut [u32], st: State, symbol: u32) -> Step
-    requires { ⌜ (st .entries < 512) × (7688 ≤ length (now work)) ⌝ }
+// The newest symbol, entered in the newest table with its mark.
+fn enter(work: &mut [u32], st: State, symbol: u32, mark: u32) -> Step
+    requires { ⌜ (st .entries < 512) × (symbol < 512) × (mark < 131072) × (7688 ≤ length (now work)) ⌝ }
     ensures { λ r.
-        ⌜ (now (work .exit) ≡ set (now (work .entry)) (7176 + st .entries) symbol) × (r ≡ given (entered st) symbol) ⌝ }
+        ⌜ (now (work .exit) ≡ set (now (work .entry)) (7176 + st .entries) (symbol + 512 * mark))
+        × (r ≡ given (entered st) symbol) ⌝ }
 {
     let top = st.entries;
-    tables::enter(work, top, symbol);
-    let tables = st.tables;
+    tables::enter(work, top, symbol, mark);
     let next = State {
-        tables,
         entries: top + 1,
         symbols: st.symbols,
         slots: st.slots,
@@ -169,13 +164,15 @@ pub fn alloc(
     requires { ⌜ Fresh (now forest) (now work) st cur node held count ⌝ }
     requires { ⌜ Levels (now work) st cur (newDeps (now forest) (now work) st node held count) levels ⌝ }
     ensures { λ r.
-        ⌜ Answers (now (forest .entry)) (now (work .entry)) st
-        (allocOf (now (forest .entry)) (now (work .entry)) st cur node held count true) (now (work .exit)) r ⌝ }
+        ⌜ ((t : Tables) → Open t (st .entries) → Answers (now (forest .entry)) (now (work .entry)) t st
+        (allocOf (now (forest .entry)) (now (work .entry)) t st cur node held count true) (now (work .exit)) r) ⌝ }
 {
     let n = st.symbols;
     if n < 512 {
+        let p = key::parts_of(node);
+        let mark = tables::mark_of(forest, work, p.source as usize, held, count);
         let next = push(forest, work, st, cur, node, held, count, levels);
-        return enter(work, next, n as u32);
+        return enter(work, next, n as u32, mark);
     }
     over_full(st, node)
 }
@@ -220,6 +217,7 @@ fn key_levels(work: &[u32], node: Node, held: usize, count: usize) -> u64
 pub fn finish(
     forest: &[u8],
     work: &mut [u32],
+    t: Tables,
     st: State,
     cur: usize,
     node: Node,
@@ -228,13 +226,13 @@ pub fn finish(
 ) -> Step
     requires { ⌜ Laid (now forest) ⌝ }
     requires { ⌜ Rep (now forest) (now work) st ⌝ }
+    requires { ⌜ Open t (st .entries) ⌝ }
     requires { ⌜ Ready (now forest) (now work) st cur node held count ⌝ }
     ensures { λ r.
-        ⌜ Answers (now (forest .entry)) (now (work .entry)) st
-        (finishOf (now (forest .entry)) (now (work .entry)) st cur node held count) (now (work .exit)) r ⌝ }
+        ⌜ Answers (now (forest .entry)) (now (work .entry)) t st
+        (finishOf (now (forest .entry)) (now (work .entry)) t st cur node held count) (now (work .exit)) r ⌝ }
 {
     let p = key::parts_of(node);
-    let t = st.tables;
     let top = st.entries;
     match tables::find(
         forest,
@@ -295,106 +293,12 @@ pub fn alloc_args(
     given(s, n as u32)
 }
 
-// Field `field` of the pending symbol at `held`, a projection made for record `at`.
-fn projection(
-    forest: &[u8],
-    work: &mut [u32],
-    st: State,
-    cur: usize,
-    at: u32,
-    field: u32,
-    held: usize,
-) -> Step
-    requires { ⌜ Laid (now forest) ⌝ }
-    requires { ⌜ Rep (now forest) (now work) st ⌝ }
-    requires { ⌜ Projects (now forest) (now work) st cur at held 1 ⌝ }
-    requires { ⌜ (0 < field) × (field < 4) ⌝ }
-    ensures { λ r.
-        ⌜ Answers (now (forest .entry)) (now (work .entry)) st
-        (fieldOf at cur (rowAt (now (forest .entry)) at .rec) field (getD (now (work .entry)) (8200 + held) 0)
-        (absOf (now (forest .entry)) (now (work .entry)) st)) (now (work .exit)) r ⌝ }
-{
-    let node = Node::Op(Operation {
-        source: at,
-        field,
-        branches: 0,
-        first: 0,
-        second: 0,
-    });
-    finish(forest, work, st, cur, node, held, 1)
-}
-
-// Field 1 or 2, of which the symbols are a and b.
-fn picked(st: State, field: u32, a: u32, b: u32) -> Step
-    ensures { λ r. ⌜ r ≡ given st (pick field (a, b)) ⌝ }
-{
-    if field == 1 {
-        return given(st, a);
-    }
-    given(st, b)
-}
-
-// The projections a and b of p are remembered, and `field` is picked.
-fn remember(work: &mut [u32], st: State, p: u32, a: u32, b: u32, field: u32) -> Step
-    requires { ⌜ (st .memo < 512) × (8200 ≤ length (now work)) ⌝ }
-    requires { ⌜ (p < 512) × (a < 512) × (b < 512) ⌝ }
-    ensures { λ r.
-        ⌜ (now (work .exit) ≡ remembered (now (work .entry)) (st .memo) p a b)
-        × (r ≡ given (withPair st) (pick field (a, b))) ⌝ }
-{
-    let k = st.memo;
-    memo::remember(work, k, p, a, b);
-    let tables = st.tables;
-    let next = State {
-        tables,
-        entries: st.entries,
-        symbols: st.symbols,
-        slots: st.slots,
-        scopes: st.scopes,
-        memo: k + 1,
-        readings: st.readings,
-    };
-    picked(next, field, a, b)
-}
-
-// Both projections of the pending symbol at `held`, made or found, and remembered.
-fn new_projections(
-    forest: &[u8],
-    work: &mut [u32],
-    st: State,
-    cur: usize,
-    at: u32,
-    field: u32,
-    held: usize,
-) -> Step
-    requires { ⌜ Laid (now forest) ⌝ }
-    requires { ⌜ Rep (now forest) (now work) st ⌝ }
-    requires { ⌜ Projects (now forest) (now work) st cur at held 2 ⌝ }
-    requires { ⌜ recall (memoOf (now work) (st .memo)) (getD (now work) (8200 + held) 0) ≡ none ⌝ }
-    ensures { λ r.
-        ⌜ Answers (now (forest .entry)) (now (work .entry)) st
-        (newProjections at cur (rowAt (now (forest .entry)) at .rec) field (getD (now (work .entry)) (8200 + held) 0)
-        (absOf (now (forest .entry)) (now (work .entry)) st)) (now (work .exit)) r ⌝ }
-{
-    let p = work[PENDING + held];
-    let a = projection(forest, work, st, cur, at, 1, held);
-    if a.number != 0 {
-        return a;
-    }
-    let between = a.st;
-    let b = projection(forest, work, between, cur, at, 2, held);
-    if b.number != 0 {
-        return b;
-    }
-    let after = b.st;
-    remember(work, after, p, a.symbol, b.symbol, field)
-}
-
 // Field `field` of the pending symbol at `held`, for record `at`. Rules out: the other field; a projection that is not
 // remembered, and would be made again after its thunk.
 pub fn pair_projection(
     forest: &[u8],
     work: &mut [u32],
+    t: Tables,
     st: State,
     cur: usize,
     at: u32,
@@ -403,15 +307,25 @@ pub fn pair_projection(
 ) -> Step
     requires { ⌜ Laid (now forest) ⌝ }
     requires { ⌜ Rep (now forest) (now work) st ⌝ }
+    requires { ⌜ Open t (st .entries) ⌝ }
     requires { ⌜ Projects (now forest) (now work) st cur at held 2 ⌝ }
     ensures { λ r.
-        ⌜ Answers (now (forest .entry)) (now (work .entry)) st
+        ⌜ Answers (now (forest .entry)) (now (work .entry)) t st
         (pairProjection at cur (rowAt (now (forest .entry)) at .rec) field (getD (now (work .entry)) (8200 + held) 0)
-        (absOf (now (forest .entry)) (now (work .entry)) st)) (now (work .exit)) r ⌝ }
+        (absOf (now (forest .entry)) (now (work .entry)) t st)) (now (work .exit)) r ⌝ }
 {
     let p = work[PENDING + held];
     match memo::recall(work, st.memo, p) {
-        Projections::Pair(a, b) => picked(st, field, a, b),
-        Projections::Nothing => new_projections(forest, work, st, cur, at, field, held),
+        Projections::Pair(a, b) => projections::picked(st, field, a, b),
+        Projections::Nothing => projections::new_projections(
+            forest,
+            work,
+            t,
+            st,
+            cur,
+            at,
+            field,
+            held,
+        ),
     }
 }

@@ -1,18 +1,23 @@
 -- A symbol that was stored is read back, every other symbol is as it was, and so is every other word. In order: the
--- parts that words hold; reading back; other words; the words that a symbol hangs on; other symbols.
+-- parts that words hold; one part of a symbol; reading back; other words; the words that a symbol hangs on; other
+-- symbols.
 -- Assumes nothing.
 use Prim.Native.Nat.{ℕ, suc, _+_, _*_, _/_, _%_, _<_, _≤_}
 use mathlib.Core.Path.{_≡_, refl, sym, ap, _∙_}
+use mathlib.Core.Bool.{Bool, true, false}
 use mathlib.Core.List.{List, [], _∷_}
 use native.Mathlib.Omega.{arith}
 use native.Mathlib.Nat.{add-zero, add-mul-mod-self-left, mod-eq-of-lt}
+use borrow.Author.Tests.{ne-eqb, eqb-false}
+use lib.Dec.{eqb}
 use lib.ListN.{length, getD, length-set}
 use lib.Seq.{sets}
 use Rattle.key.specs.declared.Parts.{Parts}
 use Rattle.key.specs.declared.Symbol.{Symbol}
 use Rattle.key.specs.declared.Node.{Node}
 use Rattle.key.specs.declared.Node.the-variants.{Const, Unparsed, Arg, Lambda, Op}
-use Rattle.key.specs.Key.{Fits, partsOf, nodeOf, head, middle, tail, put5, storeSymbol, symbolOf, symbolAt}
+use Rattle.key.specs.Key.{Fits, partsOf, choose, nodeOf, head, middle, tail, put5, storeSymbol}
+use Rattle.key.specs.Key.{partsIn, symbolOf, symbolAt}
 use Rattle.key.proofs.Runs.{Agree, sets-run, sets-before, sets-after}
 
 -- ---- the parts that words hold
@@ -73,6 +78,60 @@ module _ (p : Parts) (count kids scope levels : ℕ) where
       let c2 : tail p scope / 4096 ≡ p .first = omega arith in
       let d : levels % 4294967296 + 4294967296 * (levels / 4294967296) ≡ levels = omega arith in
       rw (a1, a2, a3, a4, b1, b2, b3, c1, c2, d)
+
+-- ---- one part of a symbol, read from its first word
+
+chosen : (P : Node → Type 0) (t : Bool) (a b : Node) → P a → (t ≡ false → P b) → P (choose t a b)
+chosen P true a b x y = x
+chosen P false a b x y = y refl
+
+module _ (p : Parts) where
+  abbrev From : Node → Type 0
+  From n = partsOf n .source ≡ p .source
+
+  abbrev NoField : Node → Type 0
+  NoField n = partsOf n .field ≡ 0
+
+  node-source : From (nodeOf p)
+  node-source =
+      chosen From (eqb (p .tag) 0) _ _ refl (λ a. chosen From (eqb (p .tag) 1) _ _ refl
+      (λ b. chosen From (eqb (p .tag) 2) _ _ refl (λ c. chosen From (eqb (p .tag) 3) _ _ refl (λ d. refl))))
+
+  -- only an operation has a field
+  node-no-field : p .tag < 4 → NoField (nodeOf p)
+  node-no-field lt =
+      chosen NoField (eqb (p .tag) 0) _ _ refl (λ a. chosen NoField (eqb (p .tag) 1) _ _ refl
+      (λ b. chosen NoField (eqb (p .tag) 2) _ _ refl (λ c. chosen NoField (eqb (p .tag) 3) _ _ refl
+      (λ d. absurd (high (eqb-false (p .tag) 0 a) (eqb-false (p .tag) 1 b) (eqb-false (p .tag) 2 c)
+      (eqb-false (p .tag) 3 d))))))
+    where
+      high : (p .tag ≡ 0 → ⊥) → (p .tag ≡ 1 → ⊥) → (p .tag ≡ 2 → ⊥) → (p .tag ≡ 3 → ⊥) → ⊥
+      high a b c d = omega arith
+
+  node-field : 4 ≤ p .tag → partsOf (nodeOf p) .field ≡ p .field
+  node-field le =
+      rw (
+        ne-eqb (p .tag) 0 (λ e. omega arith),
+        ne-eqb (p .tag) 1 (λ e. omega arith),
+        ne-eqb (p .tag) 2 (λ e. omega arith),
+        ne-eqb (p .tag) 3 (λ e. omega arith),
+      )
+
+module _ (ws : List ℕ) (s : ℕ) where
+  abbrev packedParts : Parts
+  packedParts = partsIn (getD ws (5 * s) 0) (getD ws (5 * s + 1) 0) (getD ws (5 * s + 2) 0)
+
+  pub source-read : getD ws (5 * s) 0 / 8 % 256 ≡ partsOf (symbolAt ws s .node) .source
+  unfolding symbolAt
+  source-read = sym (node-source packedParts)
+
+  pub field-none : getD ws (5 * s) 0 % 8 < 4 → 0 ≡ partsOf (symbolAt ws s .node) .field
+  unfolding symbolAt
+  field-none lt = sym (node-no-field packedParts lt)
+
+  pub field-read : 4 ≤ getD ws (5 * s) 0 % 8 → getD ws (5 * s) 0 / 2048 % 4 ≡ partsOf (symbolAt ws s .node) .field
+  unfolding symbolAt
+  field-read le = sym (node-field packedParts le)
 
 -- ---- reading back
 

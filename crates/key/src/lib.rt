@@ -214,3 +214,24 @@ pub fn load(work: &[u32], s: usize) -> Symbol
         levels,
     }
 }
+
+// The record that symbol s was made for. Rules out: that of the symbol after it; a number with the field's bits in it.
+pub fn source(work: &[u32], s: usize) -> usize
+    requires { ⌜ 5 * s + 5 ≤ length (now work) ⌝ }
+    ensures { λ r. ⌜ r ≡ partsOf (symbolAt (now (work .entry)) s .node) .source ⌝ }
+{
+    let a = work[5 * s];
+    (a / 8 % 256) as usize
+}
+
+// The field of symbol s, 0 where it is no projection. Rules out: a lambda's unused bits; how many children it has.
+pub fn field(work: &[u32], s: usize) -> u32
+    requires { ⌜ 5 * s + 5 ≤ length (now work) ⌝ }
+    ensures { λ r. ⌜ r ≡ partsOf (symbolAt (now (work .entry)) s .node) .field ⌝ }
+{
+    let a = work[5 * s];
+    if a % 8 < 4 {
+        return 0;
+    }
+    a / 2048 % 4
+}

@@ -21,6 +21,7 @@ use Rattle.symbols.specs.Symbols.{symsOf}
 use Rattle.symbols.proofs.Laws.{syms-agree, sounds-agree}
 use Rattle.interner.specs.declared.State.{State}
 use Rattle.interner.specs.declared.Step.{Step}
+use Rattle.tables.specs.Tables.{first}
 use Rattle.interner.specs.State.{absOf, Rep}
 use Rattle.interner.specs.Step.{outOf}
 use Rattle.gate.specs.Gate.{Tallied}
@@ -54,13 +55,13 @@ module _ (bs ws : List ℕ) (r : Step) (rep : Rep bs ws (r .st)) (ws₁ : List �
 
   -- ---- the definitions' symbols
 
-  module _ (is : outOf bs ws r ≡ interned bs) (o : ℕ × intern.State) (good-is : interned bs ≡ good o) where
+  module _ (is : outOf bs ws first r ≡ interned bs) (o : ℕ × intern.State) (good-is : interned bs ≡ good o) where
     syms-made : symsOf bs ws n ≡ o .1 .syms
     unfolding outOf
     syms-made = go (eqb (r .number) 0) (is ∙ good-is)
       where
         go : (b : Bool) → _≡_ {A = intern.Out}
-            (elim b [ true ↦ good (r .symbol, absOf bs ws (r .st)) | false ↦ refused (r .number) (r .place) ])
+            (elim b [ true ↦ good (r .symbol, absOf bs ws first (r .st)) | false ↦ refused (r .number) (r .place) ])
             (good o) → symsOf bs ws n ≡ o .1 .syms
         go true e = ap (λ (x : ℕ × intern.State). x .1 .syms) (good-inj e)
         go false e = refused-good e

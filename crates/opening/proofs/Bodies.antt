@@ -9,6 +9,8 @@ use native.Mathlib.Numerals.{add-one}
 use Rattle.model.specs.Intern.{openScope}
 use Rattle.laws.specs.Range.{range}
 use Rattle.laws.proofs.Members.{Every}
+use Rattle.tables.specs.declared.Tables.{Tables}
+use Rattle.tables.specs.Tables.{Open}
 use Rattle.tables.proofs.Stack.{tables-agree}
 use Rattle.scopes.specs.Scopes.{scopeWord, levelOf, argsIn, argsFrom, parentOf, lambdaWord, withLambda}
 use Rattle.scopes.proofs.Laws.{packed-parent, packed-level, packed-args}
@@ -17,7 +19,7 @@ use Rattle.interner.specs.declared.State.{State}
 use Rattle.interner.specs.Levels.{AtLevel}
 use Rattle.interner.specs.State.{absOf, Rep}
 use Rattle.interner.specs.Step.{BodyOf}
-use Rattle.opening.specs.Opening.{bodyOpened}
+use Rattle.opening.specs.Opening.{withScope}
 use Rattle.opening.proofs.Scopes.{scope-same, scope-new, scope-abs, scope-rep}
 
 module _ (bs ws : List ℕ) (st : State) (cur first count : ℕ) (rep : Rep bs ws st) (few : st .scopes ≤ 2048)
@@ -50,7 +52,7 @@ module _ (bs ws : List ℕ) (st : State) (cur first count : ℕ) (rep : Rep bs w
   pub body-level : levelOf (scopeWord ws₁ (st .scopes)) ≡ levelOf (scopeWord ws cur) + 1
   body-level = ap levelOf word-is ∙ word-level
 
-  pub body-of : BodyOf ws₁ (bodyOpened st .scopes) cur (st .scopes) (range first count)
+  pub body-of : BodyOf ws₁ (withScope st .scopes) cur (st .scopes) (range first count)
   body-of = record {
     inside = rep .some-scope;
     low = omega arith;
@@ -60,20 +62,20 @@ module _ (bs ws : List ℕ) (st : State) (cur first count : ℕ) (rep : Rep bs w
 
   -- ---- what the state stands for
 
-  pub body-abs : absOf bs ws₁ (bodyOpened st)
-      ≡ openScope cur (some (range first count)) (absOf bs ws st .tables) (absOf bs ws st)
-  body-abs =
-      scope-abs bs ws st rep few word (st .tables) cur (some (range first count)) (absOf bs ws st .tables)
-      (tables-agree ws ws₁ (st .tables) (st .entries) (rep .opened) (scope-same bs ws st rep few word .entries))
+  pub body-abs : (t : Tables) → Open t (st .entries) → absOf bs ws₁ t (withScope st)
+      ≡ openScope cur (some (range first count)) (absOf bs ws t st .tables) (absOf bs ws t st)
+  body-abs t is =
+      scope-abs bs ws st rep few word t t is cur (some (range first count)) (absOf bs ws t st .tables)
+      (tables-agree ws ws₁ t (st .entries) is (scope-same bs ws st rep few word .entries))
       (scopes-lambda ws (st .scopes) cur (omega (arith, rep .words)) current (omega arith) first count low
       (omega arith))
 
   -- ---- what holds of it
 
   pub body-rep : Every (AtLevel ws (st .symbols) (levelOf (scopeWord ws cur) + 1)) (range first count) →
-      Rep bs ws₁ (bodyOpened st)
+      Rep bs ws₁ (withScope st)
   body-rep own =
-      scope-rep bs ws st rep few word (st .tables) (rep .opened)
+      scope-rep bs ws st rep few word
       (nested-lambda ws (st .scopes) cur (omega (arith, rep .words)) current (omega arith) first count low (omega arith)
       (rep .nested))
       (λ xs e. subst (Every (AtLevel ws (st .symbols) (levelOf word)))

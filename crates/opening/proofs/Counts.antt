@@ -8,45 +8,46 @@ use native.Mathlib.Omega.{arith}
 use lib.ListN.{length}
 use Rattle.model.specs.Intern.{read}
 use Rattle.symbols.proofs.Laws.{syms-length}
+use Rattle.tables.specs.declared.Tables.{Tables}
 use Rattle.tables.proofs.Stack.{tables-length}
 use Rattle.scopes.proofs.Laws.{scopes-length}
 use Rattle.interner.specs.declared.State.{State}
 use Rattle.interner.specs.State.{absOf, Rep}
 use Rattle.opening.specs.Opening.{withReading}
 
-module _ (bs ws : List ℕ) (st : State) where
-  pub symbols-count : length (absOf bs ws st .syms) ≡ st .symbols
+module _ (bs ws : List ℕ) (t : Tables) (st : State) where
+  pub symbols-count : length (absOf bs ws t st .syms) ≡ st .symbols
   symbols-count = syms-length bs ws (st .symbols)
 
-  pub scopes-count : length (absOf bs ws st .scopes) ≡ st .scopes
+  pub scopes-count : length (absOf bs ws t st .scopes) ≡ st .scopes
   scopes-count = scopes-length ws (st .scopes)
 
-  pub tables-count : length (absOf bs ws st .tables) ≡ st .tables .depth
-  tables-count = tables-length ws (st .tables) (st .entries)
+  pub tables-count : length (absOf bs ws t st .tables) ≡ t .depth
+  tables-count = tables-length ws t (st .entries)
 
   -- ---- one reading more
 
-  pub reading-abs : absOf bs ws (withReading st) ≡ read (absOf bs ws st)
+  pub reading-abs : absOf bs ws t (withReading st) ≡ read (absOf bs ws t st)
   reading-abs = rw (add-one (st .readings))
 
-  pub reading-rep : Rep bs ws st → st .readings < 2048 → Rep bs ws (withReading st)
-  reading-rep rep few = record {
-    words = rep .words;
-    few-symbols = rep .few-symbols;
-    slots-used = rep .slots-used;
-    few-slots = rep .few-slots;
-    some-scope = rep .some-scope;
-    few-scopes = rep .few-scopes;
-    few-entries = rep .few-entries;
-    few-memo = rep .few-memo;
-    few-readings = omega arith;
-    opened = rep .opened;
-    below = rep .below;
-    sound = rep .sound;
-    sourced = rep .sourced;
-    nested = rep .nested;
-    levelled = rep .levelled;
-    arguments = rep .arguments;
-    remembered = rep .remembered;
-    once = rep .once;
-  }
+pub reading-rep : (bs ws : List ℕ) (st : State) → Rep bs ws st → st .readings < 2048 → Rep bs ws (withReading st)
+reading-rep bs ws st rep few = record {
+  words = rep .words;
+  few-symbols = rep .few-symbols;
+  slots-used = rep .slots-used;
+  few-slots = rep .few-slots;
+  some-scope = rep .some-scope;
+  few-scopes = rep .few-scopes;
+  few-entries = rep .few-entries;
+  few-memo = rep .few-memo;
+  few-readings = omega arith;
+  below = rep .below;
+  marked = rep .marked;
+  sound = rep .sound;
+  sourced = rep .sourced;
+  nested = rep .nested;
+  levelled = rep .levelled;
+  arguments = rep .arguments;
+  remembered = rep .remembered;
+  once = rep .once;
+}

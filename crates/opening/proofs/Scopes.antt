@@ -1,5 +1,5 @@
--- One scope more, whatever its word and the tables then. In order: words kept; what the state stands for; what holds of
--- it.
+-- One scope more, whatever its word, and the tables before and then. In order: words kept; what the state stands for;
+-- what holds of it.
 -- Assumes nothing.
 use Prim.Native.Nat.{ℕ, _+_, _<_, _≤_}
 use mathlib.Core.Path.{_≡_, sym, ap, _∙_}
@@ -50,7 +50,7 @@ module _ (bs ws : List ℕ) (st : State) (rep : Rep bs ws st) (few : st .scopes 
     memo = λ k l r. scope-other k (λ e. omega arith);
   }
 
-  module _ (t : Tables) where
+  module _ (t t′ : Tables) (is : Open t (st .entries)) where
     -- ---- what the state stands for
 
     abbrev withBoth : intern.State → List (List ℕ) → List Scope → intern.State
@@ -62,56 +62,56 @@ module _ (bs ws : List ℕ) (st : State) (rep : Rep bs ws st) (few : st .scopes 
       readings = s .readings;
     }
 
-    pub scope-abs : (cur : ℕ) (args : Option (List ℕ)) (ts : List (List ℕ)) → tablesOf ws₁ t (st .entries) ≡ ts →
+    pub scope-abs : (cur : ℕ) (args : Option (List ℕ)) (ts : List (List ℕ)) → tablesOf ws₁ t′ (st .entries) ≡ ts →
         scopesOf ws₁ (st .scopes + 1)
         ≡ scopesOf ws (st .scopes)
         ++ (record { around = outward (scopesOf ws (st .scopes)) cur; args = args } ∷ []) →
-        absOf bs ws₁ (withScope st t) ≡ openScope cur args ts (absOf bs ws st)
+        absOf bs ws₁ t′ (withScope st) ≡ openScope cur args ts (absOf bs ws t st)
     scope-abs cur args ts e f =
-        ap (λ (s : intern.State). withBoth s (tablesOf ws₁ t (st .entries)) (scopesOf ws₁ (st .scopes + 1)))
-        (abs-same bs ws ws₁ st rep scope-same)
-        ∙ (ap (λ (z : List (List ℕ)). withBoth (absOf bs ws st) z (scopesOf ws₁ (st .scopes + 1))) e
-        ∙ ap (withBoth (absOf bs ws st) ts) f)
+        ap (λ (s : intern.State). withBoth s (tablesOf ws₁ t′ (st .entries)) (scopesOf ws₁ (st .scopes + 1)))
+        (abs-same bs ws ws₁ t st rep is scope-same)
+        ∙ (ap (λ (z : List (List ℕ)). withBoth (absOf bs ws t st) z (scopesOf ws₁ (st .scopes + 1))) e
+        ∙ ap (withBoth (absOf bs ws t st) ts) f)
 
-    -- ---- what holds of it
+  -- ---- what holds of it
 
-    module _ (is : Open t (st .entries)) (nested : Nested ws₁ (st .scopes + 1))
-        (own : (xs : List ℕ) → argsIn w ≡ some xs → Every (AtLevel ws (st .symbols) (levelOf w)) xs) where
-      old : Rep bs ws₁ st
-      old = rep-same bs ws ws₁ st rep scope-same
+  module _ (nested : Nested ws₁ (st .scopes + 1))
+      (own : (xs : List ℕ) → argsIn w ≡ some xs → Every (AtLevel ws (st .symbols) (levelOf w)) xs) where
+    old : Rep bs ws₁ st
+    old = rep-same bs ws ws₁ st rep scope-same
 
-      args-new : (xs : List ℕ) → argsIn (scopeWord ws₁ (st .scopes)) ≡ some xs →
-          Every (AtLevel ws₁ (st .symbols) (levelOf (scopeWord ws₁ (st .scopes)))) xs
-      args-new xs e x i =
-          let h = own xs (ap argsIn (sym scope-new) ∙ e) x i in
-          record {
-            low = h .low;
-            one = λ j. rw (symbol-same bs ws ws₁ st rep scope-same x (h .low), scope-new) (h .one j);
-          }
+    args-new : (xs : List ℕ) → argsIn (scopeWord ws₁ (st .scopes)) ≡ some xs →
+        Every (AtLevel ws₁ (st .symbols) (levelOf (scopeWord ws₁ (st .scopes)))) xs
+    args-new xs e x i =
+        let h = own xs (ap argsIn (sym scope-new) ∙ e) x i in
+        record {
+          low = h .low;
+          one = λ j. rw (symbol-same bs ws ws₁ st rep scope-same x (h .low), scope-new) (h .one j);
+        }
 
-      args-more : ArgLevels ws₁ (st .symbols) (st .scopes + 1)
-      args-more c lt =
-          let le : c ≤ st .scopes = omega arith in
-          ⊎-elim (λ e. rw e args-new) (λ l. old .arguments c l) (eq-or-lt-of-le le)
+    args-more : ArgLevels ws₁ (st .symbols) (st .scopes + 1)
+    args-more c lt =
+        let le : c ≤ st .scopes = omega arith in
+        ⊎-elim (λ e. rw e args-new) (λ l. old .arguments c l) (eq-or-lt-of-le le)
 
-      pub scope-rep : Rep bs ws₁ (withScope st t)
-      scope-rep = record {
-        words = old .words;
-        few-symbols = old .few-symbols;
-        slots-used = old .slots-used;
-        few-slots = old .few-slots;
-        some-scope = omega arith;
-        few-scopes = omega arith;
-        few-entries = old .few-entries;
-        few-memo = old .few-memo;
-        few-readings = old .few-readings;
-        opened = is;
-        below = old .below;
-        sound = old .sound;
-        sourced = old .sourced;
-        nested = nested;
-        levelled = old .levelled;
-        arguments = args-more;
-        remembered = old .remembered;
-        once = old .once;
-      }
+    pub scope-rep : Rep bs ws₁ (withScope st)
+    scope-rep = record {
+      words = old .words;
+      few-symbols = old .few-symbols;
+      slots-used = old .slots-used;
+      few-slots = old .few-slots;
+      some-scope = omega arith;
+      few-scopes = omega arith;
+      few-entries = old .few-entries;
+      few-memo = old .few-memo;
+      few-readings = old .few-readings;
+      below = old .below;
+      marked = old .marked;
+      sound = old .sound;
+      sourced = old .sourced;
+      nested = nested;
+      levelled = old .levelled;
+      arguments = args-more;
+      remembered = old .remembered;
+      once = old .once;
+    }

@@ -1,20 +1,21 @@
 -- Thunks, as model's `openThunk` and `closeThunk` have them. In order: a thunk opened; its table dropped.
 -- Assumes nothing.
-use Prim.Native.Nat.{ℕ, _-_, _<_, _≤_}
+use Prim.Native.Nat.{ℕ, _<_, _≤_}
 use mathlib.Core.Path.{_≡_, sym, ap, _∙_}
 use mathlib.Core.Option.{none}
 use mathlib.Core.List.{List, [], _∷_}
 use native.Mathlib.Omega.{arith}
 use Rattle.model.specs.Intern.{openThunk, closeThunk}
 use Rattle.laws.proofs.Apart.{none-some}
-use Rattle.tables.specs.Tables.{tablesOf, opened, newest}
-use Rattle.tables.proofs.Stack.{tables-agree, opened-open, opened-tables, closed-open, closed-tables}
+use Rattle.tables.specs.declared.Tables.{Tables}
+use Rattle.tables.specs.Tables.{tablesOf, opened, Open}
+use Rattle.tables.proofs.Stack.{tables-agree, opened-tables, dropped-tables, dropped-start}
 use Rattle.scopes.specs.Scopes.{scopeWord, levelOf, argsIn, thunkWord, withThunk}
 use Rattle.scopes.proofs.Laws.{packed-level, packed-args}
 use Rattle.scopes.proofs.Open.{scopes-thunk, nested-thunk}
 use Rattle.interner.specs.declared.State.{State}
 use Rattle.interner.specs.State.{absOf, Rep}
-use Rattle.opening.specs.Opening.{thunkOpened, thunkClosed}
+use Rattle.opening.specs.Opening.{withScope, thunkClosed}
 use Rattle.opening.proofs.Scopes.{scope-same, scope-new, scope-abs, scope-rep}
 
 -- ---- a thunk opened inside `cur`
@@ -33,51 +34,50 @@ module _ (bs ws : List ℕ) (st : State) (cur : ℕ) (rep : Rep bs ws st) (few :
   pub thunk-level : levelOf (scopeWord ws₁ (st .scopes)) ≡ levelOf (scopeWord ws cur)
   thunk-level = ap levelOf (scope-new bs ws st rep few (thunkWord ws cur)) ∙ word-level
 
-  module _ (room : st .tables .depth < 64) where
-    pub thunk-abs : absOf bs ws₁ (thunkOpened st) ≡ openThunk cur (absOf bs ws st)
+  pub thunk-rep : Rep bs ws₁ (withScope st)
+  thunk-rep =
+      scope-rep bs ws st rep few (thunkWord ws cur)
+      (nested-thunk ws (st .scopes) cur (omega (arith, rep .words)) current (omega arith) (rep .nested))
+      (λ xs e. none-some (sym word-args ∙ e))
+
+  module _ (t : Tables) (is : Open t (st .entries)) (room : t .depth < 64) where
+    pub thunk-abs : absOf bs ws₁ (opened t (st .entries)) (withScope st) ≡ openThunk cur (absOf bs ws t st)
     thunk-abs =
-        scope-abs bs ws st rep few (thunkWord ws cur) (opened (st .tables) (st .entries)) cur none
-        ([] ∷ tablesOf ws (st .tables) (st .entries))
-        (opened-tables (st .tables) (st .entries) (rep .opened) room ws₁
+        scope-abs bs ws st rep few (thunkWord ws cur) t (opened t (st .entries)) is cur none
+        ([] ∷ tablesOf ws t (st .entries))
+        (opened-tables t (st .entries) is room ws₁
         ∙ ap (λ (ts : List (List ℕ)). [] ∷ ts)
-        (tables-agree ws ws₁ (st .tables) (st .entries) (rep .opened)
-        (scope-same bs ws st rep few (thunkWord ws cur) .entries)))
+        (tables-agree ws ws₁ t (st .entries) is (scope-same bs ws st rep few (thunkWord ws cur) .entries)))
         (scopes-thunk ws (st .scopes) cur (omega (arith, rep .words)) current (omega arith))
 
-    pub thunk-rep : Rep bs ws₁ (thunkOpened st)
-    thunk-rep =
-        scope-rep bs ws st rep few (thunkWord ws cur) (opened (st .tables) (st .entries))
-        (opened-open (st .tables) (st .entries) (rep .opened) room)
-        (nested-thunk ws (st .scopes) cur (omega (arith, rep .words)) current (omega arith) (rep .nested))
-        (λ xs e. none-some (sym word-args ∙ e))
+-- ---- its table dropped: t are the tables around it, and there were `top` entries before it
 
--- ---- its table dropped
+module _ (bs ws : List ℕ) (t : Tables) (st : State) (top : ℕ) (is : Open t top) (room : t .depth < 64) where
+  pub closed-abs : absOf bs ws t (thunkClosed st top) ≡ closeThunk (absOf bs ws (opened t top) st)
+  closed-abs = rw (dropped-tables t top is room ws (st .entries))
 
-module _ (bs ws : List ℕ) (st : State) (rep : Rep bs ws st) (two : 1 < st .tables .depth) where
-  pub closed-abs : absOf bs ws (thunkClosed st) ≡ closeThunk (absOf bs ws st)
-  closed-abs = rw (closed-tables (st .tables) (st .entries) (rep .opened) ws)
+  module _ (rep : Rep bs ws st) (inner : Open (opened t top) (st .entries)) where
+    start-low : top ≤ st .entries
+    start-low = dropped-start t top is room (st .entries) inner
 
-  start-low : newest (st .tables) ≤ st .entries
-  start-low = rep .opened .starts (st .tables .depth - 1) (omega arith)
-
-  pub closed-rep : Rep bs ws (thunkClosed st)
-  closed-rep = record {
-    words = rep .words;
-    few-symbols = rep .few-symbols;
-    slots-used = rep .slots-used;
-    few-slots = rep .few-slots;
-    some-scope = rep .some-scope;
-    few-scopes = rep .few-scopes;
-    few-entries = omega (arith, start-low, rep .few-entries);
-    few-memo = rep .few-memo;
-    few-readings = rep .few-readings;
-    opened = closed-open (st .tables) (st .entries) (rep .opened) two;
-    below = λ k lt. rep .below k (omega (arith, start-low));
-    sound = rep .sound;
-    sourced = rep .sourced;
-    nested = rep .nested;
-    levelled = rep .levelled;
-    arguments = rep .arguments;
-    remembered = rep .remembered;
-    once = rep .once;
-  }
+    pub closed-rep : Rep bs ws (thunkClosed st top)
+    closed-rep = record {
+      words = rep .words;
+      few-symbols = rep .few-symbols;
+      slots-used = rep .slots-used;
+      few-slots = rep .few-slots;
+      some-scope = rep .some-scope;
+      few-scopes = rep .few-scopes;
+      few-entries = omega (arith, start-low, rep .few-entries);
+      few-memo = rep .few-memo;
+      few-readings = rep .few-readings;
+      below = λ k lt. rep .below k (omega (arith, start-low));
+      marked = λ k lt. rep .marked k (omega (arith, start-low));
+      sound = rep .sound;
+      sourced = rep .sourced;
+      nested = rep .nested;
+      levelled = rep .levelled;
+      arguments = rep .arguments;
+      remembered = rep .remembered;
+      once = rep .once;
+    }

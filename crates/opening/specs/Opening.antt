@@ -1,14 +1,11 @@
--- The states of interning after a reading, and after a scope or a table is opened or closed.
+-- The states of interning after a reading, after a scope is opened, and after a thunk.
 -- Assumes nothing.
-use Prim.Native.Nat.{_+_}
-use Rattle.tables.specs.declared.Tables.{Tables}
-use Rattle.tables.specs.Tables.{opened, closed, newest}
+use Prim.Native.Nat.{ℕ, _+_}
 use Rattle.interner.specs.declared.State.{State}
 
 -- one reading more
 abbrev pub withReading : State → State
 withReading st = record {
-  tables = st .tables;
   entries = st .entries;
   symbols = st .symbols;
   slots = st .slots;
@@ -17,10 +14,9 @@ withReading st = record {
   readings = st .readings + 1;
 }
 
--- one scope more, and these tables
-abbrev pub withScope : State → Tables → State
-withScope st t = record {
-  tables = t;
+-- one scope more
+abbrev pub withScope : State → State
+withScope st = record {
   entries = st .entries;
   symbols = st .symbols;
   slots = st .slots;
@@ -29,19 +25,10 @@ withScope st t = record {
   readings = st .readings;
 }
 
--- a thunk has a table of its own, which is empty at first
-abbrev pub thunkOpened : State → State
-thunkOpened st = withScope st (opened (st .tables) (st .entries))
-
--- the body of a lambda has none
-abbrev pub bodyOpened : State → State
-bodyOpened st = withScope st (st .tables)
-
--- the newest table is dropped with its entries
-abbrev pub thunkClosed : State → State
-thunkClosed st = record {
-  tables = closed (st .tables);
-  entries = newest (st .tables);
+-- a thunk's table is dropped: `top` entries are left
+abbrev pub thunkClosed : State → ℕ → State
+thunkClosed st top = record {
+  entries = top;
   symbols = st .symbols;
   slots = st .slots;
   scopes = st .scopes;

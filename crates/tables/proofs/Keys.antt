@@ -1,24 +1,24 @@
--- Comparing the key of a symbol with one that is sought. In order: children; keys; `isKey` of model.
+-- Comparing the key of a symbol with one that is sought. In order: children; keys; marks; `isKey` of model.
 -- Assumes nothing.
-use Prim.Native.Nat.{ℕ, _+_, _<_, _≤_}
-use mathlib.Core.Path.{_≡_, sym, ap, _∙_}
-use mathlib.Core.Bool.{Bool, true, false}
+use Prim.Native.Nat.{ℕ, zero, suc, _+_, _*_, _<_, _≤_}
+use mathlib.Core.Path.{_≡_, refl, sym, ap, _∙_}
+use mathlib.Core.Bool.{Bool, true, false, _&&_}
 use mathlib.Core.List.{List}
 use native.Mathlib.Omega.{arith}
 use lib.ListN.{length, getD}
 use Rattle.model.specs.Lists.{same}
-use Rattle.model.specs.Tree.{sameRec}
-use Rattle.model.specs.Forest.{recordCount}
+use Rattle.model.specs.Tree.{Rec, sameRec}
 use Rattle.model.specs.Intern.{isKey}
-use Rattle.key.specs.declared.Parts.{Parts}
+use Rattle.laws.proofs.Members.{and-both, same-true, sameRec-true}
+use Rattle.record.specs.Record.{rowAt}
 use Rattle.key.specs.declared.Symbol.{Symbol}
 use Rattle.key.specs.Key.{partsOf, symbolAt}
 use Rattle.symbols.specs.Words.{wordsFrom, slotsFrom, pendingFrom}
 use Rattle.symbols.specs.Symbols.{keyRec, recOf, symsOf, kidsAt, Sound}
-use Rattle.symbols.proofs.Same.{same-all, same-differ}
+use Rattle.symbols.proofs.Same.{same-all, same-differ, key-opcode}
 use Rattle.symbols.proofs.Words.{words-length, words-at}
 use Rattle.symbols.proofs.Laws.{rec-at, kids-at}
-use Rattle.tables.specs.Tables.{sameKey}
+use Rattle.tables.specs.Tables.{mark, markOf, sameKey}
 
 -- ---- children: runs of words, compared
 
@@ -41,34 +41,78 @@ module _ (ws : List ℕ) (a b m n : ℕ) where
       (λ k lt. let l : k < m = omega (arith, words-length ws a m) in
       words-at ws a m k l ∙ (h k l ∙ sym (words-at ws b n k (omega arith))))
 
+and-false : (t : Bool) → (t && false) ≡ false
+and-false true = refl
+and-false false = refl
+
+and-true : (t : Bool) → (t && true) ≡ t
+and-true true = refl
+and-true false = refl
+
 -- ---- keys: what `same_key` loads, and what it says by it
 
 module _ (bs ws : List ℕ) (s : ℕ) {y : Symbol} (loads : y ≡ symbolAt ws s) where
   pub loaded-slots : Sound bs ws 2560 s → y .kids + y .count ≤ 2560
   loaded-slots sound = rw loads (sound .slots)
 
-  module _ {p : Parts} (is : p ≡ partsOf (y .node)) where
-    pub loaded-from : Sound bs ws 2560 s → p .source < recordCount bs
-    loaded-from sound = rw (is, loads) (sound .from)
+  module _ (i field held count : ℕ) {t : Bool}
+      (kids : t ≡ same (slotsFrom ws (y .kids) (y .count)) (pendingFrom ws held count)) where
+    slots-same : t ≡ same (kidsAt ws s) (pendingFrom ws held count)
+    slots-same = rw loads at kids
 
-    module _ (i field held count : ℕ) where
-      pub recs-differ : {u : Bool} → u ≡ sameRec (keyRec bs (p .source) (p .field)) (keyRec bs i field) → u ≡ false →
-          false ≡ sameKey bs ws i field held count s
-      unfolding sameKey
-      recs-differ h f =
-          let e : sameRec (recOf bs (symbolAt ws s .node)) (keyRec bs i field) ≡ false =
-          rw (is, loads) at (sym h ∙ f) in
-          rw e
+    pub kids-differ : t ≡ false → false ≡ sameKey bs ws i field held count s
+    unfolding sameKey
+    kids-differ f =
+        let e : same (kidsAt ws s) (pendingFrom ws held count) ≡ false = sym slots-same ∙ f in rw (e, and-false)
 
-      pub kids-decide : {t u : Bool} → u ≡ sameRec (keyRec bs (p .source) (p .field)) (keyRec bs i field) → u ≡ true →
-          t ≡ same (slotsFrom ws (y .kids) (y .count)) (pendingFrom ws held count) →
-          t ≡ sameKey bs ws i field held count s
-      unfolding sameKey
-      kids-decide {t} h g k =
-          let e : sameRec (recOf bs (symbolAt ws s .node)) (keyRec bs i field) ≡ true =
-          rw (is, loads) at (sym h ∙ g) in
-          let f : t ≡ same (kidsAt ws s) (pendingFrom ws held count) = rw loads at k in
-          rw e f
+    pub recs-decide : t ≡ true → (f g : ℕ) {u : Bool} → f ≡ partsOf (symbolAt ws s .node) .source →
+        g ≡ partsOf (symbolAt ws s .node) .field → u ≡ sameRec (keyRec bs f g) (keyRec bs i field) →
+        u ≡ sameKey bs ws i field held count s
+    unfolding sameKey
+    recs-decide e f g ef eg h =
+        let k : same (kidsAt ws s) (pendingFrom ws held count) ≡ true = sym slots-same ∙ e in
+        rw (k, and-true, ← ef, ← eg) h
+
+-- ---- marks
+
+-- what `mark_of` says, where there are no children and where there are
+module _ (ws : List ℕ) (held : ℕ) where
+  pub mark-none : (opcode count : ℕ) → count ≡ 0 → opcode ≡ mark opcode (pendingFrom ws held count)
+  unfolding mark wordsFrom
+  mark-none opcode count e = rw e
+
+  pub mark-first : (opcode count : ℕ) → (count ≡ 0 → ⊥) →
+      opcode + 256 * getD ws (8200 + held) 0 ≡ mark opcode (pendingFrom ws held count)
+  unfolding mark wordsFrom
+  mark-first opcode zero h = absurd (h refl)
+  mark-first opcode (suc n) h = refl
+
+  pub first-pending : (count : ℕ) → ((k : ℕ) → k < count → getD ws (8200 + held + k) 0 < 512) → (count ≡ 0 → ⊥) →
+      getD ws (8200 + held) 0 < 512
+  first-pending count low h =
+      let e : 8200 + held + 0 ≡ 8200 + held = omega arith in rw e at (low 0 (omega arith))
+
+-- equal keys have equal marks
+module _ (bs ws : List ℕ) (i field held count s : ℕ) where
+  mark-same : sameKey bs ws i field held count s ≡ true →
+      markOf bs ws s ≡ mark (rowAt bs i .rec .opcode) (pendingFrom ws held count)
+  unfolding sameKey
+  mark-same e =
+      let r = recOf bs (symbolAt ws s .node) in
+      let both = and-both (sameRec r (keyRec bs i field)) (same (kidsAt ws s) (pendingFrom ws held count)) e in
+      let o : r .opcode ≡ rowAt bs i .rec .opcode =
+      ap (λ (z : Rec). z .opcode) (sameRec-true r (keyRec bs i field) (both .0)) ∙ key-opcode bs i field in
+      let k : kidsAt ws s ≡ pendingFrom ws held count = same-true _ _ (both .1) in
+      rw (o, k)
+
+  -- so an entry with another mark has another key
+  pub marks-differ : {m : ℕ} → m ≡ mark (rowAt bs i .rec .opcode) (pendingFrom ws held count) →
+      (markOf bs ws s ≡ m → ⊥) → sameKey bs ws i field held count s ≡ false
+  marks-differ {m} e h = go (sameKey bs ws i field held count s) refl
+    where
+      go : (t : Bool) → sameKey bs ws i field held count s ≡ t → t ≡ false
+      go true g = absurd (h (mark-same g ∙ sym e))
+      go false g = refl
 
 -- ---- `isKey` of model
 

@@ -10,7 +10,7 @@ use native.Mathlib.Omega.{arith}
 use lib.ListN.{getD}
 use Rattle.model.specs.Tree.{Rec}
 use Rattle.model.specs.Intern.{Sym, isKey, lookupIn, lookup}
-use Rattle.tables.specs.Tables.{entries, tables}
+use Rattle.tables.specs.Tables.{entrySymbol, entries, tables}
 
 module _ (ss : List Sym) (r : Rec) (ks : List ℕ) where
   -- ---- one entry more
@@ -43,11 +43,8 @@ module _ (ss : List Sym) (r : Rec) (ks : List ℕ) where
   module _ (ws : List ℕ) where
     -- ---- entries from the newest down: those from `start` up to k
 
-    abbrev entryAt : ℕ → ℕ
-    entryAt k = getD ws (7176 + k) 0
-
     entries-newest : (start k : ℕ) → start < k →
-        entries ws start (k - start) ≡ entryAt (k - 1) ∷ entries ws start (k - 1 - start)
+        entries ws start (k - start) ≡ entrySymbol ws (k - 1) ∷ entries ws start (k - 1 - start)
     unfolding entries
     entries-newest start k lt =
         let e : k - start ≡ suc (k - 1 - start) = omega arith in
@@ -58,17 +55,17 @@ module _ (ss : List Sym) (r : Rec) (ks : List ℕ) where
     unfolding entries lookupIn
     entries-end start k le = let e : k - start ≡ 0 = omega arith in rw e
 
-    pub entries-hit : (start k : ℕ) → start < k → isKey ss r ks (entryAt (k - 1)) ≡ true →
-        lookupIn ss r ks (entries ws start (k - start)) ≡ some (entryAt (k - 1))
+    pub entries-hit : (start k : ℕ) → start < k → isKey ss r ks (entrySymbol ws (k - 1)) ≡ true →
+        lookupIn ss r ks (entries ws start (k - start)) ≡ some (entrySymbol ws (k - 1))
     entries-hit start k lt e =
         ap (lookupIn ss r ks) (entries-newest start k lt)
-        ∙ entry-hit (entryAt (k - 1)) (entries ws start (k - 1 - start)) e
+        ∙ entry-hit (entrySymbol ws (k - 1)) (entries ws start (k - 1 - start)) e
 
-    pub entries-miss : (start k : ℕ) → start < k → isKey ss r ks (entryAt (k - 1)) ≡ false →
+    pub entries-miss : (start k : ℕ) → start < k → isKey ss r ks (entrySymbol ws (k - 1)) ≡ false →
         lookupIn ss r ks (entries ws start (k - start)) ≡ lookupIn ss r ks (entries ws start (k - 1 - start))
     entries-miss start k lt e =
         ap (lookupIn ss r ks) (entries-newest start k lt)
-        ∙ entry-miss (entryAt (k - 1)) (entries ws start (k - 1 - start)) e
+        ∙ entry-miss (entrySymbol ws (k - 1)) (entries ws start (k - 1 - start)) e
 
     module _ (base : List ℕ) where
       -- ---- tables from the newest down: the d oldest, which end at entry `end`

@@ -1,8 +1,8 @@
--- What callers cite of the open tables. In order: how many; the words that they hang on; the first table; opening one;
--- closing it; one entry more; entries that are sound.
+-- What callers cite of the open tables. In order: how many; the words that they hang on; the words that marks hang on;
+-- the first table; opening one and dropping it; one entry more; entries that are sound.
 -- Assumes nothing.
-use Prim.Native.Nat.{ℕ, zero, suc, _+_, _-_, _<_, _≤_}
-use mathlib.Core.Path.{_≡_, refl, ap, _∙_}
+use Prim.Native.Nat.{ℕ, zero, suc, _+_, _*_, _-_, _<_, _≤_}
+use mathlib.Core.Path.{_≡_, refl, sym, ap, _∙_}
 use mathlib.Core.List.{List, [], _∷_}
 use mathlib.Core.Logic.{⊎-elim}
 use native.Mathlib.Omega.{arith}
@@ -11,10 +11,15 @@ use native.Mathlib.Numerals.{add-one}
 use lib.ListN.{length, getD, set, length-set}
 use lib.Seq.{getD-set-same, getD-set-other}
 use Rattle.model.specs.Intern.{enter, dropFirst}
-use Rattle.key.proofs.Runs.{Agree}
-use Rattle.symbols.specs.Symbols.{AllSound}
+use Rattle.key.specs.Key.{symbolAt}
+use Rattle.key.proofs.Runs.{Agree, agree-before}
+use Rattle.key.proofs.Laws.{symbol-agree}
+use Rattle.symbols.specs.Words.{slotsFrom}
+use Rattle.symbols.specs.Symbols.{kidsAt, AllSound}
+use Rattle.symbols.proofs.Words.{words-agree}
 use Rattle.tables.specs.declared.Tables.{Tables}
-use Rattle.tables.specs.Tables.{entries, tables, tablesOf, first, opened, closed, newest, Open, Entries, Below}
+use Rattle.tables.specs.Tables.{entrySymbol, entryMark, markOf, entries, tables, tablesOf, first, opened}
+use Rattle.tables.specs.Tables.{Open, Entries, Below, Marked}
 
 -- ---- how many
 
@@ -53,6 +58,25 @@ pub tables-agree : (ws ws′ : List ℕ) (t : Tables) (top : ℕ) → Open t top
 tables-agree ws ws′ t top open′ h =
     runs-agree ws ws′ (t .base) (t .base) top (t .depth) top h (λ e l r. refl) (open′ .starts) (omega arith)
 
+-- ---- the words that marks hang on: the entries, their symbols, and the slots in use
+
+module _ (bs ws ws′ : List ℕ) (used n : ℕ) where
+  mark-agree : AllSound bs ws used n → Agree ws ws′ 0 (5 * n) → Agree ws ws′ 2560 (2560 + used) →
+      (s : ℕ) → s < n → markOf bs ws′ s ≡ markOf bs ws s
+  mark-agree sound own slots s lt =
+      let e : symbolAt ws′ s ≡ symbolAt ws s =
+      symbol-agree ws ws′ s (λ k l r. own k (omega arith) (omega arith)) in
+      let f : slotsFrom ws′ (symbolAt ws s .kids) (symbolAt ws s .count) ≡ kidsAt ws s =
+      words-agree ws ws′ (2560 + symbolAt ws s .kids) (symbolAt ws s .count)
+      (λ k l r. slots k (omega arith) (omega (arith, sound s lt .slots))) in
+      rw (e, f)
+
+  pub marked-agree : (top : ℕ) → AllSound bs ws used n → Below ws top n → Agree ws ws′ 0 (5 * n) →
+      Agree ws ws′ 2560 (2560 + used) → Agree ws ws′ 7176 (7176 + top) → Marked bs ws top → Marked bs ws′ top
+  marked-agree top sound below own slots entries marked k lt =
+      rw (entries (7176 + k) (omega arith) (omega arith))
+      (marked k lt ∙ sym (mark-agree sound own slots (entrySymbol ws k) (below k lt)))
+
 -- ---- the first table
 
 pub first-open : Open first 0
@@ -68,7 +92,7 @@ pub first-tables : (ws : List ℕ) → tablesOf ws first 0 ≡ [] ∷ []
 unfolding tables entries
 first-tables ws = refl
 
--- ---- opening a table
+-- ---- opening a table, and dropping it
 
 module _ (t : Tables) (top : ℕ) (is : Open t top) where
   -- a later end
@@ -112,50 +136,42 @@ module _ (t : Tables) (top : ℕ) (is : Open t top) where
             ⊎-elim (λ p. omega (arith, newest-start e p, starts d (omega arith)))
             (λ l. rw (older-start d (omega arith), older-start e l) (is .sorted d e le l)) (eq-or-lt-of-le s)
 
+    older-tables : (ws : List ℕ) → tables ws (opened t top .base) (t .depth) top ≡ tablesOf ws t top
+    older-tables ws =
+        runs-agree ws ws (t .base) (opened t top .base) top (t .depth) top (λ k l r. refl) (λ d l r. older-start d r)
+        (is .starts) (omega arith)
+
     -- the tables of model's `openThunk`
     pub opened-tables : (ws : List ℕ) → tablesOf ws (opened t top) top ≡ [] ∷ tablesOf ws t top
     unfolding tables entries
-    opened-tables ws =
-        let z : top - top ≡ 0 = omega arith in
-        rw (
-          add-one (t .depth),
-          new-start,
-          z,
-          runs-agree ws ws (t .base) (opened t top .base) top (t .depth) top (λ k l r. refl)
-              (λ d l r. older-start d r) (is .starts)
-              (omega arith),
-        )
+    opened-tables ws = let z : top - top ≡ 0 = omega arith in rw (add-one (t .depth), new-start, z, older-tables ws)
 
-  -- ---- closing it: the entries then end where it starts
+    -- dropping it, with what was entered: the tables of model's `closeThunk`
+    pub dropped-tables : (ws : List ℕ) (end : ℕ) → dropFirst (tablesOf ws (opened t top) end) ≡ tablesOf ws t top
+    unfolding tables
+    dropped-tables ws end = rw (add-one (t .depth), new-start, older-tables ws)
 
-  module _ (two : 1 < t .depth) where
-    pub closed-open : Open (closed t) (newest t)
-    closed-open = record {
-      some = omega arith;
-      few = omega (arith, is .few);
-      long = is .long;
-      sorted = λ d e le lt. is .sorted d e le (omega arith);
-      starts = λ d lt. is .sorted d (t .depth - 1) (omega arith) (omega arith);
-    }
-
-  -- the tables of model's `closeThunk`
-  pub closed-tables : (ws : List ℕ) → tablesOf ws (closed t) (newest t) ≡ dropFirst (tablesOf ws t top)
-  unfolding tables
-  closed-tables ws = go (t .depth) (is .some)
-    where
-      go : (d : ℕ) → 0 < d →
-          tables ws (t .base) (d - 1) (getD (t .base) (d - 1) 0) ≡ dropFirst (tables ws (t .base) d top)
-      go zero lt = absurd (omega arith)
-      go (suc d) lt = let e : suc d - 1 ≡ d = omega arith in rw e
+    -- what is entered in it stands at `top` or later
+    pub dropped-start : (end : ℕ) → Open (opened t top) end → top ≤ end
+    dropped-start end open′ = omega (arith, new-start, open′ .starts (t .depth) (omega arith))
 
   -- ---- one entry more, in the newest table
 
-  module _ (ws : List ℕ) (s : ℕ) (room : 7176 + top < length ws) where
+  module _ (ws : List ℕ) (s m : ℕ) (low : s < 512) (room : 7176 + top < length ws) where
     abbrev entered : List ℕ
-    entered = set ws (7176 + top) s
+    entered = set ws (7176 + top) (s + 512 * m)
 
     others-kept : Agree ws entered 7176 (7176 + top)
-    others-kept k l r = getD-set-other ws (7176 + top) k s 0 (λ e. omega arith)
+    others-kept = agree-before ws (7176 + top) (s + 512 * m) 7176 (7176 + top) (omega arith)
+
+    new-word : getD entered (7176 + top) 0 ≡ s + 512 * m
+    new-word = getD-set-same ws (7176 + top) (s + 512 * m) 0 room
+
+    new-symbol : entrySymbol entered top ≡ s
+    new-symbol = omega (arith, new-word)
+
+    new-mark : entryMark entered top ≡ m
+    new-mark = omega (arith, new-word)
 
     -- the tables of model's `push`
     pub entered-tables : tablesOf entered t (top + 1) ≡ enter s (tablesOf ws t top)
@@ -173,7 +189,7 @@ module _ (t : Tables) (top : ℕ) (is : Open t top) where
             rw (
               e,
               f,
-              getD-set-same ws (7176 + top) s 0 room,
+              new-symbol,
               entries-agree ws entered top b (top - b) others-kept (omega arith),
               runs-agree ws entered (t .base) (t .base) top d b others-kept (λ k l r. refl)
                   (λ k l. starts k (omega arith)) h,
@@ -182,17 +198,35 @@ module _ (t : Tables) (top : ℕ) (is : Open t top) where
     pub entered-below : (n : ℕ) → Below ws top n → s < n → Below entered (top + 1) n
     entered-below n below lt k l =
         let le : k ≤ top = omega arith in
-        let new : getD entered (7176 + top) 0 ≡ s = getD-set-same ws (7176 + top) s 0 room in
-        ⊎-elim (λ e. omega (arith, ap (λ (z : ℕ). getD entered (7176 + z) 0) e ∙ new))
+        ⊎-elim (λ e. omega (arith, ap (entrySymbol entered) e ∙ new-symbol))
         (λ r. rw (others-kept (7176 + k) (omega arith) (omega arith)) (below k r)) (eq-or-lt-of-le le)
+
+    -- with its own mark, where the other entries have theirs
+    pub entered-marked : (bs : List ℕ) (used n : ℕ) → AllSound bs ws used n → used ≤ 2560 → n ≤ 512 →
+        Below ws top n → s < n → Marked bs ws top → m ≡ markOf bs ws s → Marked bs entered (top + 1)
+    entered-marked bs used n sound slots few below lt marked e k l =
+        let le : k ≤ top = omega arith in
+        ⊎-elim (λ p. rw p newest)
+        (λ r. marked-agree bs ws entered used n top sound below own kids others-kept marked k r) (eq-or-lt-of-le le)
+      where
+        own : Agree ws entered 0 (5 * n)
+        own = agree-before ws (7176 + top) (s + 512 * m) 0 (5 * n) (omega arith)
+
+        kids : Agree ws entered 2560 (2560 + used)
+        kids = agree-before ws (7176 + top) (s + 512 * m) 2560 (2560 + used) (omega arith)
+
+        newest : entryMark entered top ≡ markOf bs entered (entrySymbol entered top)
+        newest =
+            rw new-symbol (new-mark ∙ e ∙ sym (mark-agree bs ws entered used n sound own kids s lt))
 
 -- ---- entries that are sound
 
 pub entries-sound : (bs ws : List ℕ) (used n top : ℕ) → AllSound bs ws used n → used ≤ 2560 → n ≤ 512 → top ≤ 512 →
-    Below ws top n → Entries bs ws top
-entries-sound bs ws used n top sound slots few tops below = record {
+    Below ws top n → Marked bs ws top → Entries bs ws top
+entries-sound bs ws used n top sound slots few tops below marked = record {
   few = tops;
-  below = λ k lt. let b : getD ws (7176 + k) 0 < n = below k lt in omega arith;
-  sound = λ k lt. let s = sound (getD ws (7176 + k) 0) (below k lt) in
+  below = λ k lt. let b : entrySymbol ws k < n = below k lt in omega arith;
+  sound = λ k lt. let s = sound (entrySymbol ws k) (below k lt) in
       record { from = s .from; slots = let z = s .slots in omega (arith, z); lower = s .lower };
+  marked = marked;
 }

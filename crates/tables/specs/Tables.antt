@@ -1,7 +1,7 @@
 -- The open tables that work words hold, as model has them: the newest table first, in a table the newest entry first.
--- In order: answers; entries and tables; opening and closing; what holds of them; keys.
+-- In order: answers; an entry; entries and tables; the first table, and one more; what holds of them; keys.
 -- Assumes nothing.
-use Prim.Native.Nat.{ℕ, zero, suc, _+_, _-_, _<_, _≤_}
+use Prim.Native.Nat.{ℕ, zero, suc, _+_, _*_, _-_, _/_, _%_, _<_, _≤_}
 use mathlib.Core.Path.{_≡_}
 use mathlib.Core.Bool.{Bool, _&&_}
 use mathlib.Core.Option.{Option, none, some}
@@ -22,12 +22,29 @@ abbrev pub foundOf : Found → Option ℕ
 foundOf (At s) = some s
 foundOf Nothing = none
 
+-- ---- an entry: a symbol, and above it the mark of its key
+
+abbrev pub entrySymbol : List ℕ → ℕ → ℕ
+entrySymbol ws k = getD ws (7176 + k) 0 % 512
+
+abbrev pub entryMark : List ℕ → ℕ → ℕ
+entryMark ws k = getD ws (7176 + k) 0 / 512
+
+-- what equal keys have in common: the opcode and the first child
+unfoldable pub mark : ℕ → List ℕ → ℕ
+mark opcode [] = opcode
+mark opcode (k ∷ ks) = opcode + 256 * k
+
+-- the mark of symbol s
+abbrev pub markOf : List ℕ → List ℕ → ℕ → ℕ
+markOf bs ws s = mark (recOf bs (symbolAt ws s .node) .opcode) (kidsAt ws s)
+
 -- ---- entries and tables
 
 -- n entries from entry `start` on, the last first
 unfoldable pub entries : List ℕ → ℕ → ℕ → List ℕ
 entries ws start zero = []
-entries ws start (suc n) = getD ws (7176 + (start + n)) 0 ∷ entries ws start n
+entries ws start (suc n) = entrySymbol ws (start + n) ∷ entries ws start n
 
 -- the d oldest tables, of which the newest ends at entry `end`
 unfoldable pub tables : List ℕ → List ℕ → ℕ → ℕ → List (List ℕ)
@@ -38,20 +55,13 @@ tables ws base (suc d) end = entries ws (getD base d 0) (end - getD base d 0) �
 abbrev pub tablesOf : List ℕ → Tables → ℕ → List (List ℕ)
 tablesOf ws t top = tables ws (t .base) (t .depth) top
 
--- ---- opening and closing
+-- ---- the first table, and one more
 
 abbrev pub first : Tables
 first = record { base = replicate 64 0; depth = 1 }
 
 abbrev pub opened : Tables → ℕ → Tables
 opened t top = record { base = set (t .base) (t .depth) top; depth = t .depth + 1 }
-
-abbrev pub closed : Tables → Tables
-closed t = record { base = t .base; depth = t .depth - 1 }
-
--- where the newest table starts
-abbrev pub newest : Tables → ℕ
-newest t = getD (t .base) (t .depth - 1) 0
 
 -- ---- what holds of them
 
@@ -65,13 +75,18 @@ pub record Open (t : Tables) (top : ℕ) : Type 0 where
 
 -- the entries are symbols below n
 abbrev pub Below : List ℕ → ℕ → ℕ → Type 0
-Below ws top n = (k : ℕ) → k < top → getD ws (7176 + k) 0 < n
+Below ws top n = (k : ℕ) → k < top → entrySymbol ws k < n
 
--- `top` entries, which are symbols that stand
+-- the entries' marks are those of their symbols
+abbrev pub Marked : List ℕ → List ℕ → ℕ → Type 0
+Marked bs ws top = (k : ℕ) → k < top → entryMark ws k ≡ markOf bs ws (entrySymbol ws k)
+
+-- `top` entries, which are symbols that stand, with their marks
 pub record Entries (bs ws : List ℕ) (top : ℕ) : Type 0 where
   pub few : top ≤ 512
   pub below : Below ws top 512
-  pub sound : (k : ℕ) → k < top → Sound bs ws 2560 (getD ws (7176 + k) 0)
+  pub sound : (k : ℕ) → k < top → Sound bs ws 2560 (entrySymbol ws k)
+  pub marked : Marked bs ws top
 
 -- ---- keys
 

@@ -1,17 +1,18 @@
-// The stack of open tables (interner.rs), and the search through it. Entry k of the tables is word 7,176 + k, a symbol.
+// The stack of open tables (interner.rs), and the search through it. Entry k of the tables is word 7,176 + k: a symbol,
+// and above it a mark of its key, so that most entries are passed over by one comparison.
 use symbols::PENDING;
 use symbols::SLOTS;
 ghost use mathlib.Core.Path.{_≡_};
-ghost use Prim.Native.Nat.{ℕ, _+_, _-_, _<_, _≤_};
-ghost use lib.ListN.{length, set};
+ghost use Prim.Native.Nat.{ℕ, _+_, _*_, _<_, _≤_};
+ghost use lib.ListN.{length, getD, set};
 ghost use Rattle.model.specs.Lists.{same};
 ghost use Rattle.model.specs.Forest.{recordCount};
 ghost use Rattle.model.specs.Intern.{lookup};
-ghost use Rattle.record.specs.Record.{Laid};
+ghost use Rattle.record.specs.Record.{Laid, rowAt};
 ghost use Rattle.symbols.specs.Words.{slotsFrom, pendingFrom};
 ghost use Rattle.symbols.specs.Symbols.{keyRec, symsOf, Sound};
-ghost use Rattle.tables.specs.Tables.{foundOf, tablesOf, first, opened, closed, newest};
-ghost use Rattle.tables.specs.Tables.{Open, Entries, Below, sameKey};
+ghost use Rattle.tables.specs.Tables.{foundOf, tablesOf, first, opened};
+ghost use Rattle.tables.specs.Tables.{mark, Open, Entries, Below, sameKey};
 
 pub const ENTRIES: usize = 7176;
 
@@ -49,35 +50,38 @@ impl Tables {
         next.depth = at + 1;
         next
     }
-
-    // Where the newest table starts, which is where the entries end after `pop`. Rules out: where it ends; where
-    // the table before it starts.
-    pub fn start(self) -> usize
-        requires { ⌜ (0 < self .depth) × (self .depth ≤ 64) ⌝ }
-        ensures { λ r. ⌜ r ≡ newest self ⌝ }
-    {
-        let at = self.depth - 1;
-        let base = self.base;
-        base[at] as usize
-    }
-
-    // Without the newest table. Rules out: the stack as it was; without the two newest.
-    pub fn pop(self) -> Tables
-        requires { ⌜ 0 < self .depth ⌝ }
-        ensures { λ r. ⌜ r ≡ closed self ⌝ }
-    {
-        let mut next = self;
-        next.depth -= 1;
-        next
-    }
 }
 
 // One entry more in the newest table, where there are `top`. Rules out: an entry in the oldest table; another symbol.
-pub fn enter(work: &mut [u32], top: usize, symbol: u32)
-    requires { ⌜ (top < 512) × (7688 ≤ length (now work)) ⌝ }
-    ensures { λ _. ⌜ now (work .exit) ≡ set (now (work .entry)) (7176 + top) symbol ⌝ }
+pub fn enter(work: &mut [u32], top: usize, symbol: u32, mark: u32)
+    requires { ⌜ (top < 512) × (symbol < 512) × (mark < 131072) × (7688 ≤ length (now work)) ⌝ }
+    ensures { λ _. ⌜ now (work .exit) ≡ set (now (work .entry)) (7176 + top) (symbol + 512 * mark) ⌝ }
 {
-    work[ENTRIES + top] = symbol;
+    work[ENTRIES + top] = symbol + 512 * mark;
+}
+
+fn wide(x: u8) -> u32
+    ensures { λ r. ⌜ (r ≡ x) × (r < 256) ⌝ }
+{
+    x as u32
+}
+
+// The mark of the key of record i, or of a projection that it makes, over the pending children from `held` on.
+// Rules out: the opcode alone where there are children; a mark by the last child.
+pub fn mark_of(forest: &[u8], work: &[u32], i: usize, held: usize, count: usize) -> u32
+    requires { ⌜ Laid (now forest) ⌝ }
+    requires { ⌜ i < recordCount (now forest) ⌝ }
+    requires { ⌜ (held + count ≤ 256) × (8456 ≤ length (now work)) ⌝ }
+    requires { ⌜ ((k : ℕ) → k < count → getD (now work) (8200 + held + k) 0 < 512) ⌝ }
+    ensures { λ r.
+        ⌜ (r ≡ mark (rowAt (now (forest .entry)) i .rec .opcode) (pendingFrom (now (work .entry)) held count))
+        × (r < 131072) ⌝ }
+{
+    let opcode = wide(record::opcode(forest, i));
+    if count == 0 {
+        return opcode;
+    }
+    opcode + 256 * work[PENDING + held]
 }
 
 fn same_kids(work: &[u32], kids: usize, n: usize, held: usize, count: usize) -> bool
@@ -114,13 +118,10 @@ fn same_key(
     ensures { λ r. ⌜ r ≡ sameKey (now (forest .entry)) (now (work .entry)) i field held count s ⌝ }
 {
     let y = key::load(work, s);
-    let node = y.node;
-    let p = key::parts_of(node);
-    let from = p.source as usize;
     let kids = y.kids as usize;
     let n = y.count as usize;
-    if symbols::same_rec(forest, from, p.field, i, field) {
-        return same_kids(work, kids, n, held, count);
+    if same_kids(work, kids, n, held, count) {
+        return symbols::same_rec(forest, key::source(work, s), key::field(work, s), i, field);
     }
     false
 }
@@ -143,12 +144,14 @@ pub fn find(
     requires { ⌜ Open t top ⌝ }
     requires { ⌜ Entries (now forest) (now work) top ⌝ }
     requires { ⌜ (held + count ≤ 256) × (8456 ≤ length (now work)) ⌝ }
+    requires { ⌜ ((k : ℕ) → k < count → getD (now work) (8200 + held + k) 0 < 512) ⌝ }
     ensures { λ r.
         ⌜ ((n : ℕ) → Below (now (work .entry)) top n →
         foundOf r ≡ lookup (symsOf (now (forest .entry)) (now (work .entry)) n)
         (keyRec (now (forest .entry)) i field) (pendingFrom (now (work .entry)) held count)
         (tablesOf (now (work .entry)) t top)) ⌝ }
 {
+    let mark = mark_of(forest, work, i, held, count);
     let mut found = Found::Nothing;
     let mut end = top;
     let mut d = t.depth;
@@ -158,10 +161,13 @@ pub fn find(
         let mut k = end;
         while start < k {
             k -= 1;
-            let s = work[ENTRIES + k];
-            if same_key(forest, work, s as usize, i, field, held, count) {
-                found = Found::At(s);
-                break 'tables;
+            let e = work[ENTRIES + k];
+            if e / 512 == mark {
+                let s = e % 512;
+                if same_key(forest, work, s as usize, i, field, held, count) {
+                    found = Found::At(s);
+                    break 'tables;
+                }
             }
         }
         end = start;

@@ -14,8 +14,11 @@ finish-requires c κs =
       s .pre .0 .laid,
       (
         p .0,
-        general-ready (now (a .forest)) (now (a .work)) (a .st) (a .i) (a .cur) (a .held) (a .count) (a .b)
-            (k .node-for .result) (k .node-for .ensures) (s .pre .0) (p .1 .0) (p .1 .1),
+        (
+          p .1 .0,
+          general-ready (now (a .forest)) (now (a .work)) (a .t) (a .st) (a .i) (a .cur) (a .held) (a .count) (a .b)
+              (k .node-for .result) (k .node-for .ensures) (s .pre .0) (p .1 .1 .0) (p .1 .1 .1),
+        ),
       ),
     )
 
@@ -24,7 +27,7 @@ returns c =
     let f = c .before .before in
     let k = f .before .before in
     let a = k .before .before .before .args in
-    general-answers (now (a .forest)) (now (a .work)) (a .st) (a .i) (a .cur) (a .held) (a .count) (a .b)
+    general-answers (now (a .forest)) (now (a .work)) (a .t) (a .st) (a .i) (a .cur) (a .held) (a .count) (a .b)
     (k .node-for .result) _ (f .finish .result) (k .node-for .ensures) (f .finish .ensures)
 
 pub general-spec : {M : Type 1} → statement M

@@ -9,11 +9,11 @@ use Rattle.intern.proofs.conclude.Tie as tie
 
 kids-requires : tie.Need-kids-requires
 kids-requires c κs =
-    let p = c .before .before .before .before .pre in (p .0 .laid, p .1 .1 .0 .from)
+    let p = c .before .before .before .before .pre in (p .0 .laid, p .1 .1 .1 .0 .from)
 
 shape-requires : tie.Need-shape-requires
 shape-requires c κs =
-    let p = c .before .before .before .before .before .pre in (p .0 .laid, p .1 .1 .0 .from)
+    let p = c .before .before .before .before .before .pre in (p .0 .laid, p .1 .1 .1 .0 .from)
 
 last-requires : tie.Need-last-requires
 last-requires c κs =
@@ -23,8 +23,8 @@ last-requires c κs =
     let c8 = c3 .before .before .before .before .before in
     let p = c8 .pre in
     let n = c3 .kids .ensures .0 in
-    let some = def-last _ _ (p .0) (p .1 .1 .0 .from) (sym (c2 .shape .ensures) ∙ c1 .if1 .taken) in
-    (omega (arith, n, some), omega (arith, n, p .1 .1 .0 .pending), omega (arith, p .1 .0 .words))
+    let some = def-last _ _ (p .0) (p .1 .1 .1 .0 .from) (sym (c2 .shape .ensures) ∙ c1 .if1 .taken) in
+    (omega (arith, n, some), omega (arith, n, p .1 .1 .1 .0 .pending), omega (arith, p .1 .0 .words))
 
 returns : tie.Need-returns
 returns c =
@@ -35,7 +35,7 @@ returns c =
     let p = c9 .pre in
     let a = c9 .args in
     let e = sym (c3 .shape .ensures) ∙ c2 .if1 .taken in
-    last-answers-10 (now (a .forest)) (now (a .work)) (a .i) (a .at) (a .k) (p .1 .0) (p .1 .1 .0) _ _
+    last-answers-10 (now (a .forest)) (now (a .work)) (a .t) (a .i) (a .at) (a .k) (p .1 .0) (p .1 .1 .1 .0) _ _
     (c4 .kids .ensures .0) (c .last .ensures) (p .0) e
 
 last-requires-2 : tie.Need-last-requires-2
@@ -46,8 +46,8 @@ last-requires-2 c κs =
     let c9 = c4 .before .before .before .before .before in
     let p = c9 .pre in
     let n = c4 .kids .ensures .0 in
-    let some = block-last _ _ (p .0) (p .1 .1 .0 .from) (sym (c3 .shape .ensures) ∙ c1 .if2 .taken) in
-    (omega (arith, n, some), omega (arith, n, p .1 .1 .0 .pending), omega (arith, p .1 .0 .words))
+    let some = block-last _ _ (p .0) (p .1 .1 .1 .0 .from) (sym (c3 .shape .ensures) ∙ c1 .if2 .taken) in
+    (omega (arith, n, some), omega (arith, n, p .1 .1 .1 .0 .pending), omega (arith, p .1 .0 .words))
 
 returns-2 : tie.Need-returns-2
 returns-2 c =
@@ -58,14 +58,14 @@ returns-2 c =
     let p = c10 .pre in
     let a = c10 .args in
     let e = sym (c4 .shape .ensures) ∙ c2 .if2 .taken in
-    last-answers-11 (now (a .forest)) (now (a .work)) (a .i) (a .at) (a .k) (p .1 .0) (p .1 .1 .0) _ _
+    last-answers-11 (now (a .forest)) (now (a .work)) (a .t) (a .i) (a .at) (a .k) (p .1 .0) (p .1 .1 .1 .0) _ _
     (c5 .kids .ensures .0) (c .last2 .ensures) (p .0) e
 
 general-requires : tie.Need-general-requires
 general-requires c κs =
     let c4 = c .before .before .before .before in
     let c9 = c4 .before .before .before .before .before in
-    let p = c9 .pre in (p .0, (p .1 .0, (rw (c4 .kids .ensures .0) (p .1 .1 .0), p .1 .1 .1)))
+    let p = c9 .pre in (p .0, (p .1 .0, (p .1 .1 .0, (rw (c4 .kids .ensures .0) (p .1 .1 .1 .0), p .1 .1 .1 .1))))
 
 returns-3 : tie.Need-returns-3
 returns-3 c =
@@ -76,7 +76,7 @@ returns-3 c =
     let c7 = c6 .before in
     let c12 = c7 .before .before .before .before .before in
     let a = c12 .args in
-    general-answers (now (a .forest)) (now (a .work)) (a .i) (a .at) (a .k)
+    general-answers (now (a .forest)) (now (a .work)) (a .t) (a .i) (a .at) (a .k)
     (λ e. c5 .if1 .left (c6 .shape .ensures ∙ e)) (λ e. c4 .if2 .left (c6 .shape .ensures ∙ e)) _
     (c7 .kids .ensures .0) _ _ (c2 .general .ensures)
 

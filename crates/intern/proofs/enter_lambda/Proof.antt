@@ -27,7 +27,7 @@ alloc-args-requires c κs =
       p .0 .laid,
       (
         p .1 .1 .0 .rep,
-        lambda-binds (now (a .forest)) (now (a .work)) (a .st) (a .i) (a .at) (p .0) (p .1 .0 .0) (p .1 .0 .1)
+        lambda-binds (now (a .forest)) (now (a .work)) (a .t) (a .st) (a .i) (a .at) (p .0) (p .1 .0 .0) (p .1 .0 .1)
             (p .1 .1 .0) (p .1 .1 .1) _ n,
       ),
     )
@@ -42,7 +42,7 @@ returns c =
     let a = c11 .args in
     let n = c7 .wide .ensures .0 ∙ c8 .aux .ensures in
     let made = c5 .alloc-args in
-    enter-refused (now (a .forest)) (now (a .work)) (a .st) (a .i) (a .at) (p .0) (p .1 .0 .0) (p .1 .0 .1)
+    enter-refused (now (a .forest)) (now (a .work)) (a .t) (a .st) (a .i) (a .at) (p .0) (p .1 .0 .0) (p .1 .0 .1)
     (p .1 .1 .0) (p .1 .1 .1) _
     (made .result) _ n (made .ensures) (c .if1 .taken)
 
@@ -56,7 +56,7 @@ first-of-requires c κs =
     let a = c11 .args in
     let n = c7 .wide .ensures .0 ∙ c8 .aux .ensures in
     let made = c5 .alloc-args in
-    enter-few (now (a .forest)) (now (a .work)) (a .st) (a .i) (a .at) (p .0) (p .1 .0 .0) (p .1 .0 .1) (p .1 .1 .0)
+    enter-few (now (a .forest)) (now (a .work)) (a .t) (a .st) (a .i) (a .at) (p .0) (p .1 .0 .0) (p .1 .0 .1) (p .1 .1 .0)
     (p .1 .1 .1) _
     (made .result) _ n (made .ensures) (c .if1 .left)
 
@@ -73,7 +73,7 @@ open-body-requires c κs =
     let n = c9 .wide .ensures .0 ∙ c10 .aux .ensures in
     let made = c7 .alloc-args in
     let room =
-    enter-room (now (a .forest)) (now (a .work)) (a .st) (a .i) (a .at) (p .0) (p .1 .0 .0) (p .1 .0 .1) (p .1 .1 .0)
+    enter-room (now (a .forest)) (now (a .work)) (a .t) (a .st) (a .i) (a .at) (p .0) (p .1 .0 .0) (p .1 .0 .1) (p .1 .1 .0)
     (p .1 .1 .1) _
     (made .result) _ n (made .ensures) (c2 .if1 .left) in
     (room .0, ((room .1, room .2), ((c1 .first-of .ensures .1, room .3), room .4)))
@@ -93,7 +93,7 @@ bind-args-requires c κs =
     let made = c11 .alloc-args in
     let first = c5 .first-of in
     let room =
-    enter-bind (now (a .forest)) (now (a .work)) (a .st) (a .i) (a .at) (p .0) (p .1 .0 .0) (p .1 .0 .1) (p .1 .1 .0)
+    enter-bind (now (a .forest)) (now (a .work)) (a .t) (a .st) (a .i) (a .at) (p .0) (p .1 .0 .0) (p .1 .0 .1) (p .1 .1 .0)
     (p .1 .1 .1) _
     (made .result) _ n (made .ensures) (c6 .if1 .left) (first .result) (first .ensures .0) (first .ensures .1) _
     (c3 .open-body .ensures .0) in
@@ -116,7 +116,7 @@ returns-2 c =
     let first = c8 .first-of in
     let opened = c6 .open-body in
     let bound = c2 .bind-args in
-    enter-done (now (a .forest)) (now (a .work)) (a .st) (a .i) (a .at) (p .0) (p .1 .0 .0) (p .1 .0 .1) (p .1 .1 .0)
+    enter-done (now (a .forest)) (now (a .work)) (a .t) (a .st) (a .i) (a .at) (p .0) (p .1 .0 .0) (p .1 .0 .1) (p .1 .1 .0)
     (p .1 .1 .1) _
     (made .result) _ n (made .ensures) (c9 .if1 .left) (first .result) (first .ensures .0) (first .ensures .1) _
     (opened .ensures .0) _ (opened .ensures .1) _ _ (bound .ensures)

@@ -12,20 +12,23 @@ use Rattle.interner.proofs.finish.Tie as tie
 
 find-requires : tie.Need-find-requires
 find-requires c κs =
-    let q = c .before .before .before in
+    let q = c .before .before in
     let s = q .before .before .before in
     let a = s .args in
     let rep = s .pre .1 .0 in
-    let fresh = s .pre .1 .1 .fresh in (
+    let fresh = s .pre .1 .1 .1 .fresh in (
       s .pre .0,
       (
         sought-from (now (a .forest)) (now (a .work)) (a .st) (a .cur) (a .node) (a .held) (a .count) rep
             (q .parts-of .result) (q .parts-of .ensures) (fresh .from),
         (
-          rep .opened,
+          s .pre .1 .1 .0,
           (
             sought-entries (now (a .forest)) (now (a .work)) (a .st) (a .cur) (a .node) (a .held) (a .count) rep,
-            (fresh .pending, omega (arith, rep .words)),
+            (
+              (fresh .pending, omega (arith, rep .words)),
+              λ k lt. let l = fresh .lower k lt in omega (arith, l, rep .few-symbols),
+            ),
           ),
         ),
       ),
@@ -33,19 +36,19 @@ find-requires c κs =
 
 key-levels-requires : tie.Need-key-levels-requires
 key-levels-requires c κs =
-    let s = c .before .before .before .before .before .before .before .before .before .before in
+    let s = c .before .before .before .before .before .before .before .before .before in
     let rep = s .pre .1 .0 in
-    let fresh = s .pre .1 .1 .fresh in (
+    let fresh = s .pre .1 .1 .1 .fresh in (
       (fresh .pending, rep .words),
       ((λ k lt. let l = fresh .lower k lt in omega (arith, l, rep .few-symbols)), fresh .second),
     )
 
 alloc-requires : tie.Need-alloc-requires
 alloc-requires c κs =
-    let s = c .before .before .before .before .before .before .before .before .before .before .before .before in
+    let s = c .before .before .before .before .before .before .before .before .before .before .before in
     let a = s .args in
     let rep = s .pre .1 .0 in
-    let ready = s .pre .1 .1 in (
+    let ready = s .pre .1 .1 .1 in (
       s .pre .0,
       (
         rep,
@@ -60,14 +63,14 @@ alloc-requires c κs =
 returns : tie.Need-returns
 returns c =
     let f = c .before .before .before .before in
-    let q = f .before .before .before .before in
+    let q = f .before .before .before in
     let s = q .before .before .before in
     let a = s .args in
     let rep = s .pre .1 .0 in
-    found-answers (now (a .forest)) (now (a .work)) (a .st) (a .cur) (a .node) (a .held) (a .count) rep _
-    (c .given .result)
-    (found-is (now (a .forest)) (now (a .work)) (a .st) (a .cur) (a .node) (a .held) (a .count) rep
-    (q .parts-of .result) (q .parts-of .ensures)
+    found-answers (now (a .forest)) (now (a .work)) (a .t) (a .st) (a .cur) (a .node) (a .held) (a .count) rep
+    (s .pre .1 .1 .0) _ (c .given .result)
+    (found-is (now (a .forest)) (now (a .work)) (a .t) (a .st) (a .cur) (a .node) (a .held) (a .count) rep
+    (s .pre .1 .1 .0) (q .parts-of .result) (q .parts-of .ensures)
     (f .find .result) _ (f .find .ensures) (ap foundOf (c .before .before .s .given .1)))
     (c .given .ensures)
 
@@ -76,16 +79,16 @@ returns-2 c =
     let m = c .before .before in
     let t = m .before .before .before .before in
     let f = t .before .before in
-    let q = f .before .before .before .before in
+    let q = f .before .before .before in
     let s = q .before .before .before in
     let a = s .args in
     let rep = s .pre .1 .0 in
-    made-answers (now (a .forest)) (now (a .work)) (a .st) (a .cur) (a .node) (a .held) (a .count) rep _
-    (m .alloc .result) (s .pre .1 .1 .keyed)
-    (found-is (now (a .forest)) (now (a .work)) (a .st) (a .cur) (a .node) (a .held) (a .count) rep
-    (q .parts-of .result) (q .parts-of .ensures)
+    made-answers (now (a .forest)) (now (a .work)) (a .t) (a .st) (a .cur) (a .node) (a .held) (a .count) rep
+    (s .pre .1 .1 .0) _ (m .alloc .result) (s .pre .1 .1 .1 .keyed)
+    (found-is (now (a .forest)) (now (a .work)) (a .t) (a .st) (a .cur) (a .node) (a .held) (a .count) rep
+    (s .pre .1 .1 .0) (q .parts-of .result) (q .parts-of .ensures)
     (f .find .result) none (f .find .ensures) (ap foundOf (t .enum-told .given .1)))
-    (m .alloc .ensures)
+    (m .alloc .ensures (a .t) (s .pre .1 .1 .0))
 
 pub finish-spec : {M : Type 1} → statement M
 finish-spec =

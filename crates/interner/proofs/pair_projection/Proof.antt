@@ -13,7 +13,13 @@ new-projections-requires c κs =
     let r = t .before .before in
     let s = r .before .before .before .before .before in (
       s .pre .0,
-      (s .pre .1 .0, (s .pre .1 .1, sym (r .recall .ensures) ∙ ap projectionsOf (t .enum-told .given .1))),
+      (
+        s .pre .1 .0,
+        (
+          s .pre .1 .1 .0,
+          (s .pre .1 .1 .1, sym (r .recall .ensures) ∙ ap projectionsOf (t .enum-told .given .1)),
+        ),
+      ),
     )
 
 returns : tie.Need-returns
@@ -22,8 +28,9 @@ returns c =
     let r = w .before .before in
     let s = r .before .before .before .before .before in
     let a = s .args in
-    recalled (now (a .forest)) (now (a .work)) (a .st) (a .cur) (a .at) (a .held) (a .field) _ _ (c .picked .result)
-    (s .pre .1 .0) (sym (r .recall .ensures) ∙ ap projectionsOf (w .a .given .1)) (c .picked .ensures)
+    recalled (now (a .forest)) (now (a .work)) (a .t) (a .st) (a .cur) (a .at) (a .held) (a .field) _ _
+    (c .picked .result) (s .pre .1 .0) (sym (r .recall .ensures) ∙ ap projectionsOf (w .a .given .1))
+    (c .picked .ensures)
 
 returns-2 : tie.Need-returns-2
 returns-2 c =
@@ -32,7 +39,7 @@ returns-2 c =
     let r = t .before .before in
     let s = r .before .before .before .before .before in
     let a = s .args in
-    not-recalled (now (a .forest)) (now (a .work)) (a .st) (a .cur) (a .at) (a .held) (a .field) _
+    not-recalled (now (a .forest)) (now (a .work)) (a .t) (a .st) (a .cur) (a .at) (a .held) (a .field) _
     (m .new-projections .result) (sym (r .recall .ensures) ∙ ap projectionsOf (t .enum-told .given .1))
     (m .new-projections .ensures)
 

@@ -17,7 +17,7 @@ placement-requires c κs =
       nested-less _ (s .args .st .scopes) (s .args .cur + 1) (omega (arith, fresh .current)) (rep .nested),
     )
 
-cast-scope : tie.Need-cast-t19
+cast-scope : tie.Need-cast-t17
 cast-scope c =
     let s = c .before .before .before .before in
     let p = s .pre .1 in
@@ -36,7 +36,7 @@ make-requires c κs =
 
 returns : tie.Need-returns
 returns c =
-    let m = c .before .before .before in
+    let m = c .before .before in
     let q = m .before .before in
     let s = q .before .before .before .before in
     let p = s .pre .1 in

@@ -7,9 +7,9 @@ use Rattle.interner.proofs.start.Tie as tie
 
 returns : tie.Need-returns
 returns c =
-    let o = c .before .before .before in
+    let o = c .before .before in
     let s = o .before .before .before in
-    started (now (s .args .work)) (s .pre) _ (c .new .result) (o .open-outermost .ensures) (c .new .ensures)
+    started (now (s .args .work)) (s .pre) _ (o .open-outermost .ensures)
 
 pub start-spec : {M : Type 1} → statement M
-start-spec = tie.close (tie.spec (λ c κs. search needs) (λ c κs. search needs) (λ c. search needs) returns)
+start-spec = tie.close (tie.spec (λ c κs. search needs) (λ c. search needs) returns)

@@ -5,18 +5,15 @@ use native.Mathlib.Omega.{arith}
 use denote.Ref.{now}
 use Rattle.walk.proofs.Bridge.{records-few}
 use Rattle.intern.proofs.Gives.{keyed-operands, field-one, field-fails}
-use Rattle.intern.proofs.Gives.{field-selects, field-input, field-once, field-done, again-stands, again-kids}
-use Rattle.intern.proofs.Gives.{again-done}
+use Rattle.intern.proofs.Gives.{field-selects, field-input, field-once, field-done, again-done}
 use Rattle.intern.proofs.field.Reads as field
 use Rattle.intern.proofs.+child+field+keyed+lambda+operands+subtree.Lts-field as field-lts
-use Rattle.intern.proofs.keyed.Reads as keyed
 use Rattle.intern.proofs.operands.Reads as operands
 use Rattle.concluding.proofs.field.Reads as field-reads
 use Rattle.concluding.proofs.reads_again.Reads as reads-again-reads
 use Rattle.intern.proofs.small.refused.Reads as refused-reads
 use Rattle.record.proofs.opcode.Reads as opcode-reads
-use Rattle.intern.proofs.+child+field+keyed+lambda+operands+subtree.Proof.Measures.{field-at, keyed-below}
-use Rattle.intern.proofs.+child+field+keyed+lambda+operands+subtree.Proof.Measures.{operands-below}
+use Rattle.intern.proofs.+child+field+keyed+lambda+operands+subtree.Proof.Measures.{field-at, operands-below}
 
 pub field-part : {M : Type 1} (t : ℕ) → field-lts.Closed (
   opcode-reads.Asked,
@@ -27,8 +24,6 @@ pub field-part : {M : Type 1} (t : ℕ) → field-lts.Closed (
   refused-reads.Learnt,
   reads-again-reads.Asked,
   reads-again-reads.Learnt,
-  keyed-below t,
-  keyed.Post,
   field-reads.Asked,
   field-reads.Learnt,
 ) (field-at t) field.Post M
@@ -42,8 +37,6 @@ field-part t =
       refused-reads.Learnt,
       reads-again-reads.Asked,
       reads-again-reads.Learnt,
-      keyed-below t,
-      keyed.Post,
       field-reads.Asked,
       field-reads.Learnt,
     ) (field-at t) field.Post
@@ -53,9 +46,9 @@ field-part t =
     let c4 = c1 .before .before .before in
     let a = c4 .args in
     let p = c4 .pre .1 in
-    let one = field-one (now (a .forest)) (now (a .work)) (a .st) (a .i) (a .at) (p .0) (p .1 .0) (p .1 .1 .1 .0)
+    let one = field-one (now (a .forest)) (now (a .work)) (a .t) (a .st) (a .i) (a .at) (p .0) (p .1 .0) (p .1 .1 .1 .0)
     (p .1 .1 .1 .1) (p .1 .1 .0 .0) in
-    let operands = keyed-operands (now (a .forest)) (now (a .work)) (a .st) (a .i) (a .at) (p .0) (p .1 .0)
+    let operands = keyed-operands (now (a .forest)) (now (a .work)) (a .t) (a .st) (a .i) (a .at) (p .0) (p .1 .0)
     (p .1 .1 .1 .0) (p .1 .1 .1 .1) 1 _ one (c1 .opcode .ensures) in
     (omega (arith, c4 .pre .0, p .1 .0, records-few _ (p .0)), (p .0, operands)))
     (λ c κs. tt)
@@ -67,7 +60,7 @@ field-part t =
     let a = c11 .args in
     let p = c11 .pre .1 in
     let o = c6 .operands in
-    field-fails (now (a .forest)) (now (a .work)) (a .st) (a .i) (a .at) (p .0) (p .1 .0) (p .1 .1 .1 .0)
+    field-fails (now (a .forest)) (now (a .work)) (a .t) (a .st) (a .i) (a .at) (p .0) (p .1 .0) (p .1 .1 .1 .0)
     (p .1 .1 .1 .1) (p .1 .1 .0 .0) (p .1 .1 .0 .1) _ (c8 .opcode .ensures) _ _ (o .ensures) _ (c .refused .ensures)
     (c1 .if1 .taken))
     (λ c κs. let c1 = c .before in
@@ -77,43 +70,22 @@ field-part t =
     let a = c11 .args in
     let p = c11 .pre .1 in
     let o = c6 .operands in
-    let input = field-input (now (a .forest)) (now (a .work)) (a .st) (a .i) (a .at) (p .0) (p .1 .0) (p .1 .1 .1 .0)
+    let input = field-input (now (a .forest)) (now (a .work)) (a .t) (a .st) (a .i) (a .at) (p .0) (p .1 .0) (p .1 .1 .1 .0)
     (p .1 .1 .1 .1) (p .1 .1 .0 .0) (p .1 .1 .0 .1) _ (c8 .opcode .ensures) _ _ (o .ensures) (c1 .if1 .left) in
     (p .0, input))
-    (λ c κs. let c2 = c .before .before in
-    let c4 = c2 .before .before in
-    let c9 = c4 .before .before .before .before .before in
-    let c11 = c9 .before .before in
-    let c14 = c11 .before .before .before in
-    let a = c14 .args in
-    let p = c14 .pre .1 in
-    let o = c9 .operands in
-    let g = c2 .reads-again in
-    let stands = again-stands (now (a .forest)) (now (a .work)) (a .st) (a .i) (a .at) (p .0) (p .1 .0)
-    (p .1 .1 .1 .0) (p .1 .1 .1 .1) (p .1 .1 .0 .0) (p .1 .1 .0 .1) _ (c11 .opcode .ensures) _ _ (o .ensures)
-    (c4 .if1 .left) (g .result) (g .ensures) in
-    let well = again-kids (now (a .forest)) (now (a .work)) (a .st) (a .i) (a .at) (p .0) (p .1 .0) (p .1 .1 .1 .0)
-    (p .1 .1 .1 .1) (p .1 .1 .0 .0) (p .1 .1 .0 .1) _ (c11 .opcode .ensures) _ _ (o .ensures) (c4 .if1 .left)
-    (g .result) (g .ensures) in
-    (omega (arith, c14 .pre .0), (p .0, (p .1 .0, (stands, well)))))
-    (λ c. let c2 = c .before .before in
-    let c12 = c2 .before .before .before .before .before .before .before .before .before .before in
-    c2 .keyed .kept .1 .0 ∙ c12 .operands .kept .1 .0)
-    (λ c. let c2 = c .before .before in
-    let c4 = c2 .before .before in
-    let c5 = c4 .before in
-    let c7 = c5 .before .before in
-    let c12 = c7 .before .before .before .before .before in
-    let c14 = c12 .before .before in
-    let c17 = c14 .before .before .before in
-    let a = c17 .args in
-    let p = c17 .pre .1 in
-    let o = c12 .operands in
-    let g = c5 .reads-again in
-    again-done (now (a .forest)) (now (a .work)) (a .st) (a .i) (a .at) (p .0) (p .1 .0) (p .1 .1 .1 .0)
-    (p .1 .1 .1 .1) (p .1 .1 .0 .0) (p .1 .1 .0 .1) _ (c14 .opcode .ensures) _ _ (o .ensures) (c7 .if1 .left)
-    (g .result) (g .ensures) (c4 .if2 .taken) _ _
-    (c2 .keyed .ensures))
+    (λ c. let c8 = c .before .before .before .before .before .before .before .before in c8 .operands .kept .1 .0)
+    (λ c. let c1 = c .before in
+    let c3 = c1 .before .before in
+    let c8 = c3 .before .before .before .before .before in
+    let c10 = c8 .before .before in
+    let c13 = c10 .before .before .before in
+    let a = c13 .args in
+    let p = c13 .pre .1 in
+    let o = c8 .operands in
+    let g = c1 .reads-again in
+    again-done (now (a .forest)) (now (a .work)) (a .t) (a .st) (a .i) (a .at) (p .0) (p .1 .0) (p .1 .1 .1 .0)
+    (p .1 .1 .1 .1) (p .1 .1 .0 .0) (p .1 .1 .0 .1) _ (c10 .opcode .ensures) _ _ (o .ensures) (c3 .if1 .left)
+    (g .result) (g .ensures) (c .if2 .taken))
     (λ c κs. let c1 = c .before in
     let c2 = c1 .before in
     let c4 = c2 .before .before in
@@ -124,13 +96,13 @@ field-part t =
     let p = c14 .pre .1 in
     let o = c9 .operands in
     let g = c2 .reads-again in
-    let selects = field-selects (now (a .forest)) (now (a .work)) (a .st) (a .i) (a .at) (p .0) (p .1 .0)
+    let selects = field-selects (now (a .forest)) (now (a .work)) (a .t) (a .st) (a .i) (a .at) (p .0) (p .1 .0)
     (p .1 .1 .1 .0) (p .1 .1 .1 .1) (p .1 .1 .0 .0) (p .1 .1 .0 .1) _ (c11 .opcode .ensures) _ _ (o .ensures)
     (c4 .if1 .left) in
-    let once = field-once (now (a .forest)) (now (a .work)) (a .st) (a .i) (a .at) (p .0) (p .1 .0) (p .1 .1 .1 .0)
+    let once = field-once (now (a .forest)) (now (a .work)) (a .t) (a .st) (a .i) (a .at) (p .0) (p .1 .0) (p .1 .1 .1 .0)
     (p .1 .1 .1 .1) (p .1 .1 .0 .0) (p .1 .1 .0 .1) _ (c11 .opcode .ensures) _ _ (o .ensures) (c4 .if1 .left)
     (g .result) (g .ensures) (c1 .if2 .left) in
-    (p .0, (o .ensures .rep, (selects, once))))
+    (p .0, (o .ensures .rep, (o .ensures .opened, (selects, once)))))
     (λ c. let c2 = c .before .before in
     let c12 = c2 .before .before .before .before .before .before .before .before .before .before in
     c2 .field .kept .1 .0 ∙ c12 .operands .kept .1 .0)
@@ -144,7 +116,7 @@ field-part t =
     let p = c17 .pre .1 in
     let o = c12 .operands in
     let g = c5 .reads-again in
-    field-done (now (a .forest)) (now (a .work)) (a .st) (a .i) (a .at) (p .0) (p .1 .0) (p .1 .1 .1 .0)
+    field-done (now (a .forest)) (now (a .work)) (a .t) (a .st) (a .i) (a .at) (p .0) (p .1 .0) (p .1 .1 .1 .0)
     (p .1 .1 .1 .1) (p .1 .1 .0 .0) (p .1 .1 .0 .1) _ (c14 .opcode .ensures) _ _ (o .ensures) (c7 .if1 .left)
     (g .result) (g .ensures) _ _
     (c2 .field .ensures _ _))

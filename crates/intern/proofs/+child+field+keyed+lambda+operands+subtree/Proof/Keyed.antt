@@ -48,7 +48,7 @@ keyed-part t =
     let c5 = c2 .before .before .before in
     let a = c5 .args in
     let p = c5 .pre .1 in
-    let operands = keyed-operands (now (a .forest)) (now (a .work)) (a .st) (a .i) (a .at) (p .0) (p .1 .0)
+    let operands = keyed-operands (now (a .forest)) (now (a .work)) (a .t) (a .st) (a .i) (a .at) (p .0) (p .1 .0)
     (p .1 .1 .0) (p .1 .1 .1) _ _ (c2 .kids .ensures .0) (c1 .opcode .ensures) in
     (omega (arith, c5 .pre .0, p .1 .0, records-few _ (p .0)), (p .0, operands)))
     (λ c κs. tt)
@@ -60,7 +60,7 @@ keyed-part t =
     let c12 = c9 .before .before .before in
     let a = c12 .args in
     let p = c12 .pre .1 in
-    keyed-refused (now (a .forest)) (now (a .work)) (a .st) (a .i) (a .at) (p .0) (p .1 .0) (p .1 .1 .0) (p .1 .1 .1)
+    keyed-refused (now (a .forest)) (now (a .work)) (a .t) (a .st) (a .i) (a .at) (p .0) (p .1 .0) (p .1 .1 .0) (p .1 .1 .1)
     _ _ (c9 .kids .ensures .0) (c8 .opcode .ensures) _ _ (c6 .operands .ensures) _ (c .refused .ensures)
     (c2 .if1 .taken))
     (λ c κs. let c1 = c .before in
@@ -71,9 +71,9 @@ keyed-part t =
     let a = c11 .args in
     let p = c11 .pre .1 in
     let v = c5 .operands .ensures in
-    let concludes = keyed-conclude (now (a .forest)) (now (a .work)) (a .st) (a .i) (a .at) (p .0) (p .1 .0)
+    let concludes = keyed-conclude (now (a .forest)) (now (a .work)) (a .t) (a .st) (a .i) (a .at) (p .0) (p .1 .0)
     (p .1 .1 .0) (p .1 .1 .1) _ _ (c8 .kids .ensures .0) (c7 .opcode .ensures) _ _ v (c1 .if1 .left) in
-    (p .0, (v .rep, (concludes, v .branched))))
+    (p .0, (v .rep, (v .opened, (concludes, v .branched)))))
     (λ c. let c2 = c .before .before in
     let c8 = c2 .before .before .before .before .before .before in
     c2 .conclude .kept .1 .0 ∙ c8 .operands .kept .1 .0)
@@ -85,6 +85,6 @@ keyed-part t =
     let c14 = c11 .before .before .before in
     let a = c14 .args in
     let p = c14 .pre .1 in
-    keyed-done (now (a .forest)) (now (a .work)) (a .st) (a .i) (a .at) (p .0) (p .1 .0) (p .1 .1 .0) (p .1 .1 .1) _ _
+    keyed-done (now (a .forest)) (now (a .work)) (a .t) (a .st) (a .i) (a .at) (p .0) (p .1 .0) (p .1 .1 .0) (p .1 .1 .1) _ _
     (c11 .kids .ensures .0) (c10 .opcode .ensures) _ _ (c8 .operands .ensures) (c4 .if1 .left) _ _
     (c2 .conclude .ensures))

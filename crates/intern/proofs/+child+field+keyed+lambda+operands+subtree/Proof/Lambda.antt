@@ -49,7 +49,7 @@ lambda-part t =
     let c10 = c6 .before .before .before .before in
     let a = c10 .args in
     let p = c10 .pre .1 in
-    lambda-unmade (now (a .forest)) (now (a .work)) (a .st) (a .i) (a .at) (p .0) (p .1 .0 .0) (p .1 .0 .1)
+    lambda-unmade (now (a .forest)) (now (a .work)) (a .t) (a .st) (a .i) (a .at) (p .0) (p .1 .0 .0) (p .1 .0 .1)
     (p .1 .1 .0) (p .1 .1 .1) _ _ (c6 .enter-lambda .ensures) _ (c .refused .ensures) (c1 .if1 .taken))
     (λ c κs. let c10 = c .before .before .before .before .before .before .before .before .before .before in
     let p = c10 .pre .1 in (p .0 .laid, p .1 .0 .0))
@@ -62,7 +62,7 @@ lambda-part t =
     let c12 = c8 .before .before .before .before in
     let a = c12 .args in
     let p = c12 .pre .1 in
-    let operands = lambda-operands (now (a .forest)) (now (a .work)) (a .st) (a .i) (a .at) (p .0) (p .1 .0 .0)
+    let operands = lambda-operands (now (a .forest)) (now (a .work)) (a .t) (a .st) (a .i) (a .at) (p .0) (p .1 .0 .0)
     (p .1 .0 .1) (p .1 .1 .0) (p .1 .1 .1) _ _ (c8 .enter-lambda .ensures) (c3 .if1 .left) _ (c1 .opcode .ensures) in
     (omega (arith, c12 .pre .0, p .1 .0 .0, records-few _ (p .0)), (p .0, operands)))
     (λ c κs. tt)
@@ -77,7 +77,7 @@ lambda-part t =
     let c19 = c15 .before .before .before .before in
     let a = c19 .args in
     let p = c19 .pre .1 in
-    lambda-refused (now (a .forest)) (now (a .work)) (a .st) (a .i) (a .at) (p .0) (p .1 .0 .0) (p .1 .0 .1)
+    lambda-refused (now (a .forest)) (now (a .work)) (a .t) (a .st) (a .i) (a .at) (p .0) (p .1 .0 .0) (p .1 .0 .1)
     (p .1 .1 .0) (p .1 .1 .1) _ _ (c15 .enter-lambda .ensures) (c10 .if1 .left) _ (c8 .opcode .ensures) _ _
     (c6 .operands .ensures) _
     (c .refused2 .ensures) (c1 .if2 .taken))
@@ -90,16 +90,16 @@ lambda-part t =
     let a = c19 .args in
     let p = c19 .pre .1 in
     let v = c6 .operands .ensures in
-    let concludes = lambda-conclude (now (a .forest)) (now (a .work)) (a .st) (a .i) (a .at) (p .0) (p .1 .0 .0)
+    let concludes = lambda-conclude (now (a .forest)) (now (a .work)) (a .t) (a .st) (a .i) (a .at) (p .0) (p .1 .0 .0)
     (p .1 .0 .1) (p .1 .1 .0) (p .1 .1 .1) _ _ (c15 .enter-lambda .ensures) (c10 .if1 .left) _ (c8 .opcode .ensures) _
     _ v (c1 .if2 .left) in
-    let body = lambda-body (now (a .forest)) (now (a .work)) (a .st) (a .i) (a .at) (p .0) (p .1 .0 .0) (p .1 .0 .1)
+    let body = lambda-body (now (a .forest)) (now (a .work)) (a .t) (a .st) (a .i) (a .at) (p .0) (p .1 .0 .0) (p .1 .0 .1)
     (p .1 .1 .0) (p .1 .1 .1) _ _ (c15 .enter-lambda .ensures) (c10 .if1 .left) _ (c8 .opcode .ensures) _ _ v
     (c1 .if2 .left) in
-    let first = lambda-first (now (a .forest)) (now (a .work)) (a .st) (a .i) (a .at) (p .0) (p .1 .0 .0) (p .1 .0 .1)
+    let first = lambda-first (now (a .forest)) (now (a .work)) (a .t) (a .st) (a .i) (a .at) (p .0) (p .1 .0 .0) (p .1 .0 .1)
     (p .1 .1 .0) (p .1 .1 .1) _ _ (c15 .enter-lambda .ensures) (c10 .if1 .left) _ (c8 .opcode .ensures) _ _ v
     (c1 .if2 .left) in
-    (p .0, (v .rep, (concludes, ((p .1 .0 .1, first), body)))))
+    (p .0, (v .rep, (v .opened, (concludes, ((p .1 .0 .1, first), body))))))
     (λ c. let c2 = c .before .before in
     let c9 = c2 .before .before .before .before .before .before .before in
     let c18 = c9 .before .before .before .before .before .before .before .before .before in
@@ -113,7 +113,7 @@ lambda-part t =
     let c22 = c18 .before .before .before .before in
     let a = c22 .args in
     let p = c22 .pre .1 in
-    lambda-done (now (a .forest)) (now (a .work)) (a .st) (a .i) (a .at) (p .0) (p .1 .0 .0) (p .1 .0 .1) (p .1 .1 .0)
+    lambda-done (now (a .forest)) (now (a .work)) (a .t) (a .st) (a .i) (a .at) (p .0) (p .1 .0 .0) (p .1 .0 .1) (p .1 .1 .0)
     (p .1 .1 .1) _ _ (c18 .enter-lambda .ensures) (c13 .if1 .left) _ (c11 .opcode .ensures) _ _
     (c9 .operands .ensures)
     (c4 .if2 .left) _ _ (c2 .lambda .ensures))

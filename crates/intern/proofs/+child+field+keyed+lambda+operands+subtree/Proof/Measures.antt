@@ -17,22 +17,22 @@ use Rattle.intern.proofs.subtree.Reads as subtree
 use Rattle.intern.proofs.subtree.Kinds as subtree-kinds
 
 abbrev pub μ-child : Measures 2 child-kinds.ps ℕ
-μ-child κs a = 5 * (256 - a .1 .1 .0) + 3
+μ-child κs a = 5 * (256 - a .1 .1 .1 .0) + 3
 
 abbrev pub μ-field : Measures 2 field-kinds.ps ℕ
-μ-field κs a = 5 * (256 - a .1 .1 .0) + 1
+μ-field κs a = 5 * (256 - a .1 .1 .1 .0) + 1
 
 abbrev pub μ-keyed : Measures 2 keyed-kinds.ps ℕ
-μ-keyed κs a = 5 * (256 - a .1 .1 .0) + 0
+μ-keyed κs a = 5 * (256 - a .1 .1 .1 .0) + 0
 
 abbrev pub μ-lambda : Measures 2 lambda-kinds.ps ℕ
-μ-lambda κs a = 5 * (256 - a .1 .1 .0) + 1
+μ-lambda κs a = 5 * (256 - a .1 .1 .1 .0) + 1
 
 abbrev pub μ-operands : Measures 2 operands-kinds.ps ℕ
-μ-operands κs a = 5 * (256 - a .1 .1 .0) + 4
+μ-operands κs a = 5 * (256 - a .1 .1 .1 .0) + 4
 
 abbrev pub μ-subtree : Measures 2 subtree-kinds.ps ℕ
-μ-subtree κs a = 5 * (256 - a .1 .1 .0) + 2
+μ-subtree κs a = 5 * (256 - a .1 .1 .1 .0) + 2
 
 abbrev pub child-at : ℕ → In 2 child-kinds.ps
 child-at t = and 2 child-kinds.ps (is 2 child-kinds.ps μ-child t) child.Pre

@@ -20,11 +20,11 @@ use Rattle.intern.proofs.small.with_child.Reads as with-child-reads
 use Rattle.intern.proofs.+child+field+keyed+lambda+operands+subtree.Proof.Measures.{child-below, operands-at}
 
 abbrev loop-inv : operands-lts.InvT-loop
-loop-inv forest work₀ i count op at held k₀ top₀ j₀ work k top j =
-    Reading forest i count op at work₀ (k₀ .st) work k top j
+loop-inv forest work₀ t i count op at held k₀ top₀ j₀ work k top j =
+    Reading forest t i count op at work₀ (k₀ .st) work k top j
 
 abbrev loop-measure : operands-lts.MeasureT-loop
-loop-measure forest work₀ i count op at held k₀ top₀ j₀ work k top j = count - j
+loop-measure forest work₀ t i count op at held k₀ top₀ j₀ work k top j = count - j
 
 pub operands-part : {M : Type 1} (t : ℕ) → operands-lts.Closed (
   unread-reads.Asked,
@@ -64,7 +64,7 @@ operands-part t =
     (λ c. let c3 = c .before .before .before in
     let a = c3 .args in
     let p = c3 .pre .1 in
-    loop-start (now (a .forest)) (a .i) (a .count) (a .op) (a .at) (now (a .work)) (a .st) (records-few _ (p .0))
+    loop-start (now (a .forest)) (a .t) (a .i) (a .count) (a .op) (a .at) (now (a .work)) (a .st) (records-few _ (p .0))
     (p .1) _
     (c .unread .ensures))
     (λ c κs. tt)
@@ -77,11 +77,11 @@ operands-part t =
     let a = c9 .args in
     let p = c9 .pre .1 in
     let few = records-few _ (p .0) in
-    let h₀ = loop-operands (now (a .forest)) (a .i) (a .count) (a .op) (a .at) (now (a .work)) (a .st) few (p .1) _
+    let h₀ = loop-operands (now (a .forest)) (a .t) (a .i) (a .count) (a .op) (a .at) (now (a .work)) (a .st) few (p .1) _
     (c6 .unread .ensures) in
-    let there = reading-there (now (a .forest)) (a .i) (a .count) (a .op) (a .at) (now (a .work)) _ few h₀ _ _ _ _
+    let there = reading-there (now (a .forest)) (a .t) (a .i) (a .count) (a .op) (a .at) (now (a .work)) _ few h₀ _ _ _ _
     (c5 .loop .inv) (c4 .loop-test .taken) in
-    let child = reading-child (now (a .forest)) (a .i) (a .count) (a .op) (a .at) (now (a .work)) _ few h₀ _ _ _ _
+    let child = reading-child (now (a .forest)) (a .t) (a .i) (a .count) (a .op) (a .at) (now (a .work)) _ few h₀ _ _ _ _
     (c5 .loop .inv) (c4 .loop-test .taken) _ (c3 .is-thunked .ensures) _ (c .child-at .ensures) in
     (omega (arith, c9 .pre .0, there, few, c5 .loop .inv .remains .onward), (p .0, (there, child))))
     (λ c κs. tt)
@@ -99,11 +99,11 @@ operands-part t =
     let a = c16 .args in
     let p = c16 .pre .1 in
     let few = records-few _ (p .0) in
-    let h₀ = loop-operands (now (a .forest)) (a .i) (a .count) (a .op) (a .at) (now (a .work)) (a .st) few (p .1) _
+    let h₀ = loop-operands (now (a .forest)) (a .t) (a .i) (a .count) (a .op) (a .at) (now (a .work)) (a .st) few (p .1) _
     (c13 .unread .ensures) in
-    loop-reads (now (a .forest)) (a .i) (a .count) (a .op) (a .at) (now (a .work)) (a .st) few (p .1) _
+    loop-reads (now (a .forest)) (a .t) (a .i) (a .count) (a .op) (a .at) (now (a .work)) (a .st) few (p .1) _
     (c13 .unread .ensures) _ _
-    (reading-refused (now (a .forest)) (a .i) (a .count) (a .op) (a .at) (now (a .work)) _ few h₀ _ _ _ _
+    (reading-refused (now (a .forest)) (a .t) (a .i) (a .count) (a .op) (a .at) (now (a .work)) _ few h₀ _ _ _ _
     (c12 .loop .inv) (c11 .loop-test .taken) _ (c10 .is-thunked .ensures) _ _ _ (c7 .child-at .ensures)
     (c6 .child .ensures) _ (c .failed .ensures) (c1 .if1 .taken)))
     (λ c. let c5 = c .before .before .before .before .before in
@@ -126,11 +126,11 @@ operands-part t =
     let a = c16 .args in
     let p = c16 .pre .1 in
     let few = records-few _ (p .0) in
-    let h₀ = loop-operands (now (a .forest)) (a .i) (a .count) (a .op) (a .at) (now (a .work)) (a .st) few (p .1) _
+    let h₀ = loop-operands (now (a .forest)) (a .t) (a .i) (a .count) (a .op) (a .at) (now (a .work)) (a .st) few (p .1) _
     (c13 .unread .ensures) in
-    let room = reading-room (now (a .forest)) (a .i) (a .count) (a .op) (a .at) (now (a .work)) _ few h₀ _ _ _ _
+    let room = reading-room (now (a .forest)) (a .t) (a .i) (a .count) (a .op) (a .at) (now (a .work)) _ few h₀ _ _ _ _
     (c12 .loop .inv) (c11 .loop-test .taken) in
-    let there = reading-there (now (a .forest)) (a .i) (a .count) (a .op) (a .at) (now (a .work)) _ few h₀ _ _ _ _
+    let there = reading-there (now (a .forest)) (a .t) (a .i) (a .count) (a .op) (a .at) (now (a .work)) _ few h₀ _ _ _ _
     (c12 .loop .inv) (c11 .loop-test .taken) in
     (p .0, (there, room .1, simp length-set (c6 .child .ensures .rep .words))))
     (λ c κs. let c7 = c .before .before .before .before .before .before .before in
@@ -154,9 +154,9 @@ operands-part t =
     let a = c20 .args in
     let p = c20 .pre .1 in
     let few = records-few _ (p .0) in
-    let h₀ = loop-operands (now (a .forest)) (a .i) (a .count) (a .op) (a .at) (now (a .work)) (a .st) few (p .1) _
+    let h₀ = loop-operands (now (a .forest)) (a .t) (a .i) (a .count) (a .op) (a .at) (now (a .work)) (a .st) few (p .1) _
     (c17 .unread .ensures) in
-    reading-turn (now (a .forest)) (a .i) (a .count) (a .op) (a .at) (now (a .work)) _ few h₀ _ _ _ _ (c16 .loop .inv)
+    reading-turn (now (a .forest)) (a .t) (a .i) (a .count) (a .op) (a .at) (now (a .work)) _ few h₀ _ _ _ _ (c16 .loop .inv)
     (c15 .loop-test .taken) _ (c14 .is-thunked .ensures) _ _ _ (c11 .child-at .ensures)
     (c10 .child .ensures) (c5 .if1 .left) _ _ (c3 .bind-def .ensures) _ (c .with-child .ensures))
     (λ c. c .before .loop .inv .remains .kept .words .long)
@@ -166,9 +166,9 @@ operands-part t =
     let a = c5 .args in
     let p = c5 .pre .1 in
     let few = records-few _ (p .0) in
-    let h₀ = loop-operands (now (a .forest)) (a .i) (a .count) (a .op) (a .at) (now (a .work)) (a .st) few (p .1) _
+    let h₀ = loop-operands (now (a .forest)) (a .t) (a .i) (a .count) (a .op) (a .at) (now (a .work)) (a .st) few (p .1) _
     (c2 .unread .ensures) in
-    loop-reads (now (a .forest)) (a .i) (a .count) (a .op) (a .at) (now (a .work)) (a .st) few (p .1) _
+    loop-reads (now (a .forest)) (a .t) (a .i) (a .count) (a .op) (a .at) (now (a .work)) (a .st) few (p .1) _
     (c2 .unread .ensures) _ _
-    (reading-end (now (a .forest)) (a .i) (a .count) (a .op) (a .at) (now (a .work)) _ few h₀ _ _ _ _ (c1 .loop .inv)
+    (reading-end (now (a .forest)) (a .t) (a .i) (a .count) (a .op) (a .at) (now (a .work)) _ few h₀ _ _ _ _ (c1 .loop .inv)
     (c .loop-test .left)))

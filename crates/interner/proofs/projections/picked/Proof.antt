@@ -1,10 +1,10 @@
--- `interner::picked` meets its contract. Assumes nothing.
+-- `interner::projections::picked` meets its contract. Assumes nothing.
 use mathlib.Core.Path.{_∙_, sym, ap}
 use borrow.Author.Needs.{needs}
 use Rattle.interner.specs.Step.{given}
 use Rattle.interner.proofs.Fields.{pick-first, pick-second}
-use Rattle.interner.proofs.picked.Statement.{statement}
-use Rattle.interner.proofs.picked.Tie as tie
+use Rattle.interner.proofs.projections.picked.Statement.{statement}
+use Rattle.interner.proofs.projections.picked.Tie as tie
 
 returns : tie.Need-returns
 returns c =

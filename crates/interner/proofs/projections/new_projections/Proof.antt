@@ -1,14 +1,15 @@
--- `interner::new_projections` meets its contract. Assumes nothing.
+-- `interner::projections::new_projections` meets its contract. Assumes nothing.
 use Prim.Native.Nat.{ℕ}
 use mathlib.Core.List.{List}
 use native.Mathlib.Omega.{arith}
 use borrow.Author.Needs.{needs}
 use denote.Ref.{now}
+use Rattle.tables.proofs.Stack.{open-later}
 use Rattle.interner.specs.declared.State.{State}
 use Rattle.interner.specs.Step.{Projects}
 use Rattle.interner.proofs.Fields.{projects-next, first-refused, second-refused, room-memo, both-made}
-use Rattle.interner.proofs.new_projections.Statement.{statement}
-use Rattle.interner.proofs.new_projections.Tie as tie
+use Rattle.interner.proofs.projections.new_projections.Statement.{statement}
+use Rattle.interner.proofs.projections.new_projections.Tie as tie
 
 -- room for both is room for one
 one-of : (bs ws : List ℕ) (st : State) (cur at held : ℕ) → Projects bs ws st cur at held 2 →
@@ -32,8 +33,11 @@ projection-requires c κs =
       (
         s .pre .1 .0,
         (
-          one-of (now (a .forest)) (now (a .work)) (a .st) (a .cur) (a .at) (a .held) (s .pre .1 .1 .0),
-          (omega arith, omega arith),
+          s .pre .1 .1 .0,
+          (
+            one-of (now (a .forest)) (now (a .work)) (a .st) (a .cur) (a .at) (a .held) (s .pre .1 .1 .1 .0),
+            (omega arith, omega arith),
+          ),
         ),
       ),
     )
@@ -43,7 +47,7 @@ returns c =
     let f = c .before .before .before .before in
     let s = f .before .before .before .before .before in
     let a = s .args in
-    first-refused (now (a .forest)) (now (a .work)) (a .st) (a .cur) (a .at) (a .held) (a .field) _
+    first-refused (now (a .forest)) (now (a .work)) (a .t) (a .st) (a .cur) (a .at) (a .held) (a .field) _
     (f .projection .result) (f .projection .ensures) (c .if1 .taken)
 
 projection-requires-2 : tie.Need-projection-requires-2
@@ -56,9 +60,12 @@ projection-requires-2 c κs =
       (
         f .projection .ensures .rep,
         (
-          projects-next (now (a .forest)) (now (a .work)) (a .st) (a .cur) (a .at) (a .held) 1 _
-              (f .projection .result) (f .projection .ensures) (i .if1 .left) (s .pre .1 .0) (s .pre .1 .1 .0),
-          (omega arith, omega arith),
+          open-later (a .t) (a .st .entries) (s .pre .1 .1 .0) _ (f .projection .ensures .leaves .entries),
+          (
+            projects-next (now (a .forest)) (now (a .work)) (a .t) (a .st) (a .cur) (a .at) (a .held) 1 _
+                (f .projection .result) (f .projection .ensures) (i .if1 .left) (s .pre .1 .0) (s .pre .1 .1 .1 .0),
+            (omega arith, omega arith),
+          ),
         ),
       ),
     )
@@ -70,7 +77,7 @@ returns-2 c =
     let f = i .before .before .before .before in
     let s = f .before .before .before .before .before in
     let a = s .args in
-    second-refused (now (a .forest)) (now (a .work)) (a .st) (a .cur) (a .at) (a .held) (a .field) _
+    second-refused (now (a .forest)) (now (a .work)) (a .t) (a .st) (a .cur) (a .at) (a .held) (a .field) _
     (f .projection .result) (f .projection .ensures) (i .if1 .left) _ (g .projection2 .result) (g .projection2 .ensures)
     (c .if2 .taken)
 
@@ -84,11 +91,11 @@ remember-requires c κs =
     let a = s .args in
     let h = f .projection .ensures in
     let k = g .projection2 .ensures in
-    let room = room-memo (now (a .forest)) (now (a .work)) (a .st) (a .cur) (a .at) (a .held) (a .field) _
+    let room = room-memo (now (a .forest)) (now (a .work)) (a .t) (a .st) (a .cur) (a .at) (a .held) (a .field) _
     (f .projection .result) h (i .if1 .left) _ (g .projection2 .result) k (j .if2 .left) (s .pre .1 .0)
-    (s .pre .1 .1 .0) (s .pre .1 .1 .1) in
+    (s .pre .1 .1 .0) (s .pre .1 .1 .1 .0) (s .pre .1 .1 .1 .1) in
     let few = k .rep .few-symbols in
-    let p = s .pre .1 .1 .0 .low in (
+    let p = s .pre .1 .1 .1 .0 .low in (
       (room, omega (arith, k .rep .words)),
       (
         omega (arith, p, h .leaves .more, k .leaves .more, few),
@@ -106,10 +113,10 @@ returns-3 c =
     let f = i .before .before .before .before in
     let s = f .before .before .before .before .before in
     let a = s .args in
-    both-made (now (a .forest)) (now (a .work)) (a .st) (a .cur) (a .at) (a .held) (a .field) _ (f .projection .result)
-    (f .projection .ensures) (i .if1 .left) _ (g .projection2 .result) (g .projection2 .ensures) (j .if2 .left)
-    (s .pre .1 .0) (s .pre .1 .1 .0) (s .pre .1 .1 .1) _ (m .remember .result) (m .remember .ensures .0)
-    (m .remember .ensures .1)
+    both-made (now (a .forest)) (now (a .work)) (a .t) (a .st) (a .cur) (a .at) (a .held) (a .field) _
+    (f .projection .result) (f .projection .ensures) (i .if1 .left) _ (g .projection2 .result) (g .projection2 .ensures)
+    (j .if2 .left) (s .pre .1 .0) (s .pre .1 .1 .0) (s .pre .1 .1 .1 .0) (s .pre .1 .1 .1 .1) _ (m .remember .result)
+    (m .remember .ensures .0) (m .remember .ensures .1)
 
 same-length-3 : tie.Need-same-length-3
 same-length-3 c = returns-3 c .leaves .long

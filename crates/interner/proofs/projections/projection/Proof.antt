@@ -1,9 +1,9 @@
--- `interner::projection` meets its contract. Assumes nothing.
+-- `interner::projections::projection` meets its contract. Assumes nothing.
 use borrow.Author.Needs.{needs}
 use denote.Ref.{now}
 use Rattle.interner.proofs.Fields.{field-ready, field-answers}
-use Rattle.interner.proofs.projection.Statement.{statement}
-use Rattle.interner.proofs.projection.Tie as tie
+use Rattle.interner.proofs.projections.projection.Statement.{statement}
+use Rattle.interner.proofs.projections.projection.Tie as tie
 
 finish-requires : tie.Need-finish-requires
 finish-requires c κs =
@@ -13,8 +13,11 @@ finish-requires c κs =
       s .pre .0,
       (
         p .0,
-        field-ready (now (a .forest)) (now (a .work)) (a .st) (a .cur) (a .at) (a .field) (a .held) (p .0) (p .1 .0)
-            (p .1 .1 .0) (p .1 .1 .1),
+        (
+          p .1 .0,
+          field-ready (now (a .forest)) (now (a .work)) (a .st) (a .cur) (a .at) (a .field) (a .held) (p .0)
+              (p .1 .1 .0) (p .1 .1 .1 .0) (p .1 .1 .1 .1),
+        ),
       ),
     )
 
@@ -23,8 +26,8 @@ returns c =
     let f = c .before .before in
     let s = f .before .before .before .before in
     let a = s .args in
-    field-answers (now (a .forest)) (now (a .work)) (a .st) (a .cur) (a .at) (a .field) (a .held) _ (f .finish .result)
-    (s .pre .1 .1 .1 .0) (f .finish .ensures)
+    field-answers (now (a .forest)) (now (a .work)) (a .t) (a .st) (a .cur) (a .at) (a .field) (a .held) _
+    (f .finish .result) (s .pre .1 .1 .1 .1 .0) (f .finish .ensures)
 
 pub projection-spec : {M : Type 1} → statement M
 projection-spec = tie.close (tie.spec finish-requires (λ c. search needs) returns)
