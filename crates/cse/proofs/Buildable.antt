@@ -131,7 +131,8 @@ module _ (bs ws : List ℕ) (st : State) (rep : Rep bs ws st) where
 
   -- ---- building
 
-  module _ (root : ℕ) (accepted : accept bs ≡ good (treesOf bs)) (is : interned bs ≡ good (root, absOf bs ws first st)) where
+  module _ (root : ℕ) (accepted : accept bs ≡ good (treesOf bs))
+      (is : interned bs ≡ good (root, absOf bs ws first st)) where
     leaves : Leaves Any (root, absOf bs ws first st)
     leaves = forest-sound bs (treesOf bs) accepted (root, absOf bs ws first st) is
 
