@@ -130,7 +130,8 @@ module _ (bs ws : List ℕ) (t : Tables) (st : State) (i : ℕ) (at : Here) (sou
     }
 
     module _ (ok : made .number ≡ 0) where
-      gives : argsMade bs i (at .scope) (absOf bs ws t st) ≡ good (range (made .symbol) n, [], absOf bs ws₁ t (made .st))
+      gives : argsMade bs i (at .scope) (absOf bs ws t st)
+          ≡ good (range (made .symbol) n, [], absOf bs ws₁ t (made .st))
       gives = sym made-is ∙ outs-good bs ws₁ t n made ok
 
       pub enter-few : made .symbol + n ≤ 512

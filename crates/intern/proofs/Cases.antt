@@ -1,6 +1,6 @@
 -- Record i by its kind, as the definitions have it.
--- In order: the definitions unfolded; a record that is not counted, and a use; definitions, blocks and other records;
--- a SelectField; a lambda.
+-- In order: the definitions unfolded; a record that is not counted; a record that is: a lambda, a SelectField, any other
+-- record, a use.
 -- Assumes nothing.
 use Prim.Native.Nat.{ℕ, _+_, _-_, _<_, _≤_}
 use mathlib.Core.Path.{_≡_, refl, sym, ap, _∙_, subst}
@@ -219,7 +219,7 @@ module _ (bs ws : List ℕ) (t : Tables) (st : State) (i : ℕ) (at : Here) (sou
             (intern-lambda bs i (at .scope) env₀ (absOf bs ws t st) left e
             ∙ ap (internFunc i (at .scope) (recAt bs i) env₀ (kidsRead bs i)) (sym counted-abs)) v
 
-      -- a SelectField, and any other record: it is done, or read again
+      -- a SelectField, and any other record: it is done, or still to be read
       pub record-field : recAt bs i .shape ≡ 17 → (ws′ : List ℕ) (s : Selected) →
           ReadsOn bs ws t counted i at
           (internKind field i (at .scope) (recAt bs i) env₀ (kidsRead bs i) (absOf bs ws t counted)) ws′ s →

@@ -108,7 +108,8 @@ pub record Stored (bs ws : List ℕ) (t : Tables) (st : State) (i held top symbo
         pendingFrom ws′ from (suc j) ≡ pendingFrom ws from j ++ (symbol ∷ [])
 
 module _ (bs ws : List ℕ) (t : Tables) (st : State) (i held top symbol : ℕ) (ws′ : List ℕ) (top′ : ℕ)
-    (rep : Rep bs ws st) (open′ : Open t (st .entries)) (pend : held < 256) (room : top < 1200) (d : DefBound bs i top symbol (set ws (8200 + held) symbol) ws′ top′) where
+    (rep : Rep bs ws st) (open′ : Open t (st .entries)) (pend : held < 256) (room : top < 1200)
+    (d : DefBound bs i top symbol (set ws (8200 + held) symbol) ws′ top′) where
   abbrev ws₁ : List ℕ
   ws₁ = set ws (8200 + held) symbol
 

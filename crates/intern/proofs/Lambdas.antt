@@ -92,8 +92,8 @@ module _ (bs ws : List ℕ) (t : Tables) (st : State) (i : ℕ) (at : Here) (sou
 
     well : WellAll (kidsAt bs i) false (r .opcode) 0 (e .at .scope) (envOf ws₁ (e .at .top)) (absOf bs ws₁ t (e .st)) 1
     well =
-        subst (λ (z : ℕ). WellAll (kidsAt bs i) false (r .opcode) 0 z (envOf ws₁ (e .at .top)) (absOf bs ws₁ t (e .st)) 1)
-        (sym (body .scope))
+        subst (λ (z : ℕ). WellAll (kidsAt bs i) false (r .opcode) 0 z (envOf ws₁ (e .at .top))
+        (absOf bs ws₁ t (e .st)) 1) (sym (body .scope))
         (subst (λ (z : Env). WellAll (kidsAt bs i) false (r .opcode) 0 (length (body .made .scopes)) z
         (absOf bs ws₁ t (e .st)) 1) (sym (body .env))
         (subst (λ (z : intern.State). WellAll (kidsAt bs i) false (r .opcode) 0 (length (body .made .scopes)) inner z 1)

@@ -366,18 +366,19 @@ module _ (bs : List ℕ) (t : Tables) (i count op : ℕ) (at : Here) (ws₀ : Li
 -- ---- the loop begins with no child read
 
 module _ (bs : List ℕ) (t : Tables) (i count op : ℕ) (at : Here) (ws₀ : List ℕ) (st : State)
-    (few-records : recordCount bs ≤ 256) (h : Operands bs ws₀ t st i count op at) (k₀ : Kids) (e : k₀ ≡ unread st i) where
-  first-state : k₀ .st ≡ st
-  first-state = ap (λ (z : Kids). z .st) e
+    (few-records : recordCount bs ≤ 256) (h : Operands bs ws₀ t st i count op at) (k₀ : Kids) (e : k₀ ≡ unread st i)
+  where
+    first-state : k₀ .st ≡ st
+    first-state = ap (λ (z : Kids). z .st) e
 
-  pub loop-operands : Operands bs ws₀ t (k₀ .st) i count op at
-  loop-operands = subst (λ (z : State). Operands bs ws₀ t z i count op at) (sym first-state) h
+    pub loop-operands : Operands bs ws₀ t (k₀ .st) i count op at
+    loop-operands = subst (λ (z : State). Operands bs ws₀ t z i count op at) (sym first-state) h
 
-  pub loop-start : Reading bs t i count op at ws₀ (k₀ .st) ws₀ k₀ (at .top) 0
-  loop-start =
-      reading-start bs t i count op at ws₀ (k₀ .st) few-records loop-operands k₀
-      (e ∙ ap (λ (z : State). unread z i) (sym first-state))
+    pub loop-start : Reading bs t i count op at ws₀ (k₀ .st) ws₀ k₀ (at .top) 0
+    loop-start =
+        reading-start bs t i count op at ws₀ (k₀ .st) few-records loop-operands k₀
+        (e ∙ ap (λ (z : State). unread z i) (sym first-state))
 
-  pub loop-reads : (ws′ : List ℕ) (k : Kids) → ReadsAll bs ws₀ t (k₀ .st) i count op at ws′ k →
-      ReadsAll bs ws₀ t st i count op at ws′ k
-  loop-reads ws′ k v = subst (λ (z : State). ReadsAll bs ws₀ t z i count op at ws′ k) first-state v
+    pub loop-reads : (ws′ : List ℕ) (k : Kids) → ReadsAll bs ws₀ t (k₀ .st) i count op at ws′ k →
+        ReadsAll bs ws₀ t st i count op at ws′ k
+    loop-reads ws′ k v = subst (λ (z : State). ReadsAll bs ws₀ t z i count op at ws′ k) first-state v

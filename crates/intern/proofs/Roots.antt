@@ -133,7 +133,8 @@ module _ (bs ws : List ℕ) (accepted : accept bs ≡ good (treesOf bs)) where
         v : ReadsAll bs ws₁ first st 0 count 0 origin ws₂ k
         v = subst (λ (z : Tables). ReadsAll bs ws₁ z st 0 count 0 origin ws₂ k) new v₀
 
-        all-read : internAll (trees bs 0 count) 0 0 0 0 (envOf ws₁ 0) (absOf bs ws₁ first st) ≡ internForest (treesOf bs)
+        all-read : internAll (trees bs 0 count) 0 0 0 0 (envOf ws₁ 0) (absOf bs ws₁ first st)
+            ≡ internForest (treesOf bs)
         unfolding internForest
         all-read =
             ap (λ (z : intern.State). internAll (trees bs 0 count) 0 0 0 0 (envOf ws₁ 0) z) (started .is bs)

@@ -125,7 +125,7 @@ KeyedRead bs ws t st i at ws′ r =
     Reads bs ws t st i at
     (concluded i (at .scope) (recAt bs i) (kidsRead bs i (at .scope) (envOf ws (at .top)) (absOf bs ws t st))) ws′ r
 
--- record i is read in part, and o is the answer to come: it is read again, as any other record, in state `next`
+-- record i, of which o is the answer, is still to be read as any other record, in state `next`
 pub record Again (bs ws : List ℕ) (t : Tables) (st : State) (i : ℕ) (at : Here) (o : Out) (ws′ : List ℕ) (next : State)
     : Type 0
   where
@@ -133,7 +133,7 @@ pub record Again (bs ws : List ℕ) (t : Tables) (st : State) (i : ℕ) (at : He
     pub well : WellKids bs ws′ t next i at
     pub then : (ws″ : List ℕ) (r : Read) → KeyedRead bs ws′ t next i at ws″ r → Reads bs ws t st i at o ws″ r
 
--- it is done, or read again
+-- record i is done, or still to be read
 abbrev pub ReadsOn : List ℕ → List ℕ → Tables → State → ℕ → Here → Out → List ℕ → Selected → Type 0
 ReadsOn bs ws t st i at o ws′ (Done r) = Reads bs ws t st i at o ws′ r
 ReadsOn bs ws t st i at o ws′ (Anew next) = Again bs ws t st i at o ws′ next

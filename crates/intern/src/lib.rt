@@ -55,7 +55,8 @@ pub struct Entered {
     pub first: u32,
 }
 
-// A SelectField whose input is read: done; or, of a Tuple's field, the state in which the record is read again.
+// A SelectField whose input is read is done. Any other record is read by its children, from this state on; so is a
+// Tuple's field, whose input is read again.
 pub enum Selected {
     Done(Read),
     Anew(State),

@@ -35,9 +35,9 @@ returns c env kids =
     let f = p .before in
     let s = f .before .before .before in
     let a = s .args in
-    pair-answers (now (a .forest)) (now (a .work)) (a .t) (a .st) (a .i) (a .cur) (a .held) env kids (f .field-of .result)
-    (f .field-of .ensures) (p .of-pair .result) (p .of-pair .ensures) (s .pre .1 .1 .1 .1) (t .if1 .taken) _
-    (m .pair-projection .result) (m .pair-projection .ensures)
+    pair-answers (now (a .forest)) (now (a .work)) (a .t) (a .st) (a .i) (a .cur) (a .held) env kids
+    (f .field-of .result) (f .field-of .ensures) (p .of-pair .result) (p .of-pair .ensures) (s .pre .1 .1 .1 .1)
+    (t .if1 .taken) _ (m .pair-projection .result) (m .pair-projection .ensures)
 
 general-requires : tie.Need-general-requires
 general-requires c κs =
@@ -53,9 +53,9 @@ returns-2 c env kids =
     let f = p .before in
     let s = f .before .before .before in
     let a = s .args in
-    other-answers (now (a .forest)) (now (a .work)) (a .t) (a .st) (a .i) (a .cur) (a .held) env kids (f .field-of .result)
-    (f .field-of .ensures) (p .of-pair .result) (p .of-pair .ensures) (s .pre .1 .1 .1 .0 .shape) (t .if1 .left) _
-    (m .general .result) (m .general .ensures)
+    other-answers (now (a .forest)) (now (a .work)) (a .t) (a .st) (a .i) (a .cur) (a .held) env kids
+    (f .field-of .result) (f .field-of .ensures) (p .of-pair .result) (p .of-pair .ensures) (s .pre .1 .1 .1 .0 .shape)
+    (t .if1 .left) _ (m .general .result) (m .general .ensures)
 
 pub field-spec : {M : Type 1} → statement M
 field-spec =

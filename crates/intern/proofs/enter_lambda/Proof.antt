@@ -56,8 +56,8 @@ first-of-requires c κs =
     let a = c11 .args in
     let n = c7 .wide .ensures .0 ∙ c8 .aux .ensures in
     let made = c5 .alloc-args in
-    enter-few (now (a .forest)) (now (a .work)) (a .t) (a .st) (a .i) (a .at) (p .0) (p .1 .0 .0) (p .1 .0 .1) (p .1 .1 .0)
-    (p .1 .1 .1) _
+    enter-few (now (a .forest)) (now (a .work)) (a .t) (a .st) (a .i) (a .at) (p .0) (p .1 .0 .0) (p .1 .0 .1)
+    (p .1 .1 .0) (p .1 .1 .1) _
     (made .result) _ n (made .ensures) (c .if1 .left)
 
 open-body-requires : tie.Need-open-body-requires
@@ -73,8 +73,8 @@ open-body-requires c κs =
     let n = c9 .wide .ensures .0 ∙ c10 .aux .ensures in
     let made = c7 .alloc-args in
     let room =
-    enter-room (now (a .forest)) (now (a .work)) (a .t) (a .st) (a .i) (a .at) (p .0) (p .1 .0 .0) (p .1 .0 .1) (p .1 .1 .0)
-    (p .1 .1 .1) _
+    enter-room (now (a .forest)) (now (a .work)) (a .t) (a .st) (a .i) (a .at) (p .0) (p .1 .0 .0) (p .1 .0 .1)
+    (p .1 .1 .0) (p .1 .1 .1) _
     (made .result) _ n (made .ensures) (c2 .if1 .left) in
     (room .0, ((room .1, room .2), ((c1 .first-of .ensures .1, room .3), room .4)))
 
@@ -93,8 +93,8 @@ bind-args-requires c κs =
     let made = c11 .alloc-args in
     let first = c5 .first-of in
     let room =
-    enter-bind (now (a .forest)) (now (a .work)) (a .t) (a .st) (a .i) (a .at) (p .0) (p .1 .0 .0) (p .1 .0 .1) (p .1 .1 .0)
-    (p .1 .1 .1) _
+    enter-bind (now (a .forest)) (now (a .work)) (a .t) (a .st) (a .i) (a .at) (p .0) (p .1 .0 .0) (p .1 .0 .1)
+    (p .1 .1 .0) (p .1 .1 .1) _
     (made .result) _ n (made .ensures) (c6 .if1 .left) (first .result) (first .ensures .0) (first .ensures .1) _
     (c3 .open-body .ensures .0) in
     (p .0, (p .1 .0, room))
@@ -116,8 +116,8 @@ returns-2 c =
     let first = c8 .first-of in
     let opened = c6 .open-body in
     let bound = c2 .bind-args in
-    enter-done (now (a .forest)) (now (a .work)) (a .t) (a .st) (a .i) (a .at) (p .0) (p .1 .0 .0) (p .1 .0 .1) (p .1 .1 .0)
-    (p .1 .1 .1) _
+    enter-done (now (a .forest)) (now (a .work)) (a .t) (a .st) (a .i) (a .at) (p .0) (p .1 .0 .0) (p .1 .0 .1)
+    (p .1 .1 .0) (p .1 .1 .1) _
     (made .result) _ n (made .ensures) (c9 .if1 .left) (first .result) (first .ensures .0) (first .ensures .1) _
     (opened .ensures .0) _ (opened .ensures .1) _ _ (bound .ensures)
 

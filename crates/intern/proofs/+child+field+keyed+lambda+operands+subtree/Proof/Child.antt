@@ -47,15 +47,15 @@ child-part t =
     let c4 = c2 .before .before in
     let c7 = c4 .before .before .before in
     let a = c7 .args in
-    child-plainly (now (a .forest)) (now (a .work)) (a .t) (a .st) (a .i) (a .thunk) (a .at) (c7 .pre .1 .1 .1) (not-true _
-    (c4 .if1 .taken)) _ _
+    child-plainly (now (a .forest)) (now (a .work)) (a .t) (a .st) (a .i) (a .thunk) (a .at) (c7 .pre .1 .1 .1)
+    (not-true _ (c4 .if1 .taken)) _ _
     (c2 .subtree .ensures))
     (λ c κs. let c1 = c .before in
     let c4 = c1 .before .before .before in
     let a = c4 .args in
     let p = c4 .pre .1 in
-    let room = child-room (now (a .forest)) (now (a .work)) (a .t) (a .st) (a .i) (a .thunk) (a .at) (p .1 .1) (not-false _
-    (c1 .if1 .left)) in
+    let room = child-room (now (a .forest)) (now (a .work)) (a .t) (a .st) (a .i) (a .thunk) (a .at) (p .1 .1)
+    (not-false _ (c1 .if1 .left)) in
     (room .0, (room .1, room .2)))
     (λ c κs. let c4 = c .before .before .before .before in
     let c7 = c4 .before .before .before in

@@ -70,8 +70,9 @@ field-part t =
     let a = c11 .args in
     let p = c11 .pre .1 in
     let o = c6 .operands in
-    let input = field-input (now (a .forest)) (now (a .work)) (a .t) (a .st) (a .i) (a .at) (p .0) (p .1 .0) (p .1 .1 .1 .0)
-    (p .1 .1 .1 .1) (p .1 .1 .0 .0) (p .1 .1 .0 .1) _ (c8 .opcode .ensures) _ _ (o .ensures) (c1 .if1 .left) in
+    let input = field-input (now (a .forest)) (now (a .work)) (a .t) (a .st) (a .i) (a .at) (p .0) (p .1 .0)
+    (p .1 .1 .1 .0) (p .1 .1 .1 .1) (p .1 .1 .0 .0) (p .1 .1 .0 .1) _ (c8 .opcode .ensures) _ _ (o .ensures)
+    (c1 .if1 .left) in
     (p .0, input))
     (λ c. let c8 = c .before .before .before .before .before .before .before .before in c8 .operands .kept .1 .0)
     (λ c. let c1 = c .before in
@@ -99,9 +100,9 @@ field-part t =
     let selects = field-selects (now (a .forest)) (now (a .work)) (a .t) (a .st) (a .i) (a .at) (p .0) (p .1 .0)
     (p .1 .1 .1 .0) (p .1 .1 .1 .1) (p .1 .1 .0 .0) (p .1 .1 .0 .1) _ (c11 .opcode .ensures) _ _ (o .ensures)
     (c4 .if1 .left) in
-    let once = field-once (now (a .forest)) (now (a .work)) (a .t) (a .st) (a .i) (a .at) (p .0) (p .1 .0) (p .1 .1 .1 .0)
-    (p .1 .1 .1 .1) (p .1 .1 .0 .0) (p .1 .1 .0 .1) _ (c11 .opcode .ensures) _ _ (o .ensures) (c4 .if1 .left)
-    (g .result) (g .ensures) (c1 .if2 .left) in
+    let once = field-once (now (a .forest)) (now (a .work)) (a .t) (a .st) (a .i) (a .at) (p .0) (p .1 .0)
+    (p .1 .1 .1 .0) (p .1 .1 .1 .1) (p .1 .1 .0 .0) (p .1 .1 .0 .1) _ (c11 .opcode .ensures) _ _ (o .ensures)
+    (c4 .if1 .left) (g .result) (g .ensures) (c1 .if2 .left) in
     (p .0, (o .ensures .rep, (o .ensures .opened, (selects, once)))))
     (λ c. let c2 = c .before .before in
     let c12 = c2 .before .before .before .before .before .before .before .before .before .before in

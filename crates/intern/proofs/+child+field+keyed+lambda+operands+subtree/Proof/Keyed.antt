@@ -60,8 +60,8 @@ keyed-part t =
     let c12 = c9 .before .before .before in
     let a = c12 .args in
     let p = c12 .pre .1 in
-    keyed-refused (now (a .forest)) (now (a .work)) (a .t) (a .st) (a .i) (a .at) (p .0) (p .1 .0) (p .1 .1 .0) (p .1 .1 .1)
-    _ _ (c9 .kids .ensures .0) (c8 .opcode .ensures) _ _ (c6 .operands .ensures) _ (c .refused .ensures)
+    keyed-refused (now (a .forest)) (now (a .work)) (a .t) (a .st) (a .i) (a .at) (p .0) (p .1 .0) (p .1 .1 .0)
+    (p .1 .1 .1) _ _ (c9 .kids .ensures .0) (c8 .opcode .ensures) _ _ (c6 .operands .ensures) _ (c .refused .ensures)
     (c2 .if1 .taken))
     (λ c κs. let c1 = c .before in
     let c5 = c1 .before .before .before .before in
@@ -85,6 +85,6 @@ keyed-part t =
     let c14 = c11 .before .before .before in
     let a = c14 .args in
     let p = c14 .pre .1 in
-    keyed-done (now (a .forest)) (now (a .work)) (a .t) (a .st) (a .i) (a .at) (p .0) (p .1 .0) (p .1 .1 .0) (p .1 .1 .1) _ _
-    (c11 .kids .ensures .0) (c10 .opcode .ensures) _ _ (c8 .operands .ensures) (c4 .if1 .left) _ _
+    keyed-done (now (a .forest)) (now (a .work)) (a .t) (a .st) (a .i) (a .at) (p .0) (p .1 .0) (p .1 .1 .0)
+    (p .1 .1 .1) _ _ (c11 .kids .ensures .0) (c10 .opcode .ensures) _ _ (c8 .operands .ensures) (c4 .if1 .left) _ _
     (c2 .conclude .ensures))

@@ -93,12 +93,12 @@ lambda-part t =
     let concludes = lambda-conclude (now (a .forest)) (now (a .work)) (a .t) (a .st) (a .i) (a .at) (p .0) (p .1 .0 .0)
     (p .1 .0 .1) (p .1 .1 .0) (p .1 .1 .1) _ _ (c15 .enter-lambda .ensures) (c10 .if1 .left) _ (c8 .opcode .ensures) _
     _ v (c1 .if2 .left) in
-    let body = lambda-body (now (a .forest)) (now (a .work)) (a .t) (a .st) (a .i) (a .at) (p .0) (p .1 .0 .0) (p .1 .0 .1)
-    (p .1 .1 .0) (p .1 .1 .1) _ _ (c15 .enter-lambda .ensures) (c10 .if1 .left) _ (c8 .opcode .ensures) _ _ v
-    (c1 .if2 .left) in
-    let first = lambda-first (now (a .forest)) (now (a .work)) (a .t) (a .st) (a .i) (a .at) (p .0) (p .1 .0 .0) (p .1 .0 .1)
-    (p .1 .1 .0) (p .1 .1 .1) _ _ (c15 .enter-lambda .ensures) (c10 .if1 .left) _ (c8 .opcode .ensures) _ _ v
-    (c1 .if2 .left) in
+    let body = lambda-body (now (a .forest)) (now (a .work)) (a .t) (a .st) (a .i) (a .at) (p .0) (p .1 .0 .0)
+    (p .1 .0 .1) (p .1 .1 .0) (p .1 .1 .1) _ _ (c15 .enter-lambda .ensures) (c10 .if1 .left) _ (c8 .opcode .ensures) _ _
+    v (c1 .if2 .left) in
+    let first = lambda-first (now (a .forest)) (now (a .work)) (a .t) (a .st) (a .i) (a .at) (p .0) (p .1 .0 .0)
+    (p .1 .0 .1) (p .1 .1 .0) (p .1 .1 .1) _ _ (c15 .enter-lambda .ensures) (c10 .if1 .left) _ (c8 .opcode .ensures) _ _
+    v (c1 .if2 .left) in
     (p .0, (v .rep, (v .opened, (concludes, ((p .1 .0 .1, first), body))))))
     (λ c. let c2 = c .before .before in
     let c9 = c2 .before .before .before .before .before .before .before in
@@ -113,7 +113,7 @@ lambda-part t =
     let c22 = c18 .before .before .before .before in
     let a = c22 .args in
     let p = c22 .pre .1 in
-    lambda-done (now (a .forest)) (now (a .work)) (a .t) (a .st) (a .i) (a .at) (p .0) (p .1 .0 .0) (p .1 .0 .1) (p .1 .1 .0)
-    (p .1 .1 .1) _ _ (c18 .enter-lambda .ensures) (c13 .if1 .left) _ (c11 .opcode .ensures) _ _
+    lambda-done (now (a .forest)) (now (a .work)) (a .t) (a .st) (a .i) (a .at) (p .0) (p .1 .0 .0) (p .1 .0 .1)
+    (p .1 .1 .0) (p .1 .1 .1) _ _ (c18 .enter-lambda .ensures) (c13 .if1 .left) _ (c11 .opcode .ensures) _ _
     (c9 .operands .ensures)
     (c4 .if2 .left) _ _ (c2 .lambda .ensures))

@@ -77,12 +77,12 @@ operands-part t =
     let a = c9 .args in
     let p = c9 .pre .1 in
     let few = records-few _ (p .0) in
-    let h₀ = loop-operands (now (a .forest)) (a .t) (a .i) (a .count) (a .op) (a .at) (now (a .work)) (a .st) few (p .1) _
-    (c6 .unread .ensures) in
-    let there = reading-there (now (a .forest)) (a .t) (a .i) (a .count) (a .op) (a .at) (now (a .work)) _ few h₀ _ _ _ _
-    (c5 .loop .inv) (c4 .loop-test .taken) in
-    let child = reading-child (now (a .forest)) (a .t) (a .i) (a .count) (a .op) (a .at) (now (a .work)) _ few h₀ _ _ _ _
-    (c5 .loop .inv) (c4 .loop-test .taken) _ (c3 .is-thunked .ensures) _ (c .child-at .ensures) in
+    let h₀ = loop-operands (now (a .forest)) (a .t) (a .i) (a .count) (a .op) (a .at) (now (a .work)) (a .st) few (p .1)
+    _ (c6 .unread .ensures) in
+    let there = reading-there (now (a .forest)) (a .t) (a .i) (a .count) (a .op) (a .at) (now (a .work)) _ few h₀ _ _ _
+    _ (c5 .loop .inv) (c4 .loop-test .taken) in
+    let child = reading-child (now (a .forest)) (a .t) (a .i) (a .count) (a .op) (a .at) (now (a .work)) _ few h₀ _ _ _
+    _ (c5 .loop .inv) (c4 .loop-test .taken) _ (c3 .is-thunked .ensures) _ (c .child-at .ensures) in
     (omega (arith, c9 .pre .0, there, few, c5 .loop .inv .remains .onward), (p .0, (there, child))))
     (λ c κs. tt)
     (λ c. let c6 = c .before .before .before .before .before .before in
@@ -99,8 +99,8 @@ operands-part t =
     let a = c16 .args in
     let p = c16 .pre .1 in
     let few = records-few _ (p .0) in
-    let h₀ = loop-operands (now (a .forest)) (a .t) (a .i) (a .count) (a .op) (a .at) (now (a .work)) (a .st) few (p .1) _
-    (c13 .unread .ensures) in
+    let h₀ = loop-operands (now (a .forest)) (a .t) (a .i) (a .count) (a .op) (a .at) (now (a .work)) (a .st) few (p .1)
+    _ (c13 .unread .ensures) in
     loop-reads (now (a .forest)) (a .t) (a .i) (a .count) (a .op) (a .at) (now (a .work)) (a .st) few (p .1) _
     (c13 .unread .ensures) _ _
     (reading-refused (now (a .forest)) (a .t) (a .i) (a .count) (a .op) (a .at) (now (a .work)) _ few h₀ _ _ _ _
@@ -126,12 +126,12 @@ operands-part t =
     let a = c16 .args in
     let p = c16 .pre .1 in
     let few = records-few _ (p .0) in
-    let h₀ = loop-operands (now (a .forest)) (a .t) (a .i) (a .count) (a .op) (a .at) (now (a .work)) (a .st) few (p .1) _
-    (c13 .unread .ensures) in
+    let h₀ = loop-operands (now (a .forest)) (a .t) (a .i) (a .count) (a .op) (a .at) (now (a .work)) (a .st) few (p .1)
+    _ (c13 .unread .ensures) in
     let room = reading-room (now (a .forest)) (a .t) (a .i) (a .count) (a .op) (a .at) (now (a .work)) _ few h₀ _ _ _ _
     (c12 .loop .inv) (c11 .loop-test .taken) in
-    let there = reading-there (now (a .forest)) (a .t) (a .i) (a .count) (a .op) (a .at) (now (a .work)) _ few h₀ _ _ _ _
-    (c12 .loop .inv) (c11 .loop-test .taken) in
+    let there = reading-there (now (a .forest)) (a .t) (a .i) (a .count) (a .op) (a .at) (now (a .work)) _ few h₀ _ _ _
+    _ (c12 .loop .inv) (c11 .loop-test .taken) in
     (p .0, (there, room .1, simp length-set (c6 .child .ensures .rep .words))))
     (λ c κs. let c7 = c .before .before .before .before .before .before .before in
     let c15 = c7 .before .before .before .before .before .before .before .before in
@@ -154,10 +154,10 @@ operands-part t =
     let a = c20 .args in
     let p = c20 .pre .1 in
     let few = records-few _ (p .0) in
-    let h₀ = loop-operands (now (a .forest)) (a .t) (a .i) (a .count) (a .op) (a .at) (now (a .work)) (a .st) few (p .1) _
-    (c17 .unread .ensures) in
-    reading-turn (now (a .forest)) (a .t) (a .i) (a .count) (a .op) (a .at) (now (a .work)) _ few h₀ _ _ _ _ (c16 .loop .inv)
-    (c15 .loop-test .taken) _ (c14 .is-thunked .ensures) _ _ _ (c11 .child-at .ensures)
+    let h₀ = loop-operands (now (a .forest)) (a .t) (a .i) (a .count) (a .op) (a .at) (now (a .work)) (a .st) few (p .1)
+    _ (c17 .unread .ensures) in
+    reading-turn (now (a .forest)) (a .t) (a .i) (a .count) (a .op) (a .at) (now (a .work)) _ few h₀ _ _ _ _
+    (c16 .loop .inv) (c15 .loop-test .taken) _ (c14 .is-thunked .ensures) _ _ _ (c11 .child-at .ensures)
     (c10 .child .ensures) (c5 .if1 .left) _ _ (c3 .bind-def .ensures) _ (c .with-child .ensures))
     (λ c. c .before .loop .inv .remains .kept .words .long)
     (λ c. let c1 = c .before in
@@ -166,9 +166,9 @@ operands-part t =
     let a = c5 .args in
     let p = c5 .pre .1 in
     let few = records-few _ (p .0) in
-    let h₀ = loop-operands (now (a .forest)) (a .t) (a .i) (a .count) (a .op) (a .at) (now (a .work)) (a .st) few (p .1) _
-    (c2 .unread .ensures) in
+    let h₀ = loop-operands (now (a .forest)) (a .t) (a .i) (a .count) (a .op) (a .at) (now (a .work)) (a .st) few (p .1)
+    _ (c2 .unread .ensures) in
     loop-reads (now (a .forest)) (a .t) (a .i) (a .count) (a .op) (a .at) (now (a .work)) (a .st) few (p .1) _
     (c2 .unread .ensures) _ _
-    (reading-end (now (a .forest)) (a .t) (a .i) (a .count) (a .op) (a .at) (now (a .work)) _ few h₀ _ _ _ _ (c1 .loop .inv)
-    (c .loop-test .left)))
+    (reading-end (now (a .forest)) (a .t) (a .i) (a .count) (a .op) (a .at) (now (a .work)) _ few h₀ _ _ _ _
+    (c1 .loop .inv) (c .loop-test .left)))

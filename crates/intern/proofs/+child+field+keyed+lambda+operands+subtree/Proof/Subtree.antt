@@ -44,7 +44,7 @@ calls t = (
   keyed.Post,
 )
 
--- where a SelectField and the other records meet: the record is done, or read again
+-- where a SelectField and the other records meet: the record is done, or still to be read
 on : (t : ℕ) (j : subtree-lts.Joined4 (calls t) (subtree-at t) subtree.Post) →
     let a = j .before .before .before .before .before .before .before .before .before .args in
     ReadsOn (now (a .forest)) (now (a .work)) (a .t) (a .st) (a .i) (a .at)
@@ -78,13 +78,13 @@ subtree-part t =
     let c5 = c1 .before .before .before .before in
     let a = c5 .args in
     let p = c5 .pre .1 in
-    record-full (now (a .forest)) (now (a .work)) (a .t) (a .st) (a .i) (a .at) (p .0) (p .1 .0) (p .1 .1 .0) (p .1 .1 .1) _
-    (c1 .if1 .taken) (c .refused .ensures))
+    record-full (now (a .forest)) (now (a .work)) (a .t) (a .st) (a .i) (a .at) (p .0) (p .1 .0) (p .1 .1 .0)
+    (p .1 .1 .1) _ (c1 .if1 .taken) (c .refused .ensures))
     (λ c κs. let c4 = c .before .before .before .before in
     let a = c4 .args in
     let p = c4 .pre .1 in
-    record-left (now (a .forest)) (now (a .work)) (a .t) (a .st) (a .i) (a .at) (p .0) (p .1 .0) (p .1 .1 .0) (p .1 .1 .1)
-    (c .if1 .left))
+    record-left (now (a .forest)) (now (a .work)) (a .t) (a .st) (a .i) (a .at) (p .0) (p .1 .0) (p .1 .1 .0)
+    (p .1 .1 .1) (c .if1 .left))
     (λ c κs. let p = c .before .before .before .before .before .pre .1 in (p .0 .laid, p .1 .0))
     (λ c κs. let c1 = c .before in
     let c2 = c1 .before in
@@ -109,8 +109,8 @@ subtree-part t =
     let a = c9 .args in
     let p = c9 .pre .1 in
     let e = sym (c3 .shape .ensures) ∙ c2 .if2 .taken in
-    record-use (now (a .forest)) (now (a .work)) (a .t) (a .st) (a .i) (a .at) (p .0) (p .1 .0) (p .1 .1 .0) (p .1 .1 .1)
-    (c5 .if1 .left) _ (c4 .count-reading .ensures) _ e (c .value-use .ensures))
+    record-use (now (a .forest)) (now (a .work)) (a .t) (a .st) (a .i) (a .at) (p .0) (p .1 .0) (p .1 .1 .0)
+    (p .1 .1 .1) (c5 .if1 .left) _ (c4 .count-reading .ensures) _ e (c .value-use .ensures))
     (λ c κs. let c1 = c .before in
     let c3 = c1 .before .before in
     let c4 = c3 .before in
@@ -119,10 +119,10 @@ subtree-part t =
     let a = c9 .args in
     let p = c9 .pre .1 in
     let e = sym (c3 .shape .ensures) ∙ c1 .if3 .taken in
-    let stands = counted-stands (now (a .forest)) (now (a .work)) (a .t) (a .st) (a .i) (a .at) (p .0) (p .1 .0) (p .1 .1 .0)
-    (p .1 .1 .1) (c5 .if1 .left) _ (c4 .count-reading .ensures) in
-    let well = counted-well (now (a .forest)) (now (a .work)) (a .t) (a .st) (a .i) (a .at) (p .0) (p .1 .0) (p .1 .1 .0)
-    (p .1 .1 .1) (c5 .if1 .left) _ (c4 .count-reading .ensures) in
+    let stands = counted-stands (now (a .forest)) (now (a .work)) (a .t) (a .st) (a .i) (a .at) (p .0) (p .1 .0)
+    (p .1 .1 .0) (p .1 .1 .1) (c5 .if1 .left) _ (c4 .count-reading .ensures) in
+    let well = counted-well (now (a .forest)) (now (a .work)) (a .t) (a .st) (a .i) (a .at) (p .0) (p .1 .0)
+    (p .1 .1 .0) (p .1 .1 .1) (c5 .if1 .left) _ (c4 .count-reading .ensures) in
     (omega (arith, c9 .pre .0), (p .0, ((p .1 .0, e), (stands, well)))))
     (λ c. c .before .before .lambda .kept .1 .0)
     (λ c. let c2 = c .before .before in
@@ -134,8 +134,8 @@ subtree-part t =
     let a = c12 .args in
     let p = c12 .pre .1 in
     let e = sym (c6 .shape .ensures) ∙ c4 .if3 .taken in
-    record-lambda (now (a .forest)) (now (a .work)) (a .t) (a .st) (a .i) (a .at) (p .0) (p .1 .0) (p .1 .1 .0) (p .1 .1 .1)
-    (c8 .if1 .left) _ (c7 .count-reading .ensures) _ _ e (c2 .lambda .ensures))
+    record-lambda (now (a .forest)) (now (a .work)) (a .t) (a .st) (a .i) (a .at) (p .0) (p .1 .0) (p .1 .1 .0)
+    (p .1 .1 .1) (c8 .if1 .left) _ (c7 .count-reading .ensures) _ _ e (c2 .lambda .ensures))
     (λ c κs. let c1 = c .before in
     let c2 = c1 .before in
     let c4 = c2 .before .before in
@@ -145,12 +145,13 @@ subtree-part t =
     let a = c10 .args in
     let p = c10 .pre .1 in
     let e = sym (c4 .shape .ensures) ∙ c1 .if4 .taken in
-    let stands = counted-stands (now (a .forest)) (now (a .work)) (a .t) (a .st) (a .i) (a .at) (p .0) (p .1 .0) (p .1 .1 .0)
-    (p .1 .1 .1) (c6 .if1 .left) _ (c5 .count-reading .ensures) in
-    let well = counted-kids (now (a .forest)) (now (a .work)) (a .t) (a .st) (a .i) (a .at) (p .0) (p .1 .0) (p .1 .1 .0)
-    (p .1 .1 .1) (c6 .if1 .left) _ (c5 .count-reading .ensures) (λ z. c2 .if3 .left (c4 .shape .ensures ∙ z)) in
-    let code = counted-opcode (now (a .forest)) (now (a .work)) (a .t) (a .st) (a .i) (a .at) (p .0) (p .1 .0) (p .1 .1 .0)
-    (p .1 .1 .1) (c6 .if1 .left) _ (c5 .count-reading .ensures) e in
+    let stands = counted-stands (now (a .forest)) (now (a .work)) (a .t) (a .st) (a .i) (a .at) (p .0) (p .1 .0)
+    (p .1 .1 .0) (p .1 .1 .1) (c6 .if1 .left) _ (c5 .count-reading .ensures) in
+    let well = counted-kids (now (a .forest)) (now (a .work)) (a .t) (a .st) (a .i) (a .at) (p .0) (p .1 .0)
+    (p .1 .1 .0) (p .1 .1 .1) (c6 .if1 .left) _ (c5 .count-reading .ensures)
+    (λ z. c2 .if3 .left (c4 .shape .ensures ∙ z)) in
+    let code = counted-opcode (now (a .forest)) (now (a .work)) (a .t) (a .st) (a .i) (a .at) (p .0) (p .1 .0)
+    (p .1 .1 .0) (p .1 .1 .1) (c6 .if1 .left) _ (c5 .count-reading .ensures) e in
     (omega (arith, c10 .pre .0), (p .0, (p .1 .0, ((e, code), (stands, well))))))
     (λ c. search needs)
     (λ c. search needs)
@@ -160,7 +161,8 @@ subtree-part t =
     let p = c13 .pre .1 in
     let again = rw (c2 .selected2 .given .1) at (on t c4) in
     (omega (arith, c13 .pre .0), (p .0, (p .1 .0, (again .stands, again .well)))))
-    (λ c. let read = rw (c .before .selected .given .1) at (on t (c .before .before .before)) in read .kept .words .long)
+    (λ c. let read = rw (c .before .selected .given .1) at (on t (c .before .before .before)) in read .kept .words
+    .long)
     (λ c. rw (c .before .selected .given .1) at (on t (c .before .before .before)))
     (λ c. let c2 = c .before .before in
     let c5 = c2 .before .before .before in
