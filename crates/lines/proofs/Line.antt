@@ -1,5 +1,4 @@
--- A symbol's line and a refusal's. In order: the texts; lengths; a line from its parts; the columns of a stored symbol;
--- a refusal from its parts.
+-- A symbol's line. In order: a number; lengths; a line from its parts; the columns of a stored symbol.
 -- Assumes nothing.
 use Prim.Native.Nat.{ℕ, _+_, _<_, _≤_}
 use mathlib.Core.Path.{_≡_, refl, sym, ap}
@@ -11,25 +10,26 @@ use Rattle.model.specs.Text.{text}
 use Rattle.model.specs.Forest.{recordCount}
 use Rattle.model.specs.Intern.{Node, Sym, symAt, constant, unparsed, argument, func, operation}
 use Rattle.model.specs.Gate.{shouldHoist}
-use Rattle.model.specs.Lister.{decimal, hexByte, tagOf, opcodeShown, yesNo, line, refusalLine}
+use Rattle.model.specs.Lister.{decimal, hexByte, tagOf, opcodeShown, yesNo, line}
 use Rattle.key.specs.declared.Symbol.{Symbol}
 use Rattle.key.specs.Key.{partsOf, symbolAt}
 use Rattle.symbols.specs.Symbols.{recOf, nodeOf, symOf, symsOf, Sound}
 use Rattle.symbols.proofs.Laws.{sym-at}
-use Rattle.writer.specs.Over.{over}
-use Rattle.lines.specs.Lines.{columns, Wrote}
-use Rattle.lines.proofs.Text.{decimal-length}
-use Rattle.lines.proofs.Wrote.{wrote-then, wrote-both}
-
--- ---- the texts
+use Rattle.text.specs.Text.{numeral, Wrote}
+use Rattle.text.proofs.Numbers.{decimal-length, numeral-decimal}
+use Rattle.text.proofs.Wrote.{wrote-as, wrote-then, wrote-both}
+use Rattle.text.proofs.Refusal.{newline}
+use Rattle.lines.specs.Lines.{columns}
 
 space : (32 ∷ []) ≡ text " "
 unfolding text
 space = refl
 
-pub newline : (10 ∷ []) ≡ text "\n"
-unfolding text
-newline = refl
+-- ---- a number
+
+pub number-parts : (n b : ℕ) {out o₁ o₂ : List ℕ} {at p₁ p₂ : ℕ} → n < 1000000000 → Wrote out at (numeral n) o₁ p₁ →
+    Wrote o₁ p₁ (b ∷ []) o₂ p₂ → Wrote out at (decimal n ++ (b ∷ [])) o₂ p₂
+number-parts n b h w₁ w₂ = wrote-then (wrote-as (numeral-decimal n h) w₁) w₂
 
 -- ---- lengths
 
@@ -111,13 +111,3 @@ stored-small ws s x loads = rw loads (omega arith)
 pub stored-from : (bs ws : List ℕ) (s : ℕ) (x : Symbol) → x ≡ symbolAt ws s → Sound bs ws 2560 s →
     partsOf (x .node) .source < recordCount bs
 stored-from bs ws s x loads sound = rw loads (sound .from)
-
--- ---- a refusal from its parts
-
-pub refusal-parts : (n place : ℕ) {out o₁ o₂ o₃ o₄ : List ℕ} {p₁ p₂ p₃ p₄ : ℕ} → Wrote out 0 (text "refused ") o₁ p₁ →
-    Wrote o₁ p₁ (decimal n) o₂ p₂ → Wrote o₂ p₂ (text " at ") o₃ p₃ → Wrote o₃ p₃ (decimal place ++ (10 ∷ [])) o₄ p₄ →
-    ((p₄ ≡ length (refusalLine n place)) × (p₄ ≤ length out)) × (o₄ ≡ over out 0 (refusalLine n place))
-unfolding refusalLine
-refusal-parts n place w₁ w₂ w₃ w₄ =
-    let w = rw newline at (wrote-both (wrote-then (wrote-then w₁ w₂) w₃) (decimal place) (10 ∷ []) w₄) in
-    ((omega (arith, w .ends), w .fits), w .holds)

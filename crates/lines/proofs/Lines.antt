@@ -1,8 +1,8 @@
 -- All symbols' lines. In order: the uses are few; one line more; how long lines are; the lines of the first symbols;
--- the whole; words in which `gate` counted.
+-- the whole.
 -- Assumes nothing.
 use Prim.Native.Nat.{ℕ, zero, suc, _+_, _*_, _<_, _≤_}
-use mathlib.Core.Path.{_≡_, sym, ap, _∙_}
+use mathlib.Core.Path.{_≡_, sym, ap}
 use mathlib.Core.Bool.{Bool, true, false}
 use mathlib.Core.List.{List, [], _∷_, _++_, append-assoc, append-nil}
 use native.Mathlib.Omega.{arith}
@@ -13,18 +13,18 @@ use Rattle.model.specs.Lists.{count}
 use Rattle.model.specs.Text.{text}
 use Rattle.model.specs.Intern.{Sym, symAt}
 use Rattle.model.specs.Lister.{decimal, line, linesFrom, allSlots, symbolLines}
-use Rattle.record.specs.Record.{Laid}
 use Rattle.key.specs.Key.{symbolAt}
-use Rattle.key.proofs.Runs.{Agree}
 use Rattle.symbols.specs.Symbols.{kidsAt, symOf, symFrom, symsOf, AllSound}
 use Rattle.symbols.proofs.Words.{words-length}
-use Rattle.symbols.proofs.Laws.{syms-length, sym-at, syms-agree, sounds-agree}
-use Rattle.gate.specs.Gate.{usesAt, Tallied}
+use Rattle.symbols.proofs.Laws.{syms-length, sym-at}
+use Rattle.gate.specs.Gate.{usesAt}
 use Rattle.gate.proofs.Words.{count-append}
 use Rattle.writer.specs.Over.{over}
-use Rattle.lines.specs.Lines.{Wrote, Listable}
-use Rattle.lines.proofs.Wrote.{wrote-none, wrote-as, wrote-then, wrote-both}
-use Rattle.lines.proofs.Line.{newline, line-length}
+use Rattle.text.specs.Text.{Wrote}
+use Rattle.text.proofs.Wrote.{wrote-none, wrote-as, wrote-then, wrote-both}
+use Rattle.text.proofs.Refusal.{newline}
+use Rattle.lines.specs.Lines.{Listable}
+use Rattle.lines.proofs.Line.{line-length}
 
 -- ---- the uses are few
 
@@ -127,22 +127,3 @@ unfolding symbolLines
 symbols-parts bs ws n w₁ w₂ w₃ =
     let w = wrote-then (rw newline at (wrote-both w₁ (decimal n) (10 ∷ []) w₂)) w₃ in
     rw (syms-length bs ws n) ((omega (arith, w .ends), w .fits), w .holds)
-
--- ---- words in which `gate` counted
-
-pub tallied-listable : (bs ws ws′ : List ℕ) (n : ℕ) → Laid bs → AllSound bs ws 2560 n → n ≤ 512 → 9480 ≤ length ws →
-    length ws′ ≡ length ws → Tallied ws ws′ n → Listable bs ws′ n
-tallied-listable bs ws ws′ n laid sound few long same t = record {
-  laid = laid;
-  sound = sounds-agree bs ws ws′ 2560 slots n own sound;
-  few = few;
-  words = omega arith;
-  uses = λ s lt.
-      t .uses bs s lt ∙ ap (λ (l : List Sym). count s (allSlots l)) (sym (syms-agree bs ws ws′ 2560 slots n own sound));
-}
-  where
-    slots : Agree ws ws′ 2560 5120
-    slots k l r = t .kept .before k (omega arith)
-
-    own : Agree ws ws′ 0 (5 * n)
-    own k l r = t .kept .before k (omega arith)

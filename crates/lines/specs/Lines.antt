@@ -1,6 +1,6 @@
--- The first columns of a line; what was written; what the lister's lines are written from.
+-- The first columns of a line; what the lister's lines are written from.
 -- Assumes nothing.
-use Prim.Native.Nat.{ℕ, _+_, _<_, _≤_}
+use Prim.Native.Nat.{ℕ, _<_, _≤_}
 use mathlib.Core.Path.{_≡_}
 use mathlib.Core.List.{List, _++_}
 use lib.ListN.{length}
@@ -11,18 +11,11 @@ use Rattle.model.specs.Lister.{decimal, hexByte, tagOf, opcodeShown, allSlots}
 use Rattle.record.specs.Record.{Laid}
 use Rattle.symbols.specs.Symbols.{symsOf, AllSound}
 use Rattle.gate.specs.Gate.{usesAt}
-use Rattle.writer.specs.Over.{over}
 
 -- symbol, tag and opcode, as a line begins
 unfoldable pub columns : ℕ → Node → ℕ → List ℕ
 columns s n opcode =
     decimal s ++ text " " ++ tagOf n ++ text " " ++ hexByte (opcodeShown n opcode) ++ text " "
-
--- bytes were written over `out` at `at`: the place after them, within the output, and the output afterwards
-pub record Wrote (out : List ℕ) (at : ℕ) (bytes : List ℕ) (out′ : List ℕ) (next : ℕ) : Type 0 where
-  pub ends : next ≡ at + length bytes
-  pub fits : next ≤ length out
-  pub holds : out′ ≡ over out at bytes
 
 -- words hold n symbols of the forest, and the uses of each by all of them
 pub record Listable (bs ws : List ℕ) (n : ℕ) : Type 0 where

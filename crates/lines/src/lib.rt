@@ -1,5 +1,5 @@
-// The lister's lines, written over an output. In order: bytes; numbers; a symbol's columns; its line; all symbols; a
-// refusal.
+// The lister's lines, written over an output. In order: a number; a symbol's columns; its line; all symbols.
+// A refusal's line is written by `text`.
 use gate::USES;
 use key::Node;
 ghost use mathlib.Core.Path.{_≡_};
@@ -8,82 +8,22 @@ ghost use Prim.Native.Nat.{ℕ, _+_, _*_, _<_, _≤_};
 ghost use lib.ListN.{length};
 ghost use Rattle.model.specs.Forest.{recordCount};
 ghost use Rattle.model.specs.Intern.{symAt};
-ghost use Rattle.model.specs.Lister.{decimal, hexDigit, hexByte, tagOf, opcodeShown, yesNo, line, linesFrom, allSlots};
-ghost use Rattle.model.specs.Lister.{symbolLines, refusalLine};
+ghost use Rattle.model.specs.Lister.{decimal, tagOf, opcodeShown, yesNo, line, linesFrom, allSlots, symbolLines};
 ghost use Rattle.record.specs.Record.{Laid};
 ghost use Rattle.key.specs.Key.{partsOf};
 ghost use Rattle.symbols.specs.Symbols.{recOf, nodeOf, symsOf, Sound};
 ghost use Rattle.writer.specs.Over.{over};
-ghost use Rattle.lines.specs.Lines.{columns, Wrote, Listable};
+ghost use Rattle.text.specs.Text.{Wrote};
+ghost use Rattle.lines.specs.Lines.{columns, Listable};
 
-fn put_one(out: &mut [u8], at: usize, b: u8) -> usize
-    requires { ⌜ at + 1 ≤ length (now out) ⌝ }
-    ensures { λ r. ⌜ Wrote (now (out .entry)) at (b ∷ []) (now (out .exit)) r ⌝ }
-{
-    writer::put_byte(out, at, b)
-}
-
-fn put_two(out: &mut [u8], at: usize, first: u8, second: u8) -> usize
-    requires { ⌜ at + 2 ≤ length (now out) ⌝ }
-    ensures { λ r. ⌜ Wrote (now (out .entry)) at (first ∷ second ∷ []) (now (out .exit)) r ⌝ }
-{
-    let next = put_one(out, at, first);
-    put_one(out, next, second)
-}
-
-fn put_text(out: &mut [u8], at: usize, text: &[u8]) -> usize
-    requires { ⌜ at + length (now text) ≤ length (now out) ⌝ }
-    ensures { λ r. ⌜ Wrote (now (out .entry)) at (now (text .entry)) (now (out .exit)) r ⌝ }
-{
-    writer::put_part(out, at, text)
-}
-
-fn digit(n: u32) -> u8
-    requires { ⌜ n < 10 ⌝ }
-    ensures { λ r. ⌜ r ≡ 48 + n ⌝ }
-{
-    (48 + n) as u8
-}
-
-// n in decimal. Rules out: the lowest digit first; a number of one digit with a 0 before it.
-fn put_decimal(out: &mut [u8], at: usize, n: u32) -> usize
-    requires { ⌜ n < 1000000000 ⌝ }
-    requires { ⌜ at + 9 ≤ length (now out) ⌝ }
-    ensures { λ r. ⌜ Wrote (now (out .entry)) at (decimal n) (now (out .exit)) r ⌝ }
-{
-    if n < 10 {
-        return put_one(out, at, digit(n));
-    }
-    let next = put_decimal(out, at, n / 10);
-    put_one(out, next, digit(n % 10))
-}
-
-// A number and the byte after it.
+// A number, below 10^9 as every number of a line is, and the byte after it.
 fn put_number(out: &mut [u8], at: usize, n: u32, after: u8) -> usize
     requires { ⌜ n < 1000000000 ⌝ }
     requires { ⌜ at + 10 ≤ length (now out) ⌝ }
     ensures { λ r. ⌜ Wrote (now (out .entry)) at (decimal n ++ (after ∷ [])) (now (out .exit)) r ⌝ }
 {
-    let next = put_decimal(out, at, n);
-    put_one(out, next, after)
-}
-
-fn hex_digit(n: u8) -> u8
-    requires { ⌜ n < 16 ⌝ }
-    ensures { λ r. ⌜ r ≡ hexDigit n ⌝ }
-{
-    if n < 10 {
-        return b'0' + n;
-    }
-    b'A' + (n - 10)
-}
-
-// A byte as two hexadecimal digits. Rules out: small letters; one digit for a byte below 16.
-fn put_hex(out: &mut [u8], at: usize, b: u8) -> usize
-    requires { ⌜ at + 2 ≤ length (now out) ⌝ }
-    ensures { λ r. ⌜ Wrote (now (out .entry)) at (hexByte b) (now (out .exit)) r ⌝ }
-{
-    put_two(out, at, hex_digit(b / 16), hex_digit(b % 16))
+    let next = text::put_decimal(out, at, n as u64);
+    text::put_one(out, next, after)
 }
 
 // The letter of a node's kind.
@@ -135,9 +75,9 @@ fn put_columns(forest: &[u8], out: &mut [u8], at: usize, s: usize, node: Node) -
         (now (out .exit)) r ⌝ }
 {
     let a = put_number(out, at, s as u32, b' ');
-    let b = put_two(out, a, tag(node), b' ');
-    let c = put_hex(out, b, opcode_shown(forest, node));
-    put_one(out, c, b' ')
+    let b = text::put_two(out, a, tag(node), b' ');
+    let c = text::put_hex(out, b, opcode_shown(forest, node));
+    text::put_one(out, c, b' ')
 }
 
 // The line of symbol s, which is used `uses` times. Rules out: the scope as usage; the opcode of a constant shown.
@@ -155,7 +95,7 @@ fn put_line(forest: &[u8], work: &[u32], out: &mut [u8], at: usize, s: usize, us
     let b = put_number(out, a, y.scope, b' ');
     let c = put_number(out, b, uses, b' ');
     let hoisted = gate::should_hoist(forest, work, s, uses);
-    put_two(out, c, yes_no(hoisted), b'\n')
+    text::put_two(out, c, yes_no(hoisted), b'\n')
 }
 
 // The lines of the first n symbols, one after the other, from `start` on.
@@ -185,21 +125,7 @@ pub fn put_symbols(forest: &[u8], work: &[u32], n: usize, out: &mut [u8]) -> usi
     ensures { λ r. ⌜ now (out .exit) ≡
         over (now (out .entry)) 0 (symbolLines (symsOf (now (forest .entry)) (now (work .entry)) n)) ⌝ }
 {
-    let a = put_text(out, 0, b"symbols ");
+    let a = text::put_text(out, 0, b"symbols ");
     let b = put_number(out, a, n as u32, b'\n');
     put_lines(forest, work, n, out, b)
-}
-
-// What the lister prints for a refusal, over the output's start. The answer is its length.
-// Rules out: the place before the number; the newline left out.
-pub fn put_refusal(out: &mut [u8], number: u32, place: u32) -> usize
-    requires { ⌜ (number < 1000000000) × (place < 1000000000) ⌝ }
-    requires { ⌜ 32 ≤ length (now out) ⌝ }
-    ensures { λ r. ⌜ (r ≡ length (refusalLine number place)) × (r ≤ length (now (out .entry))) ⌝ }
-    ensures { λ r. ⌜ now (out .exit) ≡ over (now (out .entry)) 0 (refusalLine number place) ⌝ }
-{
-    let a = put_text(out, 0, b"refused ");
-    let b = put_decimal(out, a, number);
-    let c = put_text(out, b, b" at ");
-    put_number(out, c, place, b'\n')
 }

@@ -26,7 +26,8 @@ use Rattle.interner.specs.State.{absOf, Rep}
 use Rattle.interner.specs.Step.{outOf}
 use Rattle.gate.specs.Gate.{Tallied}
 use Rattle.writer.specs.Over.{over}
-use Rattle.lines.specs.Lines.{Wrote, Listable}
+use Rattle.text.specs.Text.{Wrote}
+use Rattle.lines.specs.Lines.{Listable}
 use Rattle.cse.proofs.Buildable.{symbols-sound}
 
 -- the uses are counted in words ws₁

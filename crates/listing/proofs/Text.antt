@@ -1,6 +1,6 @@
 -- The lister's text, over the output that the call left. In order: which text; where it stands; later words.
 -- Assumes nothing.
-use Prim.Native.Nat.{ℕ, _+_, _-_, _≤_}
+use Prim.Native.Nat.{ℕ, _+_, _-_, _<_, _≤_}
 use mathlib.Core.Path.{_≡_, refl, sym, ap, _∙_}
 use mathlib.Core.Bool.{Bool, true, false}
 use mathlib.Core.List.{List, _++_}
@@ -13,9 +13,10 @@ use Rattle.model.specs.Answer as answer
 use Rattle.model.specs.Intern.{State}
 use Rattle.model.specs.Call.{Written, interned, run, outAfter, workAfter}
 use Rattle.model.specs.Lister.{linesOf, lister, symbolLines, refusalLine}
-use Rattle.writer.specs.Over.{over}
 use Rattle.writer.proofs.Over.{over-front}
-use Rattle.lines.specs.Lines.{Wrote}
+use Rattle.text.specs.Text.{refusal, Wrote}
+use Rattle.text.proofs.Wrote.{wrote-as}
+use Rattle.text.proofs.Refusal.{refusal-line}
 use Rattle.cse.proofs.Telling.{run-enough}
 use Rattle.listing.specs.Listing.{Listed}
 
@@ -45,25 +46,25 @@ module _ (bs out : List ℕ) (words : ℕ) (room : length out ≡ 65535) (enough
 
   -- over what the call left
   module _ (mid out′ : List ℕ) (r : ℕ) (left : mid ≡ outAfter bs out words) (long : length mid ≡ length out) where
-    text-stands : (text : List ℕ) → lister bs ≡ text → r ≡ length text → r ≤ length mid → out′ ≡ over mid 0 text →
-        Listed bs out words out′ r
-    text-stands text is e l h =
-        let parts : out′ ≡ text ++ drop r mid = h ∙ over-front mid text ∙ ap (λ (k : ℕ). text ++ drop k mid) (sym e) in
+    text-stands : {text : List ℕ} → lister bs ≡ text → Wrote mid 0 text out′ r → Listed bs out words out′ r
+    text-stands {text} is w =
+        let e : r ≡ length text = omega (arith, w .ends) in
+        let parts : out′ ≡ text ++ drop r mid =
+        w .holds ∙ over-front mid text ∙ ap (λ (k : ℕ). text ++ drop k mid) (sym e) in
         record {
           len = e ∙ ap length (sym is);
-          fits = omega arith;
+          fits = omega (arith, w .fits);
           text = ap (take r) parts ∙ take-at text (drop r mid) r (sym e) ∙ sym is;
           rest = ap (drop r) parts ∙ drop-at text (drop r mid) r (sym e) ∙ ap (drop r) left;
         }
 
-    pub refusal-listed : (n p : ℕ) → run bs (length out) words ≡ refused n p → r ≡ length (refusalLine n p) →
-        r ≤ length mid → out′ ≡ over mid 0 (refusalLine n p) → Listed bs out words out′ r
-    refusal-listed n p e = text-stands (refusalLine n p) (lister-refused n p e)
+    pub refusal-listed : (n p : ℕ) → run bs (length out) words ≡ refused n p → n < 1000000000 → p < 1000000000 →
+        Wrote mid 0 (refusal n p) out′ r → Listed bs out words out′ r
+    refusal-listed n p e small low w = text-stands (lister-refused n p e) (wrote-as (refusal-line n p small low) w)
 
     pub symbols-listed : (w : Written) (o : ℕ × State) → run bs (length out) words ≡ good w → interned bs ≡ good o →
         Wrote mid 0 (symbolLines (o .1 .syms)) out′ r → Listed bs out words out′ r
-    symbols-listed w o e f h =
-        text-stands (symbolLines (o .1 .syms)) (lister-good w o e f) (omega (arith, h .ends)) (h .fits) (h .holds)
+    symbols-listed w o e f = text-stands (lister-good w o e f)
 
 -- ---- words past those that the call clears
 

@@ -11,7 +11,7 @@ ghost use Rattle.model.specs.Intern.{State};
 ghost use Rattle.model.specs.Call.{interned};
 ghost use Rattle.model.specs.Lister.{symbolLines};
 ghost use Rattle.gate.specs.Gate.{Stored, Tallied};
-ghost use Rattle.lines.specs.Lines.{Wrote};
+ghost use Rattle.text.specs.Text.{Wrote};
 ghost use Rattle.cse.specs.Call.{Unused};
 ghost use Rattle.listing.specs.Listing.{Listed};
 
@@ -50,6 +50,6 @@ pub fn list(forest: &[u8], out: &mut [u8], work: &mut [u32]) -> usize
 {
     match cse::cse(forest, out, work) {
         Answer::Written(_, _, _) => list_symbols(forest, out, work),
-        Answer::Refused(number, place) => lines::put_refusal(out, number, place),
+        Answer::Refused(number, place) => text::put_refusal(out, number as u64, place as u64),
     }
 }

@@ -29,20 +29,11 @@ struct Row {
 
 // ---- the head of a row
 
-fn wide(x: u8) -> u32
-    ensures { λ r. ⌜ r < 256 ⌝ }
-{
-    x as u32
-}
-
-// Number i of a row's head, little-endian.
+// Number i of a row's head: little-endian, as ids are.
 fn number(head: &[u8; 32], i: usize) -> u32
     requires { ⌜ i < 8 ⌝ }
 {
-    wide(head[4 * i])
-        + 256 * wide(head[4 * i + 1])
-        + 65536 * wide(head[4 * i + 2])
-        + 16777216 * wide(head[4 * i + 3])
+    shape::id_at(head, 4 * i)
 }
 
 fn row_of(head: &[u8; 32]) -> Row {

@@ -1,2 +1,2 @@
 -- Laws of texts in a buffer. Assumes nothing.
-pub mod Texts
+pub mod Clipping

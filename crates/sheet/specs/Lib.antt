@@ -1,2 +1,2 @@
--- What the contracts of texts in a buffer cite. Assumes nothing.
-pub mod Wrote
+-- What the contracts cite. Assumes nothing.
+pub mod Clip

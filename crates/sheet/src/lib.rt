@@ -12,33 +12,33 @@
 //
 // Text goes into a buffer from a place on, as far as there is room, and each function gives the place after it.
 // A forest that a check refuses has one line, as `refused 10 at 0`.
-// The layout is free, so what is proved of it is that it is safe and ends; texts and hex have contracts (text.rt).
+// The layout is free, so what is proved of it is that it is safe, ends and stays in the buffer; texts, numbers and hex
+// have contracts (clip.rt), and so has the line of a refusal.
 // In order: a record's head; what it has; a line; depths; the sheet; the line of a refusal.
+mod clip;
 mod names;
-mod text;
 
+use clip::put;
+use clip::put_hexes;
+use clip::put_number;
+use clip::put_spaces;
+use clip::put_text;
 use names::put_class;
 use names::put_opcode;
 use names::put_shape;
-use text::put;
-use text::put_hexes;
-use text::put_number;
-use text::put_spaces;
-use text::put_text;
 ghost use mathlib.Core.Path.{_≡_};
-ghost use Prim.Native.Nat.{_<_};
+ghost use Prim.Native.Nat.{_<_, _≤_};
+ghost use lib.ListN.{length};
 ghost use Rattle.model.specs.Forest.{recordCount};
 ghost use Rattle.shape.specs.Args.{Left};
+ghost use Rattle.text.specs.Text.{refusal};
 ghost use Rattle.walk.specs.Walk.{Sound};
+ghost use Rattle.sheet.specs.Clip.{Clipped};
 
 fn wide(x: u8) -> usize
     ensures { λ r. ⌜ r ≡ x ⌝ }
 {
     x as usize
-}
-
-fn long(x: u32) -> u64 {
-    x as u64
 }
 
 // ---- a record's head: its number, its level, its shape and its opcode
@@ -55,7 +55,10 @@ fn pad(i: usize) -> usize {
 }
 
 // Record i's number and the spaces of its level.
-fn put_place(out: &mut [u8], at: usize, i: usize, level: usize) -> usize {
+fn put_place(out: &mut [u8], at: usize, i: usize, level: usize) -> usize
+    requires { ⌜ at ≤ length (now out) ⌝ }
+    ensures { λ r. ⌜ r ≤ length (now (out .entry)) ⌝ }
+{
     let from = put_spaces(out, at, pad(i));
     let end = put_number(out, from, i as u64);
     let half = put_spaces(out, end, level);
@@ -66,7 +69,9 @@ fn put_place(out: &mut [u8], at: usize, i: usize, level: usize) -> usize {
 
 // The ids of a lambda's n arguments, if it has any.
 fn put_args(out: &mut [u8], at: usize, lit: &[u8], n: usize) -> usize
+    requires { ⌜ at ≤ length (now out) ⌝ }
     requires { ⌜ Left n (now lit) 0 ⌝ }
+    ensures { λ r. ⌜ r ≤ length (now (out .entry)) ⌝ }
 {
     if n == 0 {
         return at;
@@ -76,7 +81,7 @@ fn put_args(out: &mut [u8], at: usize, lit: &[u8], n: usize) -> usize
     let mut k = 0;
     while k < n {
         end = put(out, end, b' ');
-        end = put_number(out, end, long(shape::id_at(lit, from)));
+        end = put_number(out, end, shape::id_at(lit, from) as u64);
         from = shape::arg_end(lit, from);
         k += 1;
     }
@@ -84,16 +89,22 @@ fn put_args(out: &mut [u8], at: usize, lit: &[u8], n: usize) -> usize
 }
 
 // The id of a use or a definition.
-fn put_id(out: &mut [u8], at: usize, lit: &[u8]) -> usize {
+fn put_id(out: &mut [u8], at: usize, lit: &[u8]) -> usize
+    requires { ⌜ at ≤ length (now out) ⌝ }
+    ensures { λ r. ⌜ r ≤ length (now (out .entry)) ⌝ }
+{
     if lit.len() < 4 {
         return at;
     }
     let end = put_text(out, at, b"  id ");
-    put_number(out, end, long(shape::id_at(lit, 0)))
+    put_number(out, end, shape::id_at(lit, 0) as u64)
 }
 
 // The field that a selection selects.
-fn put_field(out: &mut [u8], at: usize, lit: &[u8]) -> usize {
+fn put_field(out: &mut [u8], at: usize, lit: &[u8]) -> usize
+    requires { ⌜ at ≤ length (now out) ⌝ }
+    ensures { λ r. ⌜ r ≤ length (now (out .entry)) ⌝ }
+{
     if lit.len() < 1 {
         return at;
     }
@@ -103,7 +114,9 @@ fn put_field(out: &mut [u8], at: usize, lit: &[u8]) -> usize {
 
 // What a record of a shape has beside its literal.
 fn put_own(out: &mut [u8], at: usize, shape: u8, aux: u8, lit: &[u8]) -> usize
+    requires { ⌜ at ≤ length (now out) ⌝ }
     requires { ⌜ (shape ≡ 12 → Left aux (now lit) 0) ⌝ }
+    ensures { λ r. ⌜ r ≤ length (now (out .entry)) ⌝ }
 {
     match shape {
         0 => put_class(out, at, aux),
@@ -116,7 +129,10 @@ fn put_own(out: &mut [u8], at: usize, shape: u8, aux: u8, lit: &[u8]) -> usize
 }
 
 // A literal in hex.
-fn put_literal(out: &mut [u8], at: usize, lit: &[u8]) -> usize {
+fn put_literal(out: &mut [u8], at: usize, lit: &[u8]) -> usize
+    requires { ⌜ at ≤ length (now out) ⌝ }
+    ensures { λ r. ⌜ r ≤ length (now (out .entry)) ⌝ }
+{
     if lit.len() == 0 {
         return at;
     }
@@ -128,8 +144,10 @@ fn put_literal(out: &mut [u8], at: usize, lit: &[u8]) -> usize {
 
 // Record i's line, at a level.
 fn put_line(out: &mut [u8], at: usize, forest: &[u8], i: usize, level: usize) -> usize
+    requires { ⌜ at ≤ length (now out) ⌝ }
     requires { ⌜ Sound (now forest) ⌝ }
     requires { ⌜ i < recordCount (now forest) ⌝ }
+    ensures { λ r. ⌜ r ≤ length (now (out .entry)) ⌝ }
 {
     let shape = record::shape(forest, i);
     let aux = record::aux(forest, i);
@@ -184,8 +202,10 @@ fn follow(left: &mut [usize; 64], depth: usize, kids: usize) -> usize
 // ---- the sheet
 
 // The sheet of a forest at the start of out, as far as there is room; gives its length.
+// Rules out: a length past the buffer's end.
 pub fn write(forest: &[u8], out: &mut [u8]) -> usize
     requires { ⌜ Sound (now forest) ⌝ }
+    ensures { λ r. ⌜ r ≤ length (now (out .entry)) ⌝ }
 {
     let n = record::record_count(forest);
     let mut left = none_left();
@@ -200,11 +220,12 @@ pub fn write(forest: &[u8], out: &mut [u8]) -> usize
     end
 }
 
-// The one line for a forest that a check refuses, at the start of out; gives its length.
-pub fn write_refusal(number: u32, place: usize, out: &mut [u8]) -> usize {
-    let verb = put_text(out, 0, b"refused ");
-    let numbered = put_number(out, verb, long(number));
-    let at = put_text(out, numbered, b" at ");
-    let placed = put_number(out, at, place as u64);
-    put(out, placed, b'\n')
+// The one line for a forest that a check refuses, at the start of out, as far as there is room; gives its length.
+// Rules out: the place before the number; the newline left out.
+pub fn write_refusal(number: u32, place: usize, out: &mut [u8]) -> usize
+    ensures { λ r. ⌜ Clipped (now (out .entry)) 0 (refusal number place) (now (out .exit)) r ⌝ }
+{
+    let mut line = [0u8; text::LINE];
+    let k = text::put_refusal(&mut line, number as u64, place as u64);
+    put_text(out, 0, &line[..k])
 }

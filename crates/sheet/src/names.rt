@@ -1,8 +1,10 @@
 // Names: shapes and constants' classes as document 01 has them, opcodes as the Rust does. A list of names is one text
 // with a comma after each but the last; names are counted from 0, and a name may be empty.
-use crate::text::put;
-use crate::text::put_hex;
-use crate::text::put_text;
+use crate::clip::put;
+use crate::clip::put_hex;
+use crate::clip::put_text;
+ghost use Prim.Native.Nat.{_≤_};
+ghost use lib.ListN.{length};
 
 // Where name k of a list starts, or the list's end.
 fn name_start(names: &[u8], k: usize) -> usize {
@@ -21,7 +23,10 @@ fn name_start(names: &[u8], k: usize) -> usize {
 }
 
 // Name k of a list.
-fn put_name(out: &mut [u8], at: usize, names: &[u8], k: u8) -> usize {
+fn put_name(out: &mut [u8], at: usize, names: &[u8], k: u8) -> usize
+    requires { ⌜ at ≤ length (now out) ⌝ }
+    ensures { λ r. ⌜ r ≤ length (now (out .entry)) ⌝ }
+{
     let mut end = at;
     let mut i = name_start(names, k as usize);
     while i < names.len() {
@@ -36,7 +41,10 @@ fn put_name(out: &mut [u8], at: usize, names: &[u8], k: u8) -> usize {
 }
 
 // A shape's name.
-pub fn put_shape(out: &mut [u8], at: usize, shape: u8) -> usize {
+pub fn put_shape(out: &mut [u8], at: usize, shape: u8) -> usize
+    requires { ⌜ at ≤ length (now out) ⌝ }
+    ensures { λ r. ⌜ r ≤ length (now (out .entry)) ⌝ }
+{
     match shape {
         0..=9 => put_name(
             out,
@@ -67,7 +75,10 @@ pub fn put_shape(out: &mut [u8], at: usize, shape: u8) -> usize {
 }
 
 // A constant's class, by its aux.
-pub fn put_class(out: &mut [u8], at: usize, aux: u8) -> usize {
+pub fn put_class(out: &mut [u8], at: usize, aux: u8) -> usize
+    requires { ⌜ at ≤ length (now out) ⌝ }
+    ensures { λ r. ⌜ r ≤ length (now (out .entry)) ⌝ }
+{
     put_name(
         out,
         at,
@@ -77,7 +88,10 @@ pub fn put_class(out: &mut [u8], at: usize, aux: u8) -> usize {
 }
 
 // An opcode in hex, and its name. Opcodes that stand with one shape of their own have none here: the shape says it.
-pub fn put_opcode(out: &mut [u8], at: usize, opcode: u8) -> usize {
+pub fn put_opcode(out: &mut [u8], at: usize, opcode: u8) -> usize
+    requires { ⌜ at ≤ length (now out) ⌝ }
+    ensures { λ r. ⌜ r ≤ length (now (out .entry)) ⌝ }
+{
     let space = put(out, at, b' ');
     let end = put_hex(out, space, opcode);
     if opcode < 0xA8 {
@@ -87,7 +101,10 @@ pub fn put_opcode(out: &mut [u8], at: usize, opcode: u8) -> usize {
 }
 
 // The name of an opcode below A8, after a space.
-fn put_low_name(out: &mut [u8], at: usize, opcode: u8) -> usize {
+fn put_low_name(out: &mut [u8], at: usize, opcode: u8) -> usize
+    requires { ⌜ at ≤ length (now out) ⌝ }
+    ensures { λ r. ⌜ r ≤ length (now (out .entry)) ⌝ }
+{
     match opcode {
         0x7E..=0x82 => put_name(
             out,
@@ -118,7 +135,10 @@ fn put_low_name(out: &mut [u8], at: usize, opcode: u8) -> usize {
 }
 
 // The name of an opcode from A8 on, after a space.
-fn put_high_name(out: &mut [u8], at: usize, opcode: u8) -> usize {
+fn put_high_name(out: &mut [u8], at: usize, opcode: u8) -> usize
+    requires { ⌜ at ≤ length (now out) ⌝ }
+    ensures { λ r. ⌜ r ≤ length (now (out .entry)) ⌝ }
+{
     match opcode {
         0xAC => put_text(out, at, b" MinerPubkey"),
         0xB1 => put_text(out, at, b" SIZE_OF"),

@@ -4,6 +4,7 @@ use codec::Verdict;
 use libc::STDIN_FILENO;
 use libc::STDOUT_FILENO;
 ghost use mathlib.Core.Path.{_≡_};
+ghost use Prim.Native.Nat.{_≤_};
 ghost use lib.ListN.{length};
 
 // More than any sheet takes: 131,070 hex digits of literals, and 256 lines with less than 400 bytes beside.
@@ -13,16 +14,10 @@ fn room() -> [u8; 262144]
     [0; 262144]
 }
 
-// The first n bytes of a text.
-fn print(text: &[u8], n: usize) {
-    if text.len() < n {
-        return;
-    }
-    io::write_all(STDOUT_FILENO, &text[..n]);
-}
-
 // What is shown for a forest, put into text; gives its length.
-fn shown(forest: &[u8], work: &mut [u32; 3840], text: &mut [u8]) -> usize {
+fn shown(forest: &[u8], work: &mut [u32; 3840], text: &mut [u8]) -> usize
+    ensures { λ r. ⌜ r ≤ length (now (text .entry)) ⌝ }
+{
     match codec::check(forest, work) {
         Verdict::Accepted => sheet::write(forest, text),
         Verdict::Refused(number, place) => sheet::write_refusal(number, place, text),
@@ -35,5 +30,5 @@ fn main() {
     let mut text = room();
     let n = io::read_full(STDIN_FILENO, &mut forest);
     let k = shown(&forest[..n], &mut work, &mut text);
-    print(&text, k);
+    io::write_all(STDOUT_FILENO, &text[..k]);
 }

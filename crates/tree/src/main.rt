@@ -6,17 +6,9 @@ use libc::STDIN_FILENO;
 use libc::STDOUT_FILENO;
 
 fn print_refusal(number: u32, place: u32) {
-    io::write_all(STDERR_FILENO, b"refused ");
-    io::print_decimal(STDERR_FILENO, number as u64);
-    io::write_all(STDERR_FILENO, b" at ");
-    io::print_decimal(STDERR_FILENO, place as u64);
-    io::write_all(STDERR_FILENO, b"\n");
-}
-
-fn write_first(out: &[u8], n: usize) {
-    if n <= out.len() {
-        io::write_all(STDOUT_FILENO, &out[..n]);
-    }
+    let mut line = [0u8; text::LINE];
+    let n = text::put_refusal(&mut line, number as u64, place as u64);
+    io::write_all(STDERR_FILENO, &line[..n]);
 }
 
 fn main() {
@@ -25,7 +17,10 @@ fn main() {
     let mut out = [0u8; 65535];
     let mut work = [0u32; 16384];
     match cse::cse(&forest[..n], &mut out, &mut work) {
-        Answer::Written(length, _, _) => write_first(&out, length as usize),
+        Answer::Written(length, _, _) => {
+            let k = length as usize;
+            io::write_all(STDOUT_FILENO, &out[..k]);
+        }
         Answer::Refused(number, place) => print_refusal(number, place),
     }
 }

@@ -14,27 +14,10 @@ use Rattle.lines.proofs.tag.Tie as tie
 as-node : (bs : List ℕ) {n m : Node} → n ≡ m → tagOf (nodeOf bs m) ≡ tagOf (nodeOf bs n)
 as-node bs e = ap (λ (z : Node). tagOf (nodeOf bs z)) (sym e)
 
-returns : tie.Need-returns
-unfolding tagOf text
-returns c bs = as-node bs (c .enum-told .given .1)
-
-returns-2 : tie.Need-returns-2
-unfolding tagOf text
-returns-2 c bs = as-node bs (c .enum-told2 .given .1)
-
-returns-3 : tie.Need-returns-3
-unfolding tagOf text
-returns-3 c bs = as-node bs (c .enum-told3 .given .1)
-
-returns-4 : tie.Need-returns-4
-unfolding tagOf text
-returns-4 c bs = as-node bs (c .enum-told4 .given .1)
-
-returns-5 : tie.Need-returns-5
-unfolding tagOf text
-returns-5 c bs = as-node bs (c .enum-told5 .given .1)
-
 pub tag-spec : {M : Type 1} → statement M
+unfolding tagOf text
 tag-spec =
     tie.close (tie.spec (λ c. search needs) (λ c. search needs) (λ c. search needs) (λ c. search needs)
-    (λ c. search needs) returns returns-2 returns-3 returns-4 returns-5)
+    (λ c. search needs) (λ c bs. as-node bs (c .enum-told .given .1)) (λ c bs. as-node bs (c .enum-told2 .given .1))
+    (λ c bs. as-node bs (c .enum-told3 .given .1)) (λ c bs. as-node bs (c .enum-told4 .given .1))
+    (λ c bs. as-node bs (c .enum-told5 .given .1)))

@@ -24,19 +24,6 @@ list-symbols-requires c κs =
     (q .cse .result) (q .cse .ensures .0) (v .0 .0) (v .0 .1 .0) (v .0 .1 .1 .0) (v .1) in
     (made .accepted, (omega (arith, q .cse .kept .1 .0), omega (arith, q .cse .kept .1 .1 .0)))
 
-put-refusal-requires : tie.Need-put-refusal-requires
-put-refusal-requires c κs =
-    let q = c .before .before .before .before .before .before .before .before in
-    let b = q .before .before .before .before .before .before in
-    let bs = now (b .args .forest) in
-    let out = now (b .args .out) in
-    let words = length (now (b .args .work)) in
-    let v = c .before .before .number .given in
-    let is = told-refused bs (length out) words (q .cse .result) (q .cse .ensures .0) (v .0 .0) (v .0 .1 .0) (v .1) in
-    let number = number-small bs out words (v .0 .0) (v .0 .1 .0) is in
-    let place = place-most bs out words (v .0 .0) (v .0 .1 .0) is (b .pre .1) in
-    ((omega (arith, number, place), omega (arith, number, place)), omega (arith, q .cse .kept .1 .0))
-
 returns : tie.Need-returns
 returns c =
     let u = c .before .before .before .before in
@@ -68,15 +55,16 @@ returns-2 c =
     let v = u .before .before .before .number .given in
     let is = told-refused bs (length out) (length ws) (q .cse .result) (q .cse .ensures .0) (v .0 .0) (v .0 .1 .0)
     (v .1) in
-    let wrote = u .put-refusal .ensures in (
+    let number = number-small bs out (length ws) (v .0 .0) (v .0 .1 .0) is in
+    let place = place-most bs out (length ws) (v .0 .0) (v .0 .1 .0) is (b .pre .1) in (
       refusal-listed bs out (length ws) (b .pre .0) (b .pre .1) (q .cse .last .1 .0) (u .put-refusal .last .0)
           (u .put-refusal .result) (q .cse .ensures .1 .0) (q .cse .kept .1 .0) (v .0 .0) (v .0 .1 .0) is
-          (wrote .0 .0) (wrote .0 .1) (wrote .1),
+          (omega (arith, number)) (omega (arith, place)) (u .put-refusal .ensures),
       λ k l. ap (λ (l : List ℕ). getD l k 0) (q .cse .ensures .1 .1 .0) ∙ later-kept ws k l,
     )
 
 pub list-spec : {M : Type 1} → statement M
 list-spec =
     tie.close (tie.spec (λ c κs. search needs) (λ c. search needs) list-symbols-requires (λ c. search needs)
-    put-refusal-requires (λ c. search needs) (λ c. search needs) returns (λ c. search needs) (λ c. search needs)
-    returns-2)
+    (λ c. search needs) (λ c. search needs) (λ c κs. search needs) (λ c. search needs) (λ c. search needs) returns
+    (λ c. search needs) (λ c. search needs) returns-2)

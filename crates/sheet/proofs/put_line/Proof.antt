@@ -14,10 +14,12 @@ put-own-requires c κs =
     let l = opcode .before .before .before .before .before .before .before .before .before .before in
     let x = l .before in
     let s = x .before in
-    let b = s .before .before .before in
-    λ e.
-    func-literal (now (b .args .forest)) (b .args .i) (b .pre .0) (omega arith) (x .aux .result)
-    (now (l .literal-at .result)) (x .aux .ensures) (l .literal-at .ensures) (sym (s .shape .ensures) ∙ e) .1
+    let b = s .before .before .before in (
+      search needs,
+      λ e.
+          func-literal (now (b .args .forest)) (b .args .i) (b .pre .1 .0) (omega arith) (x .aux .result)
+          (now (l .literal-at .result)) (x .aux .ensures) (l .literal-at .ensures) (sym (s .shape .ensures) ∙ e) .1,
+    )
 
 pub put-line-spec : {M : Type 1} → statement M
 put-line-spec =

@@ -11,7 +11,7 @@ put-args-requires : tie.Need-put-args-requires
 put-args-requires c κs =
     let m = c .before .before in
     let s = m .before .before .before in
-    subst (λ (n : ℕ). Left n (now (s .args .lit)) 0) (sym (c .wide .ensures)) (s .pre (m .match .keys4))
+    (s .pre .0, subst (λ (n : ℕ). Left n (now (s .args .lit)) 0) (sym (c .wide .ensures)) (s .pre .1 (m .match .keys4)))
 
 pub put-own-spec : {M : Type 1} → statement M
 put-own-spec =

@@ -1,5 +1,5 @@
 -- `sheet::names::put_name` meets its contract. Assumes nothing.
-use Prim.Native.Nat.{_-_}
+use Prim.Native.Nat.{_≤_, _-_}
 use mathlib.Core.Path.{_≡_}
 use native.Mathlib.Omega.{arith}
 use lib.ListN.{length}
@@ -8,7 +8,7 @@ use Rattle.sheet.proofs.names.put_name.Statement.{statement}
 use Rattle.sheet.proofs.names.put_name.Tie as tie
 
 abbrev Inv-loop : tie.InvT-loop
-Inv-loop out₀ at names k end₀ i₀ out end i = length out ≡ length out₀
+Inv-loop out₀ at names k end₀ i₀ out end i = (length out ≡ length out₀) × (end ≤ length out₀)
 
 abbrev μ-loop : tie.MeasureT-loop
 μ-loop out₀ at names k end₀ i₀ out end i = length names - i
