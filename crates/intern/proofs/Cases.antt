@@ -1,6 +1,6 @@
 -- Record i by its kind, as the definitions have it.
--- In order: the definitions unfolded; a record that is not counted; a record that is: a lambda, a SelectField, any other
--- record, a use.
+-- In order: the definitions unfolded; a record that is not counted; a record that is: a lambda, a SelectField, any
+-- other record, a use.
 -- Assumes nothing.
 use Prim.Native.Nat.{ℕ, _+_, _-_, _<_, _≤_}
 use mathlib.Core.Path.{_≡_, refl, sym, ap, _∙_, subst}

@@ -1,8 +1,8 @@
--- What a record gives once its children were read, or read twice.
+-- What a record gives once its children were read, or read twice, or counted twice.
 -- In order: definitions, blocks and other records; a SelectField.
 -- Assumes nothing.
-use Prim.Native.Nat.{ℕ, _+_, _<_}
-use mathlib.Core.Path.{_≡_, sym, ap, _∙_, subst}
+use Prim.Native.Nat.{ℕ, _+_, _<_, _≤_}
+use mathlib.Core.Path.{_≡_, refl, sym, ap, _∙_, subst}
 use mathlib.Core.Bool.{Bool, true, false}
 use mathlib.Core.List.{List}
 use native.Mathlib.Omega.{arith}
@@ -19,21 +19,23 @@ use Rattle.symbols.specs.Words.{pendingFrom}
 use Rattle.bindings.specs.Bindings.{envOf}
 use Rattle.bindings.proofs.Laws.{env-words}
 use Rattle.tables.specs.declared.Tables.{Tables}
+use Rattle.tables.specs.Tables.{Open}
 use Rattle.interner.specs.declared.State.{State}
 use Rattle.interner.specs.declared.Step.{Step}
-use Rattle.interner.specs.State.{absOf}
+use Rattle.interner.specs.State.{absOf, Rep}
 use Rattle.interner.specs.Step.{Answers}
-use Rattle.concluding.specs.Concluding.{readsAgain, Concludes, Selects, Input}
+use Rattle.concluding.specs.Concluding.{readsAgain, Concludes, Branched, Selects, Input}
 use Rattle.concluding.proofs.Selecting.{selects-input, field-again}
 use Rattle.intern.specs.declared.Here.{Here}
 use Rattle.intern.specs.declared.Read.{Read}
 use Rattle.intern.specs.declared.Kids.{Kids}
-use Rattle.intern.specs.Steps.{refusedRead}
+use Rattle.intern.specs.Steps.{refusedRead, repeats, repeated}
 use Rattle.intern.specs.Intern.{Stands, Reads, kidsRead, concluded, WellKids, KeyedRead, Again, Operands}
-use Rattle.intern.specs.Intern.{kidsAnswer, ReadsAll}
-use Rattle.intern.proofs.Kept.{kept-then}
+use Rattle.intern.specs.Intern.{Concluding, Concluded, kidsAnswer, ReadsAll}
+use Rattle.intern.proofs.Kept.{kept-none, kept-then}
 use Rattle.intern.proofs.Records.{reads-refused, reads-answers, concluded-other, concluded-refused, Below, Gave}
 use Rattle.intern.proofs.Records.{stands-below, stands-later, kids-operands, kids-fail, kids-gave}
+use Rattle.intern.proofs.Repeats.{repeats-few, repeated-more, repeated-is, repeated-rep}
 use Rattle.intern.proofs.Cases.{field-refused, field-good}
 
 module _ (bs ws : List ℕ) (t : Tables) (st : State) (i : ℕ) (at : Here) (sound : Sound bs) (lt : i < recordCount bs)
@@ -143,6 +145,54 @@ module _ (bs ws : List ℕ) (t : Tables) (st : State) (i : ℕ) (at : Here) (sou
             ≡ internField i (at .scope) r env (kidsRead bs i) (pendingFrom ws₁ (at .held) 1) (absOf bs ws₁ t (k .st))
         field-is = field-good i (at .scope) r env (kidsRead bs i) (absOf bs ws t st) _ (gave₁ .is)
 
+        -- counted again
+        module _ (calm : repeats st (k .st) ≡ true) where
+          pub recount-asks : (st .readings ≤ k .st .readings)
+              × (k .st .readings + k .st .readings ≤ 2048 + st .readings)
+          recount-asks =
+              (repeated-more bs ws t st i at (isBlock r) 1 ws₁ k well gave₁ calm, repeats-few st (k .st) calm)
+
+          recount-rep : Rep bs ws₁ (repeated st k .st)
+          recount-rep = repeated-rep bs ws t st i at (isBlock r) 1 ws₁ k well gave₁ calm (v .rep)
+
+          recount-is : kidsAnswer bs ws₁ t (at .held) (rowAt bs i .kids) (repeated st k)
+              ≡ kidsRead bs i (at .scope) (envOf ws₁ (at .top)) (absOf bs ws₁ t (k .st))
+          recount-is =
+              ap (λ (n : ℕ). kidsAnswer bs ws₁ t (at .held) n (repeated st k)) (sym field-one)
+              ∙ sym (repeated-is bs ws t st i at (isBlock r) 1 ws₁ k well gave₁ calm)
+              ∙ ap (λ (x : Env). kidsRead bs i (at .scope) x (absOf bs ws₁ t (k .st)))
+              (sym (env-words ws₁ ws (at .top) (v .kept .words .bound)))
+
+          recount-concluding : Concluding bs ws₁ i at (repeated st k)
+          recount-concluding =
+              let c = field-selects .concludes in
+              record {
+                from = c .from;
+                children = refl;
+                current = c .current;
+                slots = omega (arith, c .slots, field-one);
+                pending = omega (arith, c .pending, field-one);
+                lower = λ j l. c .lower j (omega (arith, field-one));
+                forced = rw (← field-one) (c .forced);
+              }
+
+          pub recount-concludes : (z : Kids) → z ≡ repeated st k →
+              Rep bs ws₁ (z .st) × (Open t (z .st .entries) × (Concluding bs ws₁ i at z × Branched (z .branches)))
+          recount-concludes z is = rw is (recount-rep, (v .opened, (recount-concluding, v .branched)))
+
+          recount-keyed : (ws₂ : List ℕ) (step : Step) → Concluded bs ws₁ t i at (repeated st k) ws₂ step →
+              KeyedRead bs ws₁ t (k .st) i at ws₂ (record { step = step; next = k .next })
+          recount-keyed ws₂ step a =
+              let kept = kept-none at ws₁ (k .st) in
+              reads-answers i at _ (record { words = kept .words; scopes = kept .scopes }) recount-rep (v .opened) ws₂
+              step (k .next) (gave₁ .past)
+              (record {
+                rep = a .rep;
+                leaves = a .leaves;
+                low = a .low;
+                is = a .is ∙ ap (concluded i (at .scope) r) recount-is;
+              })
+
         module _ (b : Bool)
             (told : (n : ℕ) → getD ws₁ (8200 + at .held) 0 < n → b ≡ readsAgain bs ws₁ n i (at .held)) where
           pub field-once : b ≡ false → readsAgain bs ws₁ (k .st .symbols) i (at .held) ≡ false
@@ -182,3 +232,10 @@ module _ (bs ws : List ℕ) (t : Tables) (st : State) (i : ℕ) (at : Here) (sou
             well = gave₁ .again;
             then = again-reads e;
           }
+
+          pub recount-done : b ≡ true → repeats st (k .st) ≡ true → (z : Kids) → z ≡ repeated st k →
+              (ws₂ : List ℕ) (step : Step) → Concluded bs ws₁ t i at z ws₂ step →
+              Reads bs ws t st i at fieldOut ws₂ (record { step = step; next = k .next })
+          recount-done e calm z is ws₂ step a =
+              again-reads e ws₂ (record { step = step; next = k .next })
+              (recount-keyed calm ws₂ step (subst (λ (y : Kids). Concluded bs ws₁ t i at y ws₂ step) is a))

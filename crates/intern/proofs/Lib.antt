@@ -5,6 +5,7 @@ pub mod Remains
 pub mod Reading
 pub mod Bodies
 pub mod Records
+pub mod Repeats
 pub mod Cases
 pub mod Gives
 pub mod Lambdas

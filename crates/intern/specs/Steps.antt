@@ -1,9 +1,10 @@
--- The small steps of the walk, as records: where a child is read, thunks noted, children read.
+-- The small steps of the walk, as records: where a child is read, thunks noted, children read, and counted again.
 -- Assumes nothing.
-use Prim.Native.Nat.{ℕ, _+_}
-use mathlib.Core.Bool.{Bool, true, false}
-use lib.Dec.{eqb}
+use Prim.Native.Nat.{ℕ, _+_, _-_}
+use mathlib.Core.Bool.{Bool, true, false, _&&_}
+use lib.Dec.{eqb, leb}
 use Rattle.interner.specs.declared.State.{State}
+use Rattle.opening.specs.Opening.{withReadings}
 use Rattle.concluding.specs.declared.Branches.{Branches}
 use Rattle.intern.specs.declared.Here.{Here}
 use Rattle.intern.specs.declared.Read.{Read}
@@ -48,6 +49,21 @@ failed k r = record {
   number = r .step .number;
   place = r .step .place;
   next = r .next;
+  branches = k .branches;
+}
+
+-- what was read from one state to another opened no scope, and the readings suffice for it once more
+abbrev pub repeats : State → State → Bool
+repeats before after =
+    eqb (after .scopes) (before .scopes) && leb (after .readings + after .readings) (2048 + before .readings)
+
+-- children read from a state on, counted again
+abbrev pub repeated : State → Kids → Kids
+repeated before k = record {
+  st = withReadings (k .st) (k .st .readings - before .readings);
+  number = k .number;
+  place = k .place;
+  next = k .next;
   branches = k .branches;
 }
 

@@ -56,7 +56,7 @@ pub struct Entered {
 }
 
 // A SelectField whose input is read is done. Any other record is read by its children, from this state on; so is a
-// Tuple's field, whose input is read again.
+// Tuple's field, unless to read its input again only counts.
 pub enum Selected {
     Done(Read),
     Anew(State),
@@ -206,7 +206,8 @@ fn lambda(forest: &[u8], work: &mut [u32], t: Tables, i: usize, at: Here, st: St
     Read { step, next: k.next }
 }
 
-// A SelectField. Rules out: the input of a Tuple's field read once; any other input read twice.
+// A SelectField. A Tuple's input is read again; where that gives the same, its readings are only counted again. Rules
+// out: the input of a Tuple's field counted once; any other input read twice.
 fn field(forest: &[u8], work: &mut [u32], t: Tables, i: usize, at: Here, st: State) -> Selected
     requires { ⌜ Sound (now forest) ⌝ }
     requires { ⌜ i < recordCount (now forest) ⌝ }
@@ -223,6 +224,11 @@ fn field(forest: &[u8], work: &mut [u32], t: Tables, i: usize, at: Here, st: Sta
     }
     let held = at.held;
     if concluding::reads_again(forest, work, i, held) {
+        if small::repeats(st, after) {
+            let again = small::repeated(st, k);
+            let step = conclude(forest, work, t, i, at, again);
+            return Selected::Done(Read { step, next: k.next });
+        }
         return Selected::Anew(after);
     }
     let step = concluding::field(forest, work, t, after, i, at.scope, held);

@@ -1,4 +1,5 @@
-// The small steps of the walk: refusals, where a child is read, thunks, children read, a lambda's first argument.
+// The small steps of the walk: refusals, where a child is read, thunks, children read, and counted again, a lambda's
+// first argument.
 use crate::Here;
 use crate::Kids;
 use crate::Read;
@@ -10,6 +11,7 @@ ghost use mathlib.Core.Bool.{true};
 ghost use Prim.Native.Nat.{_+_, _<_, _≤_};
 ghost use Rattle.laws.specs.Range.{range};
 ghost use Rattle.intern.specs.Steps.{refusedRead, childAt, noted, unread, withChild, failed};
+ghost use Rattle.intern.specs.Steps.{repeats, repeated};
 
 pub fn wide(x: u8) -> usize
     ensures { λ r. ⌜ (r ≡ x) × (r < 256) ⌝ }
@@ -120,6 +122,37 @@ pub fn failed(k: Kids, r: Read) -> Kids
         number: step.number,
         place: step.place,
         next: r.next,
+        branches,
+    }
+}
+
+// Whether to read again would only count: from `before` to `after` no scope was opened, and the readings suffice. Rules
+// out: scopes that a second reading would open left out; more readings than there may be.
+pub fn repeats(before: State, after: State) -> bool
+    requires { ⌜ (before .readings ≤ 2048) × (after .readings ≤ 2048) ⌝ }
+    ensures { λ r. ⌜ r ≡ repeats before after ⌝ }
+{
+    if after.scopes != before.scopes {
+        return false;
+    }
+    after.readings + after.readings <= 2048 + before.readings
+}
+
+// Children read from `before` on, counted again. Rules out: their readings counted once; other symbols, scopes or
+// thunks.
+pub fn repeated(before: State, k: Kids) -> Kids
+    requires { ⌜ before .readings ≤ k .st .readings ⌝ }
+    requires { ⌜ k .st .readings + k .st .readings ≤ 2048 + before .readings ⌝ }
+    ensures { λ z. ⌜ z ≡ repeated before k ⌝ }
+{
+    let after = k.st;
+    let st = opening::count_readings(after, after.readings - before.readings);
+    let branches = k.branches;
+    Kids {
+        st,
+        number: k.number,
+        place: k.place,
+        next: k.next,
         branches,
     }
 }

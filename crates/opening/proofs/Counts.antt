@@ -1,6 +1,6 @@
--- How many symbols, scopes and tables a state stands for; one reading more.
+-- How many symbols, scopes and tables a state stands for; readings.
 -- Assumes nothing.
-use Prim.Native.Nat.{ℕ, _<_}
+use Prim.Native.Nat.{ℕ, _+_, _<_, _≤_}
 use mathlib.Core.Path.{_≡_}
 use mathlib.Core.List.{List}
 use native.Mathlib.Numerals.{add-one}
@@ -13,7 +13,7 @@ use Rattle.tables.proofs.Stack.{tables-length}
 use Rattle.scopes.proofs.Laws.{scopes-length}
 use Rattle.interner.specs.declared.State.{State}
 use Rattle.interner.specs.State.{absOf, Rep}
-use Rattle.opening.specs.Opening.{withReading}
+use Rattle.opening.specs.Opening.{withReadings, withReading}
 
 module _ (bs ws : List ℕ) (t : Tables) (st : State) where
   pub symbols-count : length (absOf bs ws t st .syms) ≡ st .symbols
@@ -25,13 +25,14 @@ module _ (bs ws : List ℕ) (t : Tables) (st : State) where
   pub tables-count : length (absOf bs ws t st .tables) ≡ t .depth
   tables-count = tables-length ws t (st .entries)
 
-  -- ---- one reading more
+  -- ---- readings
 
   pub reading-abs : absOf bs ws t (withReading st) ≡ read (absOf bs ws t st)
   reading-abs = rw (add-one (st .readings))
 
-pub reading-rep : (bs ws : List ℕ) (st : State) → Rep bs ws st → st .readings < 2048 → Rep bs ws (withReading st)
-reading-rep bs ws st rep few = record {
+pub readings-rep : (bs ws : List ℕ) (st : State) (n : ℕ) → Rep bs ws st → st .readings + n ≤ 2048 →
+    Rep bs ws (withReadings st n)
+readings-rep bs ws st n rep few = record {
   words = rep .words;
   few-symbols = rep .few-symbols;
   slots-used = rep .slots-used;
@@ -40,7 +41,7 @@ reading-rep bs ws st rep few = record {
   few-scopes = rep .few-scopes;
   few-entries = rep .few-entries;
   few-memo = rep .few-memo;
-  few-readings = omega arith;
+  few-readings = few;
   below = rep .below;
   marked = rep .marked;
   sound = rep .sound;
@@ -51,3 +52,6 @@ reading-rep bs ws st rep few = record {
   remembered = rep .remembered;
   once = rep .once;
 }
+
+pub reading-rep : (bs ws : List ℕ) (st : State) → Rep bs ws st → st .readings < 2048 → Rep bs ws (withReading st)
+reading-rep bs ws st rep few = readings-rep bs ws st 1 rep (omega arith)

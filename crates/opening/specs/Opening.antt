@@ -1,18 +1,22 @@
--- The states of interning after a reading, after a scope is opened, and after a thunk.
+-- The states of interning after readings, after a scope is opened, and after a thunk.
 -- Assumes nothing.
 use Prim.Native.Nat.{ℕ, _+_}
 use Rattle.interner.specs.declared.State.{State}
 
--- one reading more
-abbrev pub withReading : State → State
-withReading st = record {
+-- n readings more
+abbrev pub withReadings : State → ℕ → State
+withReadings st n = record {
   entries = st .entries;
   symbols = st .symbols;
   slots = st .slots;
   scopes = st .scopes;
   memo = st .memo;
-  readings = st .readings + 1;
+  readings = st .readings + n;
 }
+
+-- one reading more
+abbrev pub withReading : State → State
+withReading st = withReadings st 1
 
 -- one scope more
 abbrev pub withScope : State → State

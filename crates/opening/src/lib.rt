@@ -2,15 +2,15 @@
 // opened (intern.rs).
 use interner::State;
 ghost use mathlib.Core.Path.{_≡_};
-ghost use Prim.Native.Nat.{_<_, _≤_};
+ghost use Prim.Native.Nat.{_+_, _<_, _≤_};
 ghost use lib.ListN.{length};
 ghost use Rattle.scopes.specs.Scopes.{scopeWord, levelOf, withThunk, withLambda};
-ghost use Rattle.opening.specs.Opening.{withReading, withScope, thunkClosed};
+ghost use Rattle.opening.specs.Opening.{withReadings, withReading, withScope, thunkClosed};
 
-// One reading more. Rules out: the count as it was; a reading that counts twice.
-pub fn count_reading(st: State) -> State
-    requires { ⌜ st .readings < 2048 ⌝ }
-    ensures { λ r. ⌜ r ≡ withReading st ⌝ }
+// n readings more. Rules out: one more; the count as it was.
+pub fn count_readings(st: State, n: u32) -> State
+    requires { ⌜ st .readings + n ≤ 2048 ⌝ }
+    ensures { λ r. ⌜ r ≡ withReadings st n ⌝ }
 {
     State {
         entries: st.entries,
@@ -18,8 +18,16 @@ pub fn count_reading(st: State) -> State
         slots: st.slots,
         scopes: st.scopes,
         memo: st.memo,
-        readings: st.readings + 1,
+        readings: st.readings + n,
     }
+}
+
+// One reading more. Rules out: the count as it was; a reading that counts twice.
+pub fn count_reading(st: State) -> State
+    requires { ⌜ st .readings < 2048 ⌝ }
+    ensures { λ r. ⌜ r ≡ withReading st ⌝ }
+{
+    count_readings(st, 1)
 }
 
 // One scope more.

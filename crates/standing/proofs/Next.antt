@@ -1,11 +1,11 @@
 -- Past an operand, and what all operands leave.
 -- In order: an operand's symbol, and what may be read after it; no opcode has over two thunks; the symbols of all
--- operands, and that these may be read again.
+-- operands, that these may be read again, and when that gives the same (`again-same`).
 -- Assumes nothing.
 use mathlib.Core.Path.{_≡_, refl}
 use mathlib.Core.Bool.{Bool, true, false, not, _&&_, _||_}
 use mathlib.Core.List.{List, [], _∷_}
-use Prim.Native.Nat.{ℕ, zero, suc, _+_, _≤_}
+use Prim.Native.Nat.{ℕ, zero, suc, _+_, _-_, _≤_}
 use native.Mathlib.Omega.{arith}
 use lib.Dec.{eqb}
 use borrow.Author.Tests.{ne-eqb}
@@ -16,18 +16,22 @@ use Rattle.model.specs.Unfold.{unfoldAt}
 use Rattle.model.specs.Intern.{State, Env, bindDef, thunked, internScoped, intern, internAll}
 use Rattle.laws.proofs.Holds.{holds-good}
 use Rattle.theory.proofs.Acceptance.Checked.{Checked, checked-head, checked-tail}
+use Rattle.theory.proofs.Interning.Good.{symCount, scopeCount}
 use Rattle.theory.proofs.Interning.Inv.{keys, Grow}
 use Rattle.theory.proofs.Interning.Keep.{KeptAll, last-in}
 use Rattle.theory.proofs.Interning.Operands.{KeptIn, bindDef-keys, bindDef-env}
 use Rattle.theory.proofs.Interning.Walk.{internAll-keeps}
 use Rattle.theory.proofs.Interning.Walk as walk
+use Rattle.theory.proofs.Interning.Reread.{sound-tabled, bound-fits, reread-more, reread-all}
+use Rattle.theory.proofs.Interning.Reread.Later.{withReadings}
+use Rattle.theory.proofs.Interning.Reread.Kinds.{EnvFits}
 use Rattle.theory.proofs.Bounds.Sound.{thunks, room-less, KeepsAll}
 use Rattle.theory.proofs.Bounds.Kinds.{plainKids}
 use Rattle.theory.proofs.Bounds.Trees.{scopeFree, Scoped, free-more, all-keep}
 use Rattle.theory.proofs.Bounds.Trees as trees
 use Rattle.theory.proofs.Bounds.Limits.{Any, any-tree, any-trees}
 use Rattle.standing.specs.Standing.{WellAll, Result, AllRead}
-use Rattle.standing.proofs.Moves.{env-low, step-stands, step-gives, result-of}
+use Rattle.standing.proofs.Moves.{env-ok, env-low, step-stands, step-gives, result-of}
 
 -- ---- an operand
 
@@ -149,3 +153,16 @@ module _ {ts : Trees} {b : Bool} {op j cur : ℕ} {env : Env} {st : State} {k : 
         (sound-all .keeps .room);
     pays = w .pays;
   }
+
+  -- where no scope was opened, it gives the same, and only readings are counted
+  module _ (no-scope : scopeCount (os .2) ≡ scopeCount st) where
+    bound : EnvFits env (symCount st)
+    bound = bound-fits env (symCount st) (env-ok (w .standing) .low)
+
+    pub again-more : st .readings ≤ os .2 .readings
+    again-more = reread-more ts op j at cur env st os (sound-tabled (w .standing .sound)) bound is no-scope
+
+    pub again-same : os .2 .readings + (os .2 .readings - st .readings) ≤ 2048 →
+        internAll ts op j at cur env (os .2)
+        ≡ good (os .0, os .1, withReadings (os .2) (os .2 .readings + (os .2 .readings - st .readings)))
+    again-same = reread-all ts op j at cur env st os (sound-tabled (w .standing .sound)) bound is no-scope

@@ -3,9 +3,9 @@
 -- opens no scope and the readings suffice.
 --
 -- In order: what is asked of the state and the bindings, from what is known of them at every point of interning
--- (`sound-tabled`, `bound-fits`); the law; and that such trees have no thunk (`reread-no-thunks`). The folder proves
--- it: Later says what a later state finds; Finds, Projections and Kinds go through the steps of a record, Walk through
--- trees.
+-- (`sound-tabled`, `bound-fits`); that no reading is taken back (`reread-more`); the law; and that such trees have no
+-- thunk (`reread-no-thunks`). The folder proves it: Later says what a later state finds; Finds, Projections and Kinds
+-- go through the steps of a record, Walk through trees.
 -- Assumes nothing.
 pub mod Later
 pub mod Finds
@@ -67,6 +67,9 @@ module _ (ts : Trees) (op j at cur : ℕ) (env : Env) (s : State) (os : List ℕ
       let f : State → _ = λ v. internAll ts op j at cur env v in
       holds-good (RereadsAll (EnvFits env (symCount s)) f s) first (internAll-rereads ts op j at cur env s) .calm bound
       tabled no-scope
+
+  pub reread-more : s .readings ≤ os .2 .readings
+  reread-more = omega (arith, calm-all .calm .counted)
 
   pub reread-all : os .2 .readings + (os .2 .readings - s .readings) ≤ 2048 →
       internAll ts op j at cur env (os .2)

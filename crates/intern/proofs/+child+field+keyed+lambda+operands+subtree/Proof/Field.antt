@@ -1,17 +1,21 @@
 -- `intern::field` meets its contract at a measure, if calls below it do. Assumes nothing.
 use Prim.Native.Nat.{ℕ, _-_}
-use mathlib.Core.Path.{_∙_}
+use mathlib.Core.Path.{sym, _∙_}
 use native.Mathlib.Omega.{arith}
 use denote.Ref.{now}
 use Rattle.walk.proofs.Bridge.{records-few}
 use Rattle.intern.proofs.Gives.{keyed-operands, field-one, field-fails}
 use Rattle.intern.proofs.Gives.{field-selects, field-input, field-once, field-done, again-done}
+use Rattle.intern.proofs.Gives.{recount-asks, recount-concludes, recount-done}
 use Rattle.intern.proofs.field.Reads as field
 use Rattle.intern.proofs.+child+field+keyed+lambda+operands+subtree.Lts-field as field-lts
 use Rattle.intern.proofs.operands.Reads as operands
 use Rattle.concluding.proofs.field.Reads as field-reads
 use Rattle.concluding.proofs.reads_again.Reads as reads-again-reads
+use Rattle.intern.proofs.conclude.Reads as conclude-reads
 use Rattle.intern.proofs.small.refused.Reads as refused-reads
+use Rattle.intern.proofs.small.repeats.Reads as repeats-reads
+use Rattle.intern.proofs.small.repeated.Reads as repeated-reads
 use Rattle.record.proofs.opcode.Reads as opcode-reads
 use Rattle.intern.proofs.+child+field+keyed+lambda+operands+subtree.Proof.Measures.{field-at, operands-below}
 
@@ -24,6 +28,12 @@ pub field-part : {M : Type 1} (t : ℕ) → field-lts.Closed (
   refused-reads.Learnt,
   reads-again-reads.Asked,
   reads-again-reads.Learnt,
+  repeats-reads.Asked,
+  repeats-reads.Learnt,
+  repeated-reads.Asked,
+  repeated-reads.Learnt,
+  conclude-reads.Asked,
+  conclude-reads.Learnt,
   field-reads.Asked,
   field-reads.Learnt,
 ) (field-at t) field.Post M
@@ -37,6 +47,12 @@ field-part t =
       refused-reads.Learnt,
       reads-again-reads.Asked,
       reads-again-reads.Learnt,
+      repeats-reads.Asked,
+      repeats-reads.Learnt,
+      repeated-reads.Asked,
+      repeated-reads.Learnt,
+      conclude-reads.Asked,
+      conclude-reads.Learnt,
       field-reads.Asked,
       field-reads.Learnt,
     ) (field-at t) field.Post
@@ -74,8 +90,60 @@ field-part t =
     (p .1 .1 .1 .0) (p .1 .1 .1 .1) (p .1 .1 .0 .0) (p .1 .1 .0 .1) _ (c8 .opcode .ensures) _ _ (o .ensures)
     (c1 .if1 .left) in
     (p .0, input))
-    (λ c. let c8 = c .before .before .before .before .before .before .before .before in c8 .operands .kept .1 .0)
-    (λ c. let c1 = c .before in
+    (λ c κs. let c8 = c .before .before .before .before .before .before .before .before in
+    let p = c8 .before .before .before .before .before .pre .1 in
+    let before = p .1 .1 .1 .0 .rep .few-readings in
+    let after = c8 .operands .ensures .rep .few-readings in
+    (omega arith, omega arith))
+    (λ c κs. let d = c .before .before in
+    let c3 = d .before .before .before in
+    let c8 = c3 .before .before .before .before .before in
+    let c10 = c8 .before .before in
+    let c13 = c10 .before .before .before in
+    let a = c13 .args in
+    let p = c13 .pre .1 in
+    let asks = recount-asks (now (a .forest)) (now (a .work)) (a .t) (a .st) (a .i) (a .at) (p .0) (p .1 .0)
+    (p .1 .1 .1 .0) (p .1 .1 .1 .1) (p .1 .1 .0 .0) (p .1 .1 .0 .1) _ (c10 .opcode .ensures) _ _ (c8 .operands .ensures)
+    (c3 .if1 .left) (sym (c .before .repeats .ensures) ∙ c .if3 .taken) in
+    (omega (arith, asks), omega (arith, asks)))
+    (λ c κs. let e = c .before .before in
+    let d = e .before .before in
+    let c3 = d .before .before .before in
+    let c8 = c3 .before .before .before .before .before in
+    let c10 = c8 .before .before in
+    let c13 = c10 .before .before .before in
+    let a = c13 .args in
+    let p = c13 .pre .1 in
+    let concludes = recount-concludes (now (a .forest)) (now (a .work)) (a .t) (a .st) (a .i) (a .at) (p .0) (p .1 .0)
+    (p .1 .1 .1 .0) (p .1 .1 .1 .1) (p .1 .1 .0 .0) (p .1 .1 .0 .1) _ (c10 .opcode .ensures) _ _ (c8 .operands .ensures)
+    (c3 .if1 .left) (sym (e .before .repeats .ensures) ∙ e .if3 .taken) _ (c .before .repeated .ensures) in
+    (p .0, concludes))
+    (λ c. let c2 = c .before .before in
+    let d = c2 .before .before .before .before .before in
+    let c8 = d .before .before .before .before .before .before .before .before in
+    c2 .conclude .kept .1 .0 ∙ c8 .operands .kept .1 .0)
+    (λ c. let c2 = c .before .before in
+    let f = c2 .before .before in
+    let e = f .before in
+    let d = e .before .before in
+    let c1 = d .before in
+    let c3 = c1 .before .before in
+    let c8 = c3 .before .before .before .before .before in
+    let c10 = c8 .before .before in
+    let c13 = c10 .before .before .before in
+    let a = c13 .args in
+    let p = c13 .pre .1 in
+    let o = c8 .operands in
+    let g = c1 .reads-again in
+    let calm = sym (e .before .repeats .ensures) ∙ e .if3 .taken in
+    recount-done (now (a .forest)) (now (a .work)) (a .t) (a .st) (a .i) (a .at) (p .0) (p .1 .0) (p .1 .1 .1 .0)
+    (p .1 .1 .1 .1) (p .1 .1 .0 .0) (p .1 .1 .0 .1) _ (c10 .opcode .ensures) _ _ (o .ensures) (c3 .if1 .left)
+    (g .result) (g .ensures) (d .if2 .taken) calm _ (f .repeated .ensures) _ _ (c2 .conclude .ensures))
+    (λ c. let d = c .before .before in
+    let c8 = d .before .before .before .before .before .before .before .before in
+    c8 .operands .kept .1 .0)
+    (λ c. let d = c .before .before in
+    let c1 = d .before in
     let c3 = c1 .before .before in
     let c8 = c3 .before .before .before .before .before in
     let c10 = c8 .before .before in
@@ -86,7 +154,7 @@ field-part t =
     let g = c1 .reads-again in
     again-done (now (a .forest)) (now (a .work)) (a .t) (a .st) (a .i) (a .at) (p .0) (p .1 .0) (p .1 .1 .1 .0)
     (p .1 .1 .1 .1) (p .1 .1 .0 .0) (p .1 .1 .0 .1) _ (c10 .opcode .ensures) _ _ (o .ensures) (c3 .if1 .left)
-    (g .result) (g .ensures) (c .if2 .taken))
+    (g .result) (g .ensures) (d .if2 .taken))
     (λ c κs. let c1 = c .before in
     let c2 = c1 .before in
     let c4 = c2 .before .before in
