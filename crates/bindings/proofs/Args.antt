@@ -1,5 +1,5 @@
 -- A lambda's arguments, bound one by one: what is left gives the whole. Assumes nothing.
-use Prim.Native.Nat.{ℕ, zero, suc, _+_, _-_, _<_, _≤_}
+use Prim.Native.Nat.{ℕ, suc, _+_, _-_, _<_, _≤_}
 use mathlib.Core.Path.{_≡_, refl, sym, ap, _∙_}
 use mathlib.Core.Option.{none}
 use mathlib.Core.List.{List}
@@ -10,15 +10,12 @@ use Rattle.model.specs.Bytes.{u32}
 use Rattle.model.specs.Shape.{aArg}
 use Rattle.model.specs.Binding.{argsOf}
 use Rattle.laws.specs.Range.{range}
+use Rattle.laws.proofs.ArgLists.{args-length}
+use Rattle.laws.proofs.Numbering.{range-length}
 use Rattle.shape.specs.Args.{Left, nextArg}
-use Rattle.shape.proofs.Args.{args-step, args-none, args-length, left-stands, left-id, left-next}
+use Rattle.shape.proofs.Args.{args-step, args-none, left-stands, left-id, left-next}
 use Rattle.bindings.specs.Bindings.{bound, pairsOf, boundAll}
 use Rattle.bindings.proofs.Laws.{pairs-length}
-
-pub range-length : (first n : ℕ) → length (range first n) ≡ n
-unfolding range
-range-length first zero = refl
-range-length first (suc n) = ap suc (range-length (suc first) n)
 
 -- n arguments of a literal, with the symbols from `first` on
 abbrev pub argPairs : ℕ → List ℕ → ℕ → List (ℕ × ℕ)

@@ -11,13 +11,14 @@ use Rattle.model.specs.Forest.{recordCount}
 use Rattle.model.specs.Binding.{idOf, argsOf}
 use Rattle.model.specs.Intern.{Env, bindArgs, bindDef}
 use Rattle.laws.specs.Range.{range}
-use Rattle.shape.proofs.Args.{args-length}
+use Rattle.laws.proofs.ArgLists.{args-length}
+use Rattle.laws.proofs.Numbering.{range-length}
 use Rattle.walk.specs.Walk.{recAt, treeAt, Sound}
 use Rattle.walk.proofs.Bridge.{func-literal}
 use Rattle.bindings.specs.Bindings.{envOf, bound, boundAll}
 use Rattle.bindings.specs.Made.{Beside, ArgsBound, DefBound}
 use Rattle.bindings.proofs.Laws.{env-bound, env-args, all-word, all-length}
-use Rattle.bindings.proofs.Args.{range-length, argPairs, arg-pairs-length}
+use Rattle.bindings.proofs.Args.{argPairs, arg-pairs-length}
 
 -- ---- what is kept
 

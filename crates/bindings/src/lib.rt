@@ -39,12 +39,6 @@ pub fn bind(work: &mut [u32], k: usize, id: u32, symbol: u32)
 
 // ---- what a lambda and a definition bind
 
-fn wide(x: u8) -> usize
-    ensures { λ r. ⌜ (r ≡ x) × (r < 256) ⌝ }
-{
-    x as usize
-}
-
 // Binds the n arguments of a literal to the symbols from `first` on, above top entries.
 fn bind_all(lit: &[u8], work: &mut [u32], n: usize, top: usize, first: u32)
     requires { ⌜ Left n (now lit) 0 ⌝ }
@@ -72,14 +66,14 @@ pub fn bind_args(forest: &[u8], work: &mut [u32], i: usize, top: usize, first: u
     requires { ⌜ (top + 15 ≤ 1200) × (10856 ≤ length (now work)) × (first ≤ 512) ⌝ }
     ensures { λ r. ⌜ ArgsBound (now (forest .entry)) i top first (now (work .entry)) (now (work .exit)) r ⌝ }
 {
-    let n = wide(record::aux(forest, i));
+    let n = record::wide(record::aux(forest, i));
     let lit = record::literal(forest, i);
     bind_all(lit, work, n, top, first);
     top + n
 }
 
 // Binds what record i's subtree, whose symbol is given, binds in its later siblings.
-// Rules out: a lambda's arguments; a use's id; the symbol under another record's id.
+// Rules out: a lambda's arguments bound; the symbol under another record's id.
 pub fn bind_def(forest: &[u8], work: &mut [u32], i: usize, top: usize, symbol: u32) -> usize
     requires { ⌜ Sound (now forest) ⌝ }
     requires { ⌜ (i < recordCount (now forest)) × (top < 1200) × (10856 ≤ length (now work)) ⌝ }

@@ -10,7 +10,8 @@ use Rattle.model.specs.Intern.{Sym}
 use Rattle.model.specs.Lister.{allSlots}
 use Rattle.symbols.specs.Symbols.{kidsAt, symOf, symFrom, symsOf}
 use Rattle.gate.specs.Gate.{usesAt, cleared, tallied, Stored, Kept, Tallied}
-use Rattle.gate.proofs.Words.{Under, count-append, kept-refl, kept-trans, cleared-length, cleared-kept}
+use Rattle.laws.proofs.Falls.{Under}
+use Rattle.gate.proofs.Words.{count-append, kept-refl, kept-trans, cleared-length, cleared-kept}
 use Rattle.gate.proofs.Words.{cleared-zero, allNoted-length, allNoted-kept, allNoted-uses}
 use Rattle.gate.proofs.Run.{kids-under, kids-kept, stored-kept}
 

@@ -1,8 +1,8 @@
 -- The gate by a record's parts: context properties; internal ones; constants; the whole.
 -- Assumes nothing.
 use Prim.Native.Nat.{ℕ, _<_, _≤_}
-use mathlib.Core.Path.{_≡_, refl, sym, ap, _∙_}
-use mathlib.Core.Bool.{Bool, true, false, not, _||_}
+use mathlib.Core.Path.{_≡_, sym, ap, _∙_}
+use mathlib.Core.Bool.{Bool, true, false, not, or-false}
 use mathlib.Core.List.{List, [], _∷_}
 use native.Mathlib.Omega.{arith}
 use lib.Dec.{eqb, ltb}
@@ -29,11 +29,7 @@ module _ (o : ℕ) (y : Sym) (is : y .rec .opcode ≡ o) where
 
   pub property-last : (o ≡ 0xA3 → ⊥) → (o ≡ 0xA4 → ⊥) → (o ≡ 0xA5 → ⊥) → eqb o 0xA7 ≡ isContextProperty y
   unfolding isContextProperty isIn
-  property-last a b c = rw (is, ne-eqb o 0xA3 a, ne-eqb o 0xA4 b, ne-eqb o 0xA5 c) (go (eqb o 0xA7))
-    where
-      go : (t : Bool) → t ≡ (t || false)
-      go true = refl
-      go false = refl
+  property-last a b c = rw (is, ne-eqb o 0xA3 a, ne-eqb o 0xA4 b, ne-eqb o 0xA5 c) (sym (or-false (eqb o 0xA7)))
 
   pub internal : eqb o 0xDD ≡ isInternal y
   unfolding isInternal

@@ -14,7 +14,8 @@ use Rattle.model.specs.Intern.{Sym, symAt}
 use Rattle.model.specs.Gate.{reach, slotsOf}
 use Rattle.laws.proofs.Members.{In, isIn-false, not-in-isIn, union-left, union-cases}
 use Rattle.laws.proofs.Once.{Once, reach-once}
-use Rattle.gate.proofs.Words.{Under, count-append}
+use Rattle.laws.proofs.Falls.{Under}
+use Rattle.gate.proofs.Words.{count-append}
 
 -- ---- what `reach` adds
 

@@ -17,7 +17,8 @@ use Rattle.symbols.specs.Symbols.{kidsAt, AllSound}
 use Rattle.symbols.proofs.Words.{words-length, words-more, words-agree}
 use Rattle.gate.specs.Gate.{usesAt, noted, allNoted, Lower, Stored, Small, Notable, Kept}
 use Rattle.laws.proofs.Once.{count-short}
-use Rattle.gate.proofs.Words.{Under, allNoted-length, allNoted-more, allNoted-kept, allNoted-uses}
+use Rattle.laws.proofs.Falls.{Under}
+use Rattle.gate.proofs.Words.{allNoted-length, allNoted-more, allNoted-kept, allNoted-uses}
 
 -- ---- a run's members
 

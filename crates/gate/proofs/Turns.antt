@@ -9,7 +9,8 @@ use native.Mathlib.Numerals.{add-one}
 use lib.ListN.{length}
 use Rattle.symbols.specs.Symbols.{kidsAt}
 use Rattle.gate.specs.Gate.{usesAt, allNoted, visited, visitedDown, tallied, Lower, Stored, Small, Kept}
-use Rattle.gate.proofs.Words.{Under, kept-refl, kept-trans, allNoted-length, allNoted-kept, allNoted-uses}
+use Rattle.laws.proofs.Falls.{Under}
+use Rattle.gate.proofs.Words.{kept-refl, kept-trans, allNoted-length, allNoted-kept, allNoted-uses}
 use Rattle.gate.proofs.Run.{kids-under, kids-short, kids-kept, stored-kept}
 use Rattle.gate.proofs.Visits.{visited-length, visited-kept, visited-bound, visited-agree}
 

@@ -17,7 +17,8 @@ use Rattle.laws.proofs.Members.{isIn-true, in-isIn, union-left}
 use Rattle.symbols.specs.Symbols.{kidsAt, symsOf}
 use Rattle.symbols.proofs.Laws.{kids-at}
 use Rattle.gate.specs.Gate.{usesAt, markAt, cleared, allNoted, visited, visitedDown, Stored, Kept, Reached}
-use Rattle.gate.proofs.Words.{Under, kept-refl, kept-trans, set-kept, cleared-length, cleared-kept, cleared-zero}
+use Rattle.laws.proofs.Falls.{Under}
+use Rattle.gate.proofs.Words.{kept-refl, kept-trans, set-kept, cleared-length, cleared-kept, cleared-zero}
 use Rattle.gate.proofs.Words.{allNoted-length, allNoted-kept, allNoted-uses, allNoted-mark}
 use Rattle.gate.proofs.Reach.{reach-keeps, reach-misses, total, slots-total}
 use Rattle.gate.proofs.Run.{kids-under, kids-kept, stored-kept, stored-less}

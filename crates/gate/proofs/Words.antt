@@ -13,7 +13,8 @@ use lib.ListN.{length, set, length-set}
 use lib.Seq.{getD-set-same, getD-set-other}
 use borrow.Author.Tests.{eq-eqb, eqb-true, eqb-false}
 use Rattle.model.specs.Lists.{isIn, count, add, union}
-use Rattle.laws.proofs.Members.{In, in-isIn, in-right}
+use Rattle.laws.proofs.Members.{in-isIn, in-right}
+use Rattle.laws.proofs.Falls.{Under}
 use Rattle.gate.specs.Gate.{usesAt, markAt, cleared, noted, allNoted, Kept}
 
 -- ---- members of a list with one more, and counts
@@ -133,10 +134,6 @@ module _ (ws : List ℕ) where
           (o .0 ∙ z .0, o .1 ∙ z .1)
 
 -- ---- uses noted
-
--- each number of a list is below m
-abbrev pub Under : ℕ → List ℕ → Type 0
-Under m xs = (a : ℕ) → In a xs → a < m
 
 module _ (ws : List ℕ) (k : ℕ) where
   noted-length : length (noted ws k) ≡ length ws

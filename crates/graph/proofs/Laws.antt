@@ -2,7 +2,7 @@
 -- Assumes nothing.
 use Prim.Native.Nat.{ℕ, zero, suc, _+_, _<_, _≤_}
 use mathlib.Core.Path.{_≡_, refl, sym, ap, subst, _∙_}
-use mathlib.Core.Bool.{Bool, true, false, _||_}
+use mathlib.Core.Bool.{Bool, true, false, or-false}
 use mathlib.Core.Logic.{inl, inr}
 use mathlib.Core.List.{List}
 use native.Mathlib.Omega.{arith}
@@ -12,7 +12,7 @@ use borrow.Author.Tests.{ne-eqb, ltb-true, ltb-false}
 use Rattle.model.specs.Intern.{Sym, noSym, symAt, thunked}
 use Rattle.model.specs.Gate.{symOf}
 use Rattle.model.specs.Schedule.{isArg, isOutside, relOf}
-use Rattle.laws.proofs.Members.{Every}
+use Rattle.laws.proofs.Falls.{Under}
 use Rattle.key.specs.declared.Symbol.{Symbol}
 use Rattle.key.specs.declared.Parts.{Parts}
 use Rattle.key.specs.declared.Node.{Node}
@@ -42,7 +42,7 @@ module _ (bs ws : List ℕ) (n m : ℕ) (slots : List ℕ) (s : ℕ) (lt : s < n
 
 -- words that are below a bound, as a list
 pub words-low : (ws : List ℕ) (at k b : ℕ) → ((j : ℕ) → j < k → getD ws (at + j) 0 < b) →
-    Every (λ x. x < b) (wordsFrom ws at k)
+    Under b (wordsFrom ws at k)
 unfolding wordsFrom
 words-low ws at zero b h x i = absurd i
 words-low ws at (suc k) b h x (inl e) = let z : at + 0 ≡ at = omega arith in omega (arith, rw z at (h 0 (omega arith)))
@@ -52,15 +52,15 @@ words-low ws at (suc k) b h x (inr i) =
 
 -- a symbol's children are lower; past the last symbol there are none
 pub kids-low : (bs ws : List ℕ) (n m : ℕ) → Arena bs ws n m → (slots : List ℕ) (s : ℕ) →
-    Every (λ x. x < s) (symOf (graphOf bs ws n m slots) s .kids)
+    Under s (symOf (graphOf bs ws n m slots) s .kids)
 kids-low bs ws n m arena slots s = go (ltb s n) refl
   where
-    go : (b : Bool) → ltb s n ≡ b → Every (λ x. x < s) (symAt (symsOf bs ws n) s .kids)
+    go : (b : Bool) → ltb s n ≡ b → Under s (symAt (symsOf bs ws n) s .kids)
     go true e =
         let lt = ltb-true s n e in
-        subst (Every (λ x. x < s)) (sym (kids-at bs ws n s lt)) (words-low ws _ _ s (arena .sound s lt .lower))
+        subst (Under s) (sym (kids-at bs ws n s lt)) (words-low ws _ _ s (arena .sound s lt .lower))
     go false e =
-        subst (λ (y : Sym). Every (λ x. x < s) (y .kids)) (sym (List·getD-eq-default (symsOf bs ws n) noSym
+        subst (λ (y : Sym). Under s (y .kids)) (sym (List·getD-eq-default (symsOf bs ws n) noSym
         (omega (arith, syms-length bs ws n, ltb-false s n e)))) (λ x i. absurd i)
 
 -- ---- the tests
@@ -124,10 +124,6 @@ module _ (ws : List ℕ) (n m cs d : ℕ) (a : Bool) (arg : Tests ws n m (λ h. 
 
 -- ---- thunks
 
-or-false : (b : Bool) → b ≡ (b || false)
-or-false true = refl
-or-false false = refl
-
 module _ (op j : ℕ) where
   pub thunk-first : op ≡ 0x95 → j ≡ 1 → true ≡ thunked op j
   unfolding thunked
@@ -135,7 +131,7 @@ module _ (op j : ℕ) where
 
   pub thunk-second : op ≡ 0x95 → (j ≡ 1 → ⊥) → eqb j 2 ≡ thunked op j
   unfolding thunked
-  thunk-second e f = rw (e, ne-eqb j 1 f) (or-false (eqb j 2))
+  thunk-second e f = rw (e, ne-eqb j 1 f) (sym (or-false (eqb j 2)))
 
   pub thunk-and : op ≡ 0xED → eqb j 1 ≡ thunked op j
   unfolding thunked

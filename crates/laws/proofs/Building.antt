@@ -21,7 +21,7 @@ use Rattle.model.specs.Gate.{Graph, symOf, usage, shouldHoist}
 use Rattle.model.specs.Schedule.{isArg, schedule}
 use Rattle.model.specs.Materialize.{Builder, valUseOf, valDefOf, wrapBlock, idGiven, member, processScope}
 use Rattle.model.specs.Materialize.{buildOp, argLit, argEnv, buildNode, buildStep, buildValue}
-use Rattle.laws.specs.Defining.{defsOf, envFrom, lastFrom, membersIn}
+use Rattle.laws.specs.Defining.{defsOf, idsFrom, membersIn}
 use Rattle.laws.proofs.Apart.{false-true}
 use Rattle.laws.proofs.Down.{down-step, under-low}
 use Rattle.laws.proofs.Members.{and-both}
@@ -284,8 +284,7 @@ module _ (g : Graph) (values : NoUses g) (root sc : ℕ) (once : Once (schedule 
   defs = defsOf g (buildValue g) sc (schedule g root sc) env last
 
   abbrev result : Tree
-  result =
-      buildValue g root sc (envFrom g sc (schedule g root sc) env last) (lastFrom g sc (schedule g root sc) env last)
+  result = let ids = idsFrom g sc (schedule g root sc) env last in buildValue g root sc (ids .0) (ids .1)
 
   abbrev scopeTree : Tree
   scopeTree = processScope g (buildValue g) root sc env last

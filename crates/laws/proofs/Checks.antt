@@ -1,7 +1,7 @@
 -- Checks in their order: `checked` gives the value exactly where every check passes, and else the first check that
 -- fails.
--- In order: every check passes, or one is first to fail; checks whose numbers rise, where the
--- first that fails has the lowest number. Acceptance uses the first two, the statement of demand 3 all.
+-- In order: every check passes, or one is first to fail; checks whose numbers rise, where the first that fails has the
+-- lowest number. Acceptance uses the first two, the statement of demand 3 all.
 -- Assumes nothing.
 use mathlib.Core.Path.{_≡_, refl, sym, _∙_}
 use mathlib.Core.Logic.{_⊎_, inl, inr}

@@ -16,7 +16,7 @@ use Rattle.model.specs.Intern.{Env}
 use Rattle.model.specs.Gate.{Graph}
 use Rattle.model.specs.Schedule.{schedule}
 use Rattle.model.specs.Materialize.{Builder, valDefOf, wrapBlock, idGiven, member, define, processScope}
-use Rattle.laws.specs.Defining.{joinT, defsOf, envFrom, lastFrom, membersIn}
+use Rattle.laws.specs.Defining.{joinT, defsOf, idsFrom, membersIn}
 use Rattle.laws.proofs.Members.{In}
 use Rattle.laws.proofs.Once.{Once}
 use Rattle.laws.proofs.Trees.{join-nil, join-snoc}
@@ -31,15 +31,10 @@ module _ (g : Graph) (sc s : ℕ) (order : List ℕ) (env : Env) where
     unfolding defsOf
     defs-member build last = rw (is, defsOf)
 
-    pub env-member : (last : ℕ) →
-        envFrom g sc (s ∷ order) env last ≡ envFrom g sc order ((s, suc last) ∷ env) (suc last)
-    unfolding envFrom
-    env-member last = rw (is, envFrom)
-
-    pub last-member : (last : ℕ) →
-        lastFrom g sc (s ∷ order) env last ≡ lastFrom g sc order ((s, suc last) ∷ env) (suc last)
-    unfolding lastFrom
-    last-member last = rw (is, lastFrom)
+    pub ids-member : (last : ℕ) →
+        idsFrom g sc (s ∷ order) env last ≡ idsFrom g sc order ((s, suc last) ∷ env) (suc last)
+    unfolding idsFrom
+    ids-member last = rw (is, idsFrom)
 
     pub members-member : membersIn g sc env (s ∷ order) ≡ suc (membersIn g sc env order)
     unfolding membersIn
@@ -58,13 +53,9 @@ module _ (g : Graph) (sc s : ℕ) (order : List ℕ) (env : Env) where
     unfolding defsOf
     defs-other build last = rw (isnt, defsOf)
 
-    pub env-other : (last : ℕ) → envFrom g sc (s ∷ order) env last ≡ envFrom g sc order env last
-    unfolding envFrom
-    env-other last = rw (isnt, envFrom)
-
-    pub last-other : (last : ℕ) → lastFrom g sc (s ∷ order) env last ≡ lastFrom g sc order env last
-    unfolding lastFrom
-    last-other last = rw (isnt, lastFrom)
+    pub ids-other : (last : ℕ) → idsFrom g sc (s ∷ order) env last ≡ idsFrom g sc order env last
+    unfolding idsFrom
+    ids-other last = rw (isnt, idsFrom)
 
     pub members-other : membersIn g sc env (s ∷ order) ≡ membersIn g sc env order
     unfolding membersIn
@@ -98,121 +89,85 @@ module _ (g : Graph) (build : Builder) (sc : ℕ) where
   pub define-is : (root : ℕ) (order : List ℕ) (env : Env) (last : ℕ) (defs : Trees) →
       define g build root sc order env last defs ≡
       wrapBlock (joinT defs (defsOf g build sc order env last))
-      (build root sc (envFrom g sc order env last) (lastFrom g sc order env last))
-  unfolding define defsOf envFrom lastFrom
+      (build root sc (idsFrom g sc order env last .0) (idsFrom g sc order env last .1))
+  unfolding define defsOf idsFrom
   define-is root =
       along g sc
       (λ order env last. (defs : Trees) →
       define g build root sc order env last defs ≡
       wrapBlock (joinT defs (defsOf g build sc order env last))
-      (build root sc (envFrom g sc order env last) (lastFrom g sc order env last)))
+      (build root sc (idsFrom g sc order env last .0) (idsFrom g sc order env last .1)))
       (λ env last defs. ap (λ (ds : Trees). wrapBlock ds (build root sc env last)) (sym (join-nil defs)))
       (λ s order env last e h defs.
       rw (
         define-member g sc s order env e build root last defs,
         defs-member g sc s order env e build last,
-        env-member g sc s order env e last,
-        last-member g sc s order env e last,
+        ids-member g sc s order env e last,
       )
       (h (snoc defs (valDefOf (suc last) (build s sc env last))) ∙ rw join-snoc))
       (λ s order env last e h defs.
       rw (
         define-other g sc s order env e build root last defs,
         defs-other g sc s order env e build last,
-        env-other g sc s order env e last,
-        last-other g sc s order env e last,
+        ids-other g sc s order env e last,
       ) (h defs))
 
   pub process-is : (root : ℕ) (env : Env) (last : ℕ) →
       processScope g build root sc env last ≡
       wrapBlock (defsOf g build sc (schedule g root sc) env last)
-      (build root sc (envFrom g sc (schedule g root sc) env last) (lastFrom g sc (schedule g root sc) env last))
+      (build root sc (idsFrom g sc (schedule g root sc) env last .0) (idsFrom g sc (schedule g root sc) env last .1))
   unfolding processScope joinT
   process-is root env last = define-is root (schedule g root sc) env last nil
 
   -- ids are given one after the other
   pub last-many : (order : List ℕ) (env : Env) (last : ℕ) →
-      lastFrom g sc order env last ≡ last + many (defsOf g build sc order env last)
-  unfolding lastFrom defsOf many
+      idsFrom g sc order env last .1 ≡ last + many (defsOf g build sc order env last)
+  unfolding idsFrom defsOf many
   last-many =
-      along g sc (λ order env last. lastFrom g sc order env last ≡ last + many (defsOf g build sc order env last))
+      along g sc (λ order env last. idsFrom g sc order env last .1 ≡ last + many (defsOf g build sc order env last))
       (λ env last. omega arith)
       (λ s order env last e h.
-      rw (last-member g sc s order env e last, defs-member g sc s order env e build last) (omega (arith, h)))
+      rw (ids-member g sc s order env e last, defs-member g sc s order env e build last) (omega (arith, h)))
       (λ s order env last e h.
-      rw (last-other g sc s order env e last, defs-other g sc s order env e build last) h)
+      rw (ids-other g sc s order env e last, defs-other g sc s order env e build last) h)
 
   -- an order in two parts
   pub defs-append : (ys xs : List ℕ) (env : Env) (last : ℕ) →
       defsOf g build sc (xs ++ ys) env last ≡
       joinT (defsOf g build sc xs env last)
-      (defsOf g build sc ys (envFrom g sc xs env last) (lastFrom g sc xs env last))
-  unfolding defsOf envFrom lastFrom joinT
+      (defsOf g build sc ys (idsFrom g sc xs env last .0) (idsFrom g sc xs env last .1))
+  unfolding defsOf idsFrom joinT
   defs-append ys =
       along g sc
       (λ xs env last.
       defsOf g build sc (xs ++ ys) env last ≡
       joinT (defsOf g build sc xs env last)
-      (defsOf g build sc ys (envFrom g sc xs env last) (lastFrom g sc xs env last)))
+      (defsOf g build sc ys (idsFrom g sc xs env last .0) (idsFrom g sc xs env last .1)))
       (λ env last. refl)
       (λ s xs env last e h.
       rw (
         defs-member g sc s (xs ++ ys) env e build last,
         defs-member g sc s xs env e build last,
-        env-member g sc s xs env e last,
-        last-member g sc s xs env e last,
+        ids-member g sc s xs env e last,
       )
       (ap (cons (valDefOf (suc last) (build s sc env last))) h))
       (λ s xs env last e h.
       rw (
         defs-other g sc s (xs ++ ys) env e build last,
         defs-other g sc s xs env e build last,
-        env-other g sc s xs env e last,
-        last-other g sc s xs env e last,
+        ids-other g sc s xs env e last,
       ) h)
 
-module _ (g : Graph) (sc : ℕ) (ys : List ℕ) where
-  pub env-append : (xs : List ℕ) (env : Env) (last : ℕ) →
-      envFrom g sc (xs ++ ys) env last ≡ envFrom g sc ys (envFrom g sc xs env last) (lastFrom g sc xs env last)
-  unfolding envFrom lastFrom
-  env-append =
-      along g sc
-      (λ xs env last.
-      envFrom g sc (xs ++ ys) env last ≡ envFrom g sc ys (envFrom g sc xs env last) (lastFrom g sc xs env last))
-      (λ env last. refl)
-      (λ s xs env last e h.
-      rw (
-        env-member g sc s (xs ++ ys) env e last,
-        env-member g sc s xs env e last,
-        last-member g sc s xs env e last,
-      ) h)
-      (λ s xs env last e h.
-      rw (
-        env-other g sc s (xs ++ ys) env e last,
-        env-other g sc s xs env e last,
-        last-other g sc s xs env e last,
-      ) h)
-
-  pub last-append : (xs : List ℕ) (env : Env) (last : ℕ) →
-      lastFrom g sc (xs ++ ys) env last ≡ lastFrom g sc ys (envFrom g sc xs env last) (lastFrom g sc xs env last)
-  unfolding envFrom lastFrom
-  last-append =
-      along g sc
-      (λ xs env last.
-      lastFrom g sc (xs ++ ys) env last ≡ lastFrom g sc ys (envFrom g sc xs env last) (lastFrom g sc xs env last))
-      (λ env last. refl)
-      (λ s xs env last e h.
-      rw (
-        last-member g sc s (xs ++ ys) env e last,
-        env-member g sc s xs env e last,
-        last-member g sc s xs env e last,
-      ) h)
-      (λ s xs env last e h.
-      rw (
-        last-other g sc s (xs ++ ys) env e last,
-        env-other g sc s xs env e last,
-        last-other g sc s xs env e last,
-      ) h)
+pub ids-append : (g : Graph) (sc : ℕ) (ys xs : List ℕ) (env : Env) (last : ℕ) →
+    idsFrom g sc (xs ++ ys) env last ≡ idsFrom g sc ys (idsFrom g sc xs env last .0) (idsFrom g sc xs env last .1)
+unfolding idsFrom
+ids-append g sc ys =
+    along g sc
+    (λ xs env last.
+    idsFrom g sc (xs ++ ys) env last ≡ idsFrom g sc ys (idsFrom g sc xs env last .0) (idsFrom g sc xs env last .1))
+    (λ env last. refl)
+    (λ s xs env last e h. rw (ids-member g sc s (xs ++ ys) env e last, ids-member g sc s xs env e last) h)
+    (λ s xs env last e h. rw (ids-other g sc s (xs ++ ys) env e last, ids-other g sc s xs env e last) h)
 
 -- ---- how many
 

@@ -1,6 +1,7 @@
 -- The equation of `down`, with no condition on the step: the value at n is the step from the values below n.
 --
--- In order: `under`, which masks what is not below n (`under-low`, `under-same`); fuel that suffices is as good as more; `down-step`.
+-- In order: `under`, which masks what is not below n (`under-low`, `under-same`); fuel that suffices is as good as
+-- more; `down-step`.
 -- The meaning of a symbol, free lists and building are such recursions: each is opened by `down-step` and `under-low`.
 -- Assumes nothing.
 use mathlib.Core.Path.{_≡_, refl, ap, fun-ext}

@@ -5,7 +5,7 @@
 -- In order: lists of lower numbers; walks; `body-falls`, `free-falls`, `neighbours-fall`, `schedule-low`.
 -- Assumes nothing.
 use mathlib.Core.Path.{refl, sym, subst}
-use mathlib.Core.Logic.{inl, inr}
+use mathlib.Core.Logic.{_⊎_, inl, inr}
 use mathlib.Core.List.{List, [], _∷_}
 use Prim.Native.Nat.{ℕ, zero, suc, _<_}
 use native.Mathlib.Omega.{arith}
@@ -30,6 +30,11 @@ pub under-at : (n : ℕ) (xs : List ℕ) → Under n xs → (j : ℕ) → j < le
 under-at n [] h j l = absurd (omega arith)
 under-at n (x ∷ xs) h zero l = h x (inl refl)
 under-at n (x ∷ xs) h (suc j) l = under-at n xs (λ y m. h y (inr m)) j (omega arith)
+
+-- what is at most d is below s
+pub or-below : {A : Type 0} {x d s : ℕ} → d < s → A ⊎ (x < suc d) → A ⊎ (x < s)
+or-below l (inl a) = inl a
+or-below l (inr k) = inr (omega arith)
 
 -- ---- walks
 

@@ -16,6 +16,7 @@ pub mod ArgLists
 pub mod Header
 pub mod Trees
 pub mod Rows
+pub mod Lengths
 pub mod Slots
 pub mod Defining
 pub mod Blocks

@@ -45,21 +45,13 @@ lit-same last (x ∷ xs) (s ∷ ss) e =
     ap (λ (l : List ℕ). put32 (suc last) ++ (x .1 ++ l)) (lit-same (suc last) xs ss (omega arith))
 
 module _ (s : ℕ) where
-  before : (xs : ArgList) (first last : ℕ) (env : Env) → s < first →
+  other : (xs : ArgList) (first last : ℕ) (env : Env) → (first ≤ s → s < first + length xs → ⊥) →
       idGiven (argEnv last (withOpts xs (range first (length xs))) env) s ≡ idGiven env s
   unfolding range
-  before [] first last env l = refl
-  before (x ∷ xs) first last env l =
-      before xs (suc first) (suc last) ((first, suc last) ∷ env) (omega arith)
-      ∙ given-other first (suc last) s env (λ e. omega arith)
-
-  past : (xs : ArgList) (first last : ℕ) (env : Env) → first + length xs ≤ s →
-      idGiven (argEnv last (withOpts xs (range first (length xs))) env) s ≡ idGiven env s
-  unfolding range
-  past [] first last env l = refl
-  past (x ∷ xs) first last env l =
-      past xs (suc first) (suc last) ((first, suc last) ∷ env) (omega arith)
-      ∙ given-other first (suc last) s env (λ e. omega arith)
+  other [] first last env n = refl
+  other (x ∷ xs) first last env n =
+      other xs (suc first) (suc last) ((first, suc last) ∷ env) (λ l h. n (omega arith) (omega arith))
+      ∙ given-other first (suc last) s env (λ e. n (omega arith) (omega arith))
 
   new : (xs : ArgList) (first last : ℕ) (env : Env) → first ≤ s → s < first + length xs →
       idGiven (argEnv last (withOpts xs (range first (length xs))) env) s ≡ some (last + 1 + (s - first))
@@ -76,7 +68,7 @@ module _ (s : ℕ) where
       go true e k =
           let f = eqb-true first s e in
           let z : suc last ≡ last + 1 + (s - first) = omega arith in
-          before xs (suc first) (suc last) ((first, suc last) ∷ env) (omega arith)
+          other xs (suc first) (suc last) ((first, suc last) ∷ env) (λ l h. omega arith)
           ∙ (given-same first (suc last) s env f ∙ ap (λ (i : ℕ). some i) z)
       go false e k =
           let f = eqb-false first s e in
@@ -101,7 +93,7 @@ module _ (first n : ℕ) (xs : ArgList) (count : length xs ≡ n) where
 
     -- no other symbol gets one
     pub given-before : s < first → idGiven (argEnv last (withOpts xs (range first n)) env) s ≡ idGiven env s
-    given-before l = rw (← count) (before s xs first last env l)
+    given-before l = rw (← count) (other s xs first last env (λ k h. omega arith))
 
     pub given-after : first + n ≤ s → idGiven (argEnv last (withOpts xs (range first n)) env) s ≡ idGiven env s
-    given-after l = rw (← count) (past s xs first last env (omega arith))
+    given-after l = rw (← count) (other s xs first last env (λ k h. omega arith))

@@ -1,6 +1,7 @@
 -- Lists that hold each number once: what is reached from a root does, and so do lists used as sets.
 --
--- In order: `Once`; one more at the end; `add` and `union`; `reach`; how often a number can be in a list (`count-short`).
+-- In order: `Once`; one more at the end; `add` and `union`; `reach`; how often a number can be in a list
+-- (`count-short`).
 -- Assumes nothing.
 use mathlib.Core.Path.{_≡_, refl, sym}
 use mathlib.Core.Logic.{_⊎_, inl, inr}

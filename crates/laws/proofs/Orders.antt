@@ -22,7 +22,7 @@ use Rattle.model.specs.Schedule.{freeVars}
 use Rattle.laws.proofs.Induction.{strong}
 use Rattle.laws.proofs.Down.{under-low, under-same, down-step}
 use Rattle.laws.proofs.Members.{In, Every, not-in-isIn, isIn-false}
-use Rattle.laws.proofs.Falls.{Under, visit-low, body-falls, free-falls}
+use Rattle.laws.proofs.Falls.{Under, or-below, visit-low, body-falls, free-falls}
 
 -- ---- a step for each of a list
 
@@ -100,16 +100,12 @@ pub each-fresh : (f : ℕ → List ℕ → List ℕ) → Adds f → (s : ℕ) (d
 unfolding each
 each-fresh f adds s ds out low new = not-in-isIn s (each f ds out) (λ i. no (all ds out low s i))
   where
-    up : (d x : ℕ) (o : List ℕ) → d < s → In x o ⊎ (x < suc d) → In x o ⊎ (x < s)
-    up d x o l (inl i) = inl i
-    up d x o l (inr k) = inr (omega arith)
-
     all : (ds o : List ℕ) → Under s ds → (x : ℕ) → In x (each f ds o) → In x o ⊎ (x < s)
     all [] o low x i = inl i
     all (d ∷ ds) o low x i = first (all ds (f d o) (λ y k. low y (inr k)) x i)
       where
         first : In x (f d o) ⊎ (x < s) → In x o ⊎ (x < s)
-        first (inl k) = up d x o (low d (inl refl)) (adds d o x k)
+        first (inl k) = or-below (low d (inl refl)) (adds d o x k)
         first (inr l) = inr l
 
     no : In s out ⊎ (s < s) → ⊥

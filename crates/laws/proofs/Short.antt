@@ -18,7 +18,7 @@ use Rattle.model.specs.Schedule.{isArg, isOutside, relOf, each, visitStep, visi
 use Rattle.model.specs.Schedule.{freeStep, freeVars, neighbours, schedule}
 use Rattle.laws.proofs.Members.{In, isIn-false, in-either}
 use Rattle.laws.proofs.Once.{Once, snoc-once, add-once}
-use Rattle.laws.proofs.Falls.{Under, Falls, visit-low, body-falls, free-falls, neighbours-fall}
+use Rattle.laws.proofs.Falls.{Under, or-below, Falls, visit-low, body-falls, free-falls, neighbours-fall}
 
 -- ---- each number once
 
@@ -115,13 +115,9 @@ module _ (nb : ℕ → List ℕ) where
   unfolding under
   masked s f h = record { below = λ d out x i. low d out x (ltb d s) refl i; once = λ d out k. one d out (ltb d s) k }
     where
-      up : (d x : ℕ) (out : List ℕ) → d < s → In x out ⊎ (x < suc d) → In x out ⊎ (x < s)
-      up d x out l (inl i) = inl i
-      up d x out l (inr k) = inr (omega arith)
-
       low : (d : ℕ) (out : List ℕ) (x : ℕ) (b : Bool) → ltb d s ≡ b →
           In x ((elim b as (λ z. List ℕ → List ℕ) [ true ↦ f d | false ↦ same ]) out) → In x out ⊎ (x < s)
-      low d out x true e i = up d x out (ltb-true d s e) (h d out .0 x i)
+      low d out x true e i = or-below (ltb-true d s e) (h d out .0 x i)
       low d out x false e i = inl i
 
       one : (d : ℕ) (out : List ℕ) (b : Bool) → Once out →

@@ -27,22 +27,13 @@ defsOf g build sc (s ∷ order) env last =
       | false ↦ defsOf g build sc order env last
     ]
 
--- the ids given after them
-unfoldable pub envFrom : Graph → ℕ → List ℕ → Env → ℕ → Env
-envFrom g sc [] env last = env
-envFrom g sc (s ∷ order) env last =
+-- the ids given after them, and the last of these
+unfoldable pub idsFrom : Graph → ℕ → List ℕ → Env → ℕ → Env × ℕ
+idsFrom g sc [] env last = (env, last)
+idsFrom g sc (s ∷ order) env last =
     elim (member g sc env s) [
-      | true ↦ envFrom g sc order ((s, suc last) ∷ env) (suc last)
-      | false ↦ envFrom g sc order env last
-    ]
-
--- the last id given after them
-unfoldable pub lastFrom : Graph → ℕ → List ℕ → Env → ℕ → ℕ
-lastFrom g sc [] env last = last
-lastFrom g sc (s ∷ order) env last =
-    elim (member g sc env s) [
-      | true ↦ lastFrom g sc order ((s, suc last) ∷ env) (suc last)
-      | false ↦ lastFrom g sc order env last
+      | true ↦ idsFrom g sc order ((s, suc last) ∷ env) (suc last)
+      | false ↦ idsFrom g sc order env last
     ]
 
 -- how many of `order` get a definition, seen from before the first of them

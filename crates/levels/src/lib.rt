@@ -1,4 +1,5 @@
 // A set of numbers below 64, as the bits of a word: the nesting levels of the lambdas that a symbol depends on.
+// In order: the empty set, a test, a level put in and taken out, two sets joined.
 ghost use mathlib.Core.Path.{_≡_};
 ghost use mathlib.Core.Bool.{false, not, _&&_, _||_};
 ghost use Prim.Native.Nat.{ℕ, _<_, _^_};

@@ -289,7 +289,7 @@ fn definitions(
     let mut d = Defined { plan: p, last };
     let mut i = 0;
     while i < count {
-        let s = planner::wide16(order[i]);
+        let s = outsiders::wide(order[i]);
         d = definition(forest, work, g, s, sc, map, d.last, above, d.plan);
         i += 1;
     }

@@ -63,7 +63,7 @@ fn offer(work: &[u32], g: Graph, cs: usize, d: usize, list: &mut [u16], n: usize
 }
 
 // With the outsiders of scope `cs` among the first `count` of `own`, each once; how many there are then.
-// Rules out: arguments; symbols of deeper scopes; one that the list has already.
+// Rules out: an argument among them; one that the list has already, put there again.
 pub fn offer_list(
     work: &[u32],
     g: Graph,
@@ -150,7 +150,7 @@ fn offer_words(
 }
 
 // With the outsiders of scope `cs` among the children of s, thunks first (`local_dep_order`).
-// Rules out: the children as they stand; arguments.
+// Rules out: the children in the order in which they stand; an argument among them.
 pub fn offer_kids(
     forest: &[u8],
     work: &[u32],

@@ -1,17 +1,14 @@
 -- An operation's operands, one by one. In order: depths of trees side by side; a child; before the first operand; one
--- more;
--- none left; the operation.
+-- more; none left; the operation.
 -- Assumes nothing.
 use Prim.Native.Nat.{ℕ, suc, _+_, _<_, _≤_, max}
-use mathlib.Core.Path.{_≡_, refl, sym, ap, ap₂, _∙_, subst}
+use mathlib.Core.Path.{_≡_, sym, ap, ap₂, _∙_, subst}
 use mathlib.Core.List.{List, [], _∷_}
 use native.Mathlib.Omega.{arith}
 use native.Mathlib.Numerals.{add-one}
-use mathlib.Core.Bool.{Bool, true, false}
-use lib.Dec.{eqb}
 use lib.ListN.{length, getD, drop, drop-of-length-le}
 use lib.Seq.{drop-cons}
-use Rattle.model.specs.Tree.{Rec, rec, Row, Trees, node, nil, cons, many, rows, rowsOf, depth, depths}
+use Rattle.model.specs.Tree.{Rec, Row, Trees, node, nil, cons, many, rows, rowsOf, depth, depths}
 use Rattle.model.specs.Intern.{Env}
 use Rattle.model.specs.Gate.{symOf}
 use Rattle.model.specs.Gate as model
@@ -23,7 +20,8 @@ use Rattle.key.specs.declared.Symbol.{Symbol}
 use Rattle.key.specs.declared.Operation.{Operation}
 use Rattle.key.specs.declared.Node.the-variants.{Op}
 use Rattle.key.specs.Key.{symbolAt}
-use Rattle.symbols.specs.Symbols.{keyRec, kidsAt}
+use Rattle.symbols.specs.Symbols.{kidsAt}
+use Rattle.symbols.proofs.Same.{key-opcode}
 use Rattle.symbols.proofs.Words.{words-length, words-at}
 use Rattle.graph.specs.declared.Graph.{Graph}
 use Rattle.plan.specs.Plan.{rowFor}
@@ -44,20 +42,6 @@ pub deep-node : (a : ℕ) (ts : Trees) → max (a + 1) (deepIn (a + 1) ts) ≡ a
 unfolding depth
 deep-node a nil = omega arith
 deep-node a (cons t ts) = omega (arith, deep-node a ts)
-
--- the opcode of a record does not hang on the field
-key-opcode : (bs : List ℕ) (i f : ℕ) → keyRec bs i f .opcode ≡ rowAt bs i .rec .opcode
-unfolding keyRec
-key-opcode bs i f = go (eqb f 0)
-  where
-    src : Rec
-    src = rowAt bs i .rec
-
-    go : (t : Bool) → _≡_ {A = ℕ}
-        ((elim t as (λ x. Rec) [ true ↦ src | false ↦ rec (src .shape) (src .opcode) 0 (f ∷ []) ]) .opcode)
-        (src .opcode)
-    go true = refl
-    go false = refl
 
 kids-many : (ws : List ℕ) (s : ℕ) → length (kidsAt ws s) ≡ symbolAt ws s .count
 kids-many ws s = words-length ws (2560 + symbolAt ws s .kids) (symbolAt ws s .count)

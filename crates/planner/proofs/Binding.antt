@@ -12,11 +12,10 @@ use Rattle.model.specs.Intern.{Env, withOpts}
 use Rattle.model.specs.Gate as model
 use Rattle.model.specs.Materialize.{argLit, argEnv, buildNode, buildValue, processScope}
 use Rattle.laws.specs.Range.{range}
-use Rattle.laws.proofs.ArgLists.{ArgList}
+use Rattle.laws.proofs.ArgLists.{ArgList, args-length}
 use Rattle.laws.proofs.Trees.{one-rows, one-depth}
 use Rattle.laws.proofs.Numbering.{withRange-length, withRange-lit}
 use Rattle.record.specs.Record.{rowAt}
-use Rattle.shape.proofs.Args.{args-length}
 use Rattle.key.specs.declared.Func.{Func}
 use Rattle.key.specs.declared.Node.the-variants.{Lambda}
 use Rattle.key.specs.Key.{symbolAt}

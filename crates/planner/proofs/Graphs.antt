@@ -1,14 +1,13 @@
 -- The graph in the words as the laws of building ask for it. In order: symbol s by its node; children are lower; a
 -- lambda has a child; only arguments have records of uses; a schedule holds each symbol once.
 -- Assumes nothing.
-use Prim.Native.Nat.{ℕ, zero, suc, _+_, _<_}
+use Prim.Native.Nat.{ℕ, _+_, _<_}
 use mathlib.Core.Path.{_≡_, sym, ap, _∙_, subst}
-use mathlib.Core.Logic.{inl, inr}
 use mathlib.Core.Bool.{false}
 use mathlib.Core.List.{List}
 use native.Mathlib.Omega.{arith}
 use lib.Dec.{eqb}
-use lib.ListN.{length, getD}
+use lib.ListN.{length}
 use borrow.Author.Tests.{ne-eqb}
 use Rattle.model.specs.Tree.{Rec}
 use Rattle.model.specs.Intern.{Sym, func}
@@ -20,32 +19,18 @@ use Rattle.laws.proofs.Apart.{false-true}
 use Rattle.laws.proofs.ArgLists.{ArgList}
 use Rattle.laws.proofs.Falls.{Under}
 use Rattle.laws.proofs.Short.{schedule-once}
-use Rattle.laws.proofs.Symbols.{kids-all}
 use Rattle.laws.proofs.Building.{BodyLow, body-low, NoUses, no-uses}
 use Rattle.key.specs.declared.Node.{Node}
 use Rattle.key.specs.declared.Node.the-variants.{Const, Unparsed, Arg, Lambda, Op}
 use Rattle.key.specs.Key.{symbolAt}
-use Rattle.symbols.specs.Words.{wordsFrom}
 use Rattle.symbols.specs.Symbols.{recOf, nodeOf, kidsAt}
 use Rattle.symbols.specs.Symbols as words
 use Rattle.symbols.proofs.Laws.{syms-length}
 use Rattle.symbols.proofs.Words.{words-length}
+use Rattle.graph.proofs.Laws as graph
 use Rattle.interner.specs.State.{Sourced}
 use Rattle.planner.specs.Building.{NoUse, Buildable, Stands}
-use Rattle.planner.proofs.Membership.{sym-is}
-
--- words below a bound
-words-under : (ws : List ℕ) (at n b : ℕ) → ((k : ℕ) → k < n → getD ws (at + k) 0 < b) → Under b (wordsFrom ws at n)
-unfolding wordsFrom
-words-under ws at zero b h x i = absurd i
-words-under ws at (suc n) b h x (inl e) =
-    let z : at + 0 ≡ at = omega arith in
-    subst (λ (y : ℕ). y < b) (sym e) (subst (λ (y : ℕ). getD ws y 0 < b) z (h 0 (omega arith)))
-words-under ws at (suc n) b h x (inr i) = words-under ws (suc at) n b later x i
-  where
-    later : (k : ℕ) → k < n → getD ws (suc at + k) 0 < b
-    later k l = let e : at + suc k ≡ suc at + k = omega arith in subst (λ (y : ℕ). getD ws y 0 < b) e (h (suc k)
-        (omega arith))
+use Rattle.planner.proofs.Membership.{graph-is, sym-is}
 
 module _ {bs ws : List ℕ} {n m : ℕ} {gr : Graph} (b : Buildable bs ws n m) (st : Stands bs ws n m gr) where
   -- ---- symbol s
@@ -62,11 +47,6 @@ module _ {bs ws : List ℕ} {n m : ℕ} {gr : Graph} (b : Buildable bs ws n m) (
     pub kids-is : symOf gr s .kids ≡ kidsAt ws s
     unfolding words.symOf
     kids-is = ap (λ (y : Sym). y .kids) (sym-is st s lt)
-
-    kids-under : Under s (symOf gr s .kids)
-    kids-under =
-        subst (Under s) (sym kids-is)
-        (words-under ws (2560 + symbolAt ws s .kids) (symbolAt ws s .count) s (b .arena .sound s lt .lower))
 
     kid-some : (xs : ArgList) (body : ℕ) → symOf gr s .node ≡ func xs body → 0 < length (symOf gr s .kids)
     kid-some xs body e =
@@ -111,10 +91,12 @@ module _ {bs ws : List ℕ} {n m : ℕ} {gr : Graph} (b : Buildable bs ws n m) (
   many-syms = ap length (st .syms) ∙ syms-length bs ws n
 
   pub kids-low : (s : ℕ) → Under s (symOf gr s .kids)
-  kids-low = kids-all (gr .syms) (λ s l. kids-under s (omega (arith, many-syms)))
+  kids-low s =
+      subst (λ (h : Graph). Under s (symOf h s .kids)) (sym (graph-is st))
+      (graph.kids-low bs ws n m (b .arena) (gr .slots) s)
 
   pub body-lower : (s : ℕ) → s < n → BodyLow gr s
-  body-lower s lt = body-low gr s (kids-under s lt) (kid-some s lt)
+  body-lower s lt = body-low gr s (kids-low s) (kid-some s lt)
 
   pub only-arguments : NoUses gr
   only-arguments = no-uses gr (λ s l. no-use-here s (omega (arith, many-syms)))

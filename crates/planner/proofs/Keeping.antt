@@ -1,6 +1,5 @@
--- What planning keeps: symbols, scopes and counts stand outside the plan's words. In order: the symbols; what is
--- asked of
--- the words; the graph.
+-- What planning keeps: symbols, scopes and counts stand outside the plan's words. In order: the symbols; what is asked
+-- of the words; the graph.
 -- Assumes nothing.
 use Prim.Native.Nat.{ℕ, _+_, _*_, _<_}
 use mathlib.Core.Path.{_≡_, sym, ap, _∙_, subst}
@@ -39,6 +38,9 @@ module _ {bs ws ws′ : List ℕ} {n m : ℕ} (k : Kept ws ws′) (a : Arena bs 
   own-kept : Agree ws ws′ 0 (5 * n)
   own-kept i l r = k .before i l (omega (arith, a .few))
 
+  scopes-same : (i : ℕ) → i < m → getD ws′ (5120 + i) 0 ≡ getD ws (5120 + i) 0
+  scopes-same i lt = k .before (5120 + i) (omega arith) (omega (arith, a .few-scopes))
+
   arena-kept : Arena bs ws′ n m
   arena-kept = record {
     few = a .few;
@@ -49,9 +51,6 @@ module _ {bs ws ws′ : List ℕ} {n m : ℕ} (k : Kept ws ws′) (a : Arena bs 
     nested = nested-kept ws′ ws m (a .some-scope) scopes-same (a .nested);
     placed = λ s lt. subst (λ (y : Symbol). y .scope < m) (sym (symbol-kept s lt)) (a .placed s lt);
   }
-    where
-      scopes-same : (i : ℕ) → i < m → getD ws′ (5120 + i) 0 ≡ getD ws (5120 + i) 0
-      scopes-same i lt = k .before (5120 + i) (omega arith) (omega (arith, a .few-scopes))
 
   pub graph-kept : {gr : Graph} → Stands bs ws n m gr → Stands bs ws′ n m gr
   graph-kept st = record {
@@ -59,9 +58,6 @@ module _ {bs ws ws′ : List ℕ} {n m : ℕ} (k : Kept ws ws′) (a : Arena bs 
     scopes = st .scopes ∙ sym (scopes-kept ws′ ws m scopes-same);
     uses = λ s lt. k .after (8456 + s) (omega arith) ∙ st .uses s lt;
   }
-    where
-      scopes-same : (i : ℕ) → i < m → getD ws′ (5120 + i) 0 ≡ getD ws (5120 + i) 0
-      scopes-same i lt = k .before (5120 + i) (omega arith) (omega (arith, a .few-scopes))
 
 pub buildable-kept : {bs ws ws′ : List ℕ} {n m : ℕ} → Kept ws ws′ → Buildable bs ws n m → Buildable bs ws′ n m
 buildable-kept {bs} {ws} {ws′} {n} {m} k b = record {

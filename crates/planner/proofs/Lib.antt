@@ -6,6 +6,7 @@ pub mod Ids
 pub mod Keeping
 pub mod Graphs
 pub mod Loaded
+pub mod Sites
 pub mod Nodes
 pub mod Applying
 pub mod Binding

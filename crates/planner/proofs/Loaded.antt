@@ -29,10 +29,11 @@ use Rattle.interner.specs.State.{Sourced}
 use Rattle.plan.specs.declared.Planned.{Planned}
 use Rattle.plan.specs.declared.Planned.the-variants.{Copy, Field}
 use Rattle.plan.specs.Plan.{rowFor}
+use Rattle.plan.specs.Plan as plan
 use Rattle.serialise.specs.Serialise.{Writable}
 use Rattle.planner.specs.declared.Plan.{Plan}
 use Rattle.planner.specs.Grew.{Grew}
-use Rattle.planner.specs.Building.{Opens, Buildable, Stands, pick, rowOf}
+use Rattle.planner.specs.Building.{Opens, Buildable, Stands, rowOf}
 use Rattle.planner.specs.Planning.{freshTree}
 use Rattle.planner.proofs.Graphs.{node-is, rec-is}
 
@@ -119,7 +120,7 @@ module _ {bs ws : List ℕ} {n m : ℕ} (b : Buildable bs ws n m) (s : ℕ) (lt 
   pub row-writable : (o : Operation) → symbolAt ws s .node ≡ Op o → Writable bs (rowOf o)
   row-writable o e = go (eqb (o .field) 0)
     where
-      go : (t : Bool) → Writable bs (pick t (Copy (o .source)) (Field (o .field)))
+      go : (t : Bool) → Writable bs (plan.choose t (Copy (o .source)) (Field (o .field)))
       go true = source-low (Op o) e
       go false = let l = field-low o e in omega arith
 
@@ -131,7 +132,7 @@ module _ {bs ws : List ℕ} {n m : ℕ} (b : Buildable bs ws n m) (s : ℕ) (lt 
       src : Rec
       src = rowAt bs (o .source) .rec
 
-      go : (t : Bool) → eqb (o .field) 0 ≡ t → rowFor bs (pick t (Copy (o .source)) (Field (o .field)))
+      go : (t : Bool) → eqb (o .field) 0 ≡ t → rowFor bs (plan.choose t (Copy (o .source)) (Field (o .field)))
           ≡ record {
             rec = elim t [ true ↦ src | false ↦ rec (src .shape) (src .opcode) 0 (o .field ∷ []) ];
             kids = symbolAt ws s .count;

@@ -1,10 +1,9 @@
--- Which symbols get a definition. In order: the graph's symbol s from its words, and as the code
--- tests it; the tests of `member` one by one; one
--- symbol more of an order.
+-- Which symbols get a definition. In order: the graph's symbol s from its words, and as the code tests it; the tests
+-- of `member` one by one; one symbol more of an order.
 -- Assumes nothing.
 use Prim.Native.Nat.{ℕ, zero, suc, _+_, _<_, _≤_}
 use mathlib.Core.Path.{_≡_, refl, sym, ap, ap₂, _∙_}
-use mathlib.Core.Bool.{Bool, true, false, not, _&&_}
+use mathlib.Core.Bool.{Bool, true, false, not, _&&_, and-true, and-false}
 use mathlib.Core.Option.{Option, none, some}
 use mathlib.Core.List.{List, [], _∷_}
 use native.Mathlib.Omega.{arith}
@@ -24,7 +23,7 @@ use Rattle.key.specs.Key.{symbolAt}
 use Rattle.symbols.specs.Symbols.{symsOf, symFrom}
 use Rattle.symbols.specs.Symbols as words
 use Rattle.symbols.proofs.Laws.{sym-at}
-use Rattle.graph.specs.Graph.{Arena, Scoped, Tests, graphOf}
+use Rattle.graph.specs.Graph.{Tests, graphOf}
 use Rattle.planner.specs.Building.{Stands, Maps, given, more}
 
 -- ---- the graph in the words
@@ -58,24 +57,7 @@ module _ {bs ws : List ℕ} {n m : ℕ} {gr : Graph} (st : Stands bs ws n m gr) 
     hoist-is h =
         h n lt ∙ ap₂ shouldHoist (sym (ap (λ (ss : List Sym). symAt ss s) (st .syms))) (st .uses s lt)
 
-pub arena-scoped : {bs ws : List ℕ} {n m : ℕ} → Arena bs ws n m → Scoped ws n m
-arena-scoped a = record {
-  few = a .few;
-  words = a .words;
-  few-scopes = a .few-scopes;
-  nested = a .nested;
-  placed = a .placed;
-}
-
 -- ---- a member's four tests
-
-and-false : (x : Bool) → false ≡ (x && false)
-and-false true = refl
-and-false false = refl
-
-and-true : (x : Bool) → x ≡ (x && true)
-and-true true = refl
-and-true false = refl
 
 -- without an id
 isNew : Option ℕ → Bool
@@ -92,8 +74,8 @@ module _ (gr : Graph) (sc : ℕ) (ids : List ℕ) (env : Env) (s : ℕ) (few : s
   member-given n =
       let e : isNew (idGiven env s) ≡ false = ap isNew (maps .is s few) ∙ given-old (getD ids s 0) n in
       rw (e, member)
-      (and-false
-      (eqb (symOf gr s .scope) sc && not (isArg (symOf gr s .node)) && shouldHoist (symOf gr s) (usage gr s)))
+      (sym (and-false
+      (eqb (symOf gr s .scope) sc && not (isArg (symOf gr s .node)) && shouldHoist (symOf gr s) (usage gr s))))
 
   pub member-elsewhere : (symOf gr s .scope ≡ sc → ⊥) → false ≡ member gr sc env s
   unfolding member
@@ -112,7 +94,7 @@ module _ (gr : Graph) (sc : ℕ) (ids : List ℕ) (env : Env) (s : ℕ) (few : s
   unfolding member
   member-hoisted z e f =
       let id : idGiven env s ≡ none = maps .is s few ∙ ap given z in
-      rw (eq-eqb (symOf gr s .scope) sc e, f, id, member) (and-true (shouldHoist (symOf gr s) (usage gr s)))
+      rw (eq-eqb (symOf gr s .scope) sc e, f, id, member) (sym (and-true (shouldHoist (symOf gr s) (usage gr s))))
 
 -- ---- one symbol more
 

@@ -26,7 +26,7 @@ use Rattle.planner.specs.declared.Opened.the-variants.{Same, Thunk}
 use Rattle.planner.specs.Grew.{Grew, Grown}
 use Rattle.planner.specs.Building.{Buildable, Stands, Maps, given, OpenLow, operandTree}
 use Rattle.planner.specs.Planning.{Plans, freshTree}
-use Rattle.planner.proofs.Growing.{grew-full, grew-as}
+use Rattle.planner.proofs.Growing.{kept-same, grew-full, grew-as}
 use Rattle.planner.proofs.Loaded.{fresh-is, rec-of, source-fits, leaf-is}
 use Rattle.planner.proofs.Graphs.{kids-low, body-lower}
 
@@ -52,7 +52,7 @@ module _ {bs ws : List ℕ} {g : Graph} {ids : List ℕ} {p : Plan} {above : ℕ
     grown = λ gr sc env st maps.
         grew-full bs ws p (rows (tree gr sc env)) (above + depth (tree gr sc env)) p (omega arith) hi
         (rows-some (tree gr sc env)) (omega arith);
-    kept = record { long = refl; before = λ k l r. refl; after = λ k l. refl };
+    kept = kept-same ws;
     full = hi;
   }
 

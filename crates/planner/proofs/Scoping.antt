@@ -1,9 +1,8 @@
 -- A scope planned. In order: definitions side by side; one symbol of the order, defined or not; one symbol more; a
--- scope
--- without definitions; a block.
+-- scope without definitions; a block.
 -- Assumes nothing.
 use Prim.Native.Nat.{ℕ, suc, _+_, _<_, _≤_, max}
-use mathlib.Core.Path.{_≡_, refl, sym, ap, ap₂, _∙_, subst}
+use mathlib.Core.Path.{_≡_, refl, sym, ap, _∙_, subst}
 use mathlib.Core.Bool.{Bool, true, false}
 use mathlib.Core.List.{List, [], _∷_, _++_}
 use native.Mathlib.Omega.{arith}
@@ -15,10 +14,10 @@ use Rattle.model.specs.Intern.{Env}
 use Rattle.model.specs.Gate as model
 use Rattle.model.specs.Schedule.{schedule}
 use Rattle.model.specs.Materialize.{valDefOf, member, buildValue, processScope}
-use Rattle.laws.specs.Defining.{joinT, defsOf, envFrom, lastFrom, membersIn}
+use Rattle.laws.specs.Defining.{joinT, defsOf, idsFrom, membersIn}
 use Rattle.laws.proofs.Trees.{rows-join, def-rows, def-depth}
-use Rattle.laws.proofs.Defining.{defs-member, env-member, last-member, members-member, defs-other, env-other}
-use Rattle.laws.proofs.Defining.{last-other, members-other, defs-append, env-append, last-append}
+use Rattle.laws.proofs.Defining.{defs-member, ids-member, members-member, defs-other, ids-other, members-other}
+use Rattle.laws.proofs.Defining.{defs-append, ids-append}
 use Rattle.laws.proofs.Building.{scope-none, scope-rows, scope-depth}
 use Rattle.graph.specs.declared.Graph.{Graph}
 use Rattle.graph.specs.Graph.{graphOf}
@@ -46,7 +45,7 @@ module _ {bs ws : List ℕ} {g : Graph} {map : List ℕ} {p : Plan} {above sc : 
   -- ---- no symbol
 
   pub defines-none : {last : ℕ} → p .rows ≤ 257 → Defines bs ws g map p above sc [] last 0 ws map p last
-  unfolding defsOf envFrom lastFrom rows
+  unfolding defsOf idsFrom rows
   defines-none l = record {
     defined = λ gr env st maps. record { grown = grew-none bs ws p l; maps = maps; last-is = refl };
     kept = kept-same ws;
@@ -68,8 +67,8 @@ module _ {bs ws : List ℕ} {g : Graph} {map : List ℕ} {p : Plan} {above sc : 
               record {
                 grown = subst (λ (ts : Trees). GrownAll bs ws p above ts ws p)
                     (sym (defs-other gr sc s [] env e (buildValue gr) last)) (d .grown);
-                maps = subst (Maps map) (sym (env-other gr sc s [] env e last)) (d .maps);
-                last-is = d .last-is ∙ sym (last-other gr sc s [] env e last);
+                maps = subst (λ (x : Env × ℕ). Maps map (x .0)) (sym (ids-other gr sc s [] env e last)) (d .maps);
+                last-is = d .last-is ∙ sym (ap (λ (x : Env × ℕ). x .1) (ids-other gr sc s [] env e last));
               };
           kept = h .kept;
           full = l;
@@ -82,7 +81,7 @@ module _ {bs ws : List ℕ} {g : Graph} {map : List ℕ} {p : Plan} {above sc : 
         → Grew bs ws p (rowFor bs (ValDef (last + 1)) ∷ []) (above + 1) ws₁ q
         → Plans bs ws₁ g map q (above + 1) (λ gr x env. buildValue gr s x env last) ws₂ r
         → Defines bs ws g map p above sc (s ∷ []) last 1 ws₂ (set map s (last + 1)) r (last + 1)
-    unfolding defsOf envFrom lastFrom rows rowFor
+    unfolding defsOf idsFrom rows rowFor
     defines-one {t} {ws₁} {ws₂} {q} {r} b is m l h v = record {
       defined = λ gr env st maps.
           let e = sym (m gr env st maps) ∙ is in
@@ -94,9 +93,9 @@ module _ {bs ws : List ℕ} {g : Graph} {map : List ℕ} {p : Plan} {above sc : 
                 (grew-as (grew-then (grew-then h inside) (grew-none bs ws₂ r (v .full)))
                 (ap (λ (x : List Row). x ++ []) (row-def v₁))
                 (omega (arith, def-depth (suc last) v₁)));
-            maps = subst (Maps (set map s (last + 1))) (sym (env-member gr sc s [] env e last))
+            maps = subst (λ (x : Env × ℕ). Maps (set map s (last + 1)) (x .0)) (sym (ids-member gr sc s [] env e last))
                 (maps-more map env s last maps l);
-            last-is = omega (arith, last-member gr sc s [] env e last);
+            last-is = omega (arith, ap (λ (x : Env × ℕ). x .1) (ids-member gr sc s [] env e last));
           };
       kept = kept-then (h .kept) (v .kept);
       full = v .full;
@@ -131,36 +130,37 @@ module _ {bs ws : List ℕ} {g : Graph} {map : List ℕ} {p : Plan} {above sc : 
       both gr env st maps =
           let o = take i order in
           let a = h .defined gr env st maps in
-          let c = d .defined gr (envFrom gr sc o env last) (stands-kept (h .kept) b st) (a .maps) in
+          let env₁ = idsFrom gr sc o env last .0 in
+          let c = d .defined gr env₁ (stands-kept (h .kept) b st) (a .maps) in
           let f = a .last-is in
           let ts = defsOf gr (buildValue gr) sc o env last in
-          let us = defsOf gr (buildValue gr) sc (s ∷ []) (envFrom gr sc o env last) last₁ in
+          let us = defsOf gr (buildValue gr) sc (s ∷ []) env₁ last₁ in
           let all : defsOf gr (buildValue gr) sc (o ++ (s ∷ [])) env last ≡ joinT ts us =
           defs-append gr (buildValue gr) sc (s ∷ []) o env last ∙ rw (← f) in
+          let ids : idsFrom gr sc (o ++ (s ∷ [])) env last ≡ idsFrom gr sc (s ∷ []) env₁ last₁ =
+          ids-append gr sc (s ∷ []) o env last ∙ rw (← f) in
           record {
             grown = grew-as (grew-then (a .grown) (c .grown)) (sym (ap rowsOf all ∙ rows-join ts us))
                 (sym (ap (deepIn above) all ∙ deep-join above ts us));
-            maps = subst (Maps map₂) (sym (env-append gr sc (s ∷ []) o env last ∙ rw (← f))) (c .maps);
-            last-is = c .last-is ∙ sym (last-append gr sc (s ∷ []) o env last ∙ rw (← f));
+            maps = subst (λ (x : Env × ℕ). Maps map₂ (x .0)) (sym ids) (c .maps);
+            last-is = c .last-is ∙ sym (ap (λ (x : Env × ℕ). x .1) ids);
           }
 
 -- ---- a scope without definitions
 
 module _ (gr : model.Graph) (sc : ℕ) where
   none-defined : (order : List ℕ) (env : Env) (last : ℕ) → membersIn gr sc env order ≡ 0
-      → (envFrom gr sc order env last ≡ env) × (lastFrom gr sc order env last ≡ last)
-  unfolding envFrom lastFrom
-  none-defined [] env last z = (refl, refl)
+      → idsFrom gr sc order env last ≡ (env, last)
+  unfolding idsFrom
+  none-defined [] env last z = refl
   none-defined (s ∷ order) env last z = go (member gr sc env s) refl (none-defined order env last)
     where
       go : (t : Bool) → member gr sc env s ≡ t
-          → (membersIn gr sc env order ≡ 0
-          → (envFrom gr sc order env last ≡ env) × (lastFrom gr sc order env last ≡ last))
-          → (envFrom gr sc (s ∷ order) env last ≡ env) × (lastFrom gr sc (s ∷ order) env last ≡ last)
+          → (membersIn gr sc env order ≡ 0 → idsFrom gr sc order env last ≡ (env, last))
+          → idsFrom gr sc (s ∷ order) env last ≡ (env, last)
       go true e rest = absurd (omega (arith, members-member gr sc s order env e, z))
       go false e rest =
-          let k = rest (sym (members-other gr sc s order env e) ∙ z) in
-          (env-other gr sc s order env e last ∙ k .0, last-other gr sc s order env e last ∙ k .1)
+          ids-other gr sc s order env e last ∙ rest (sym (members-other gr sc s order env e) ∙ z)
 
 module _ {bs ws : List ℕ} (g : Graph) (map : List ℕ) (b : Buildable bs ws (g .symbols) (g .scopes))
     (root sc last : ℕ) (list : List ℕ) (k : ℕ)
@@ -189,7 +189,7 @@ module _ {bs ws : List ℕ} (g : Graph) (map : List ℕ) (b : Buildable bs ws (g
           let c = count-is gr env st maps in
           let w = none-defined gr sc (schedule gr root sc) env last (c ∙ z) in
           scope-none gr (only-arguments b st) root sc (scheduled-once b st root sc) env last k c z
-          ∙ ap₂ (λ (v : Env) (l : ℕ). buildValue gr root sc v l) (w .0) (w .1)
+          ∙ ap (λ (x : Env × ℕ). buildValue gr root sc (x .0) (x .1)) w
 
   -- ---- a block
 
@@ -206,11 +206,10 @@ module _ {bs ws : List ℕ} (g : Graph) (map : List ℕ) (b : Buildable bs ws (g
         let a = subst (λ (y : List ℕ). DefinesIn bs ws₁ gr env q (above + 1) sc y last ws₂ map₂ q₂ last₂)
         (order-is gr st) (d .defined gr env st₁ maps) in
         let st₂ = stands-kept (kept-then (h .kept) (d .kept)) b st in
-        let w = v .grown gr sc (envFrom gr sc o env last) st₂ (a .maps) in
+        let w = v .grown gr sc (idsFrom gr sc o env last .0) st₂ (a .maps) in
         let c = count-is gr env st maps in
         let once = scheduled-once b st root sc in
         let defs = defsOf gr (buildValue gr) sc o env last in
-        let res = buildValue gr root sc (envFrom gr sc o env last) last₂ in
         let f = a .last-is in
         grew-as (grew-then h (grew-then (a .grown) w))
         (sym (scope-rows gr (only-arguments b st) root sc once env last k c some ∙ rw (← f)))
@@ -218,7 +217,7 @@ module _ {bs ws : List ℕ} (g : Graph) (map : List ℕ) (b : Buildable bs ws (g
           arith,
           deep-node above defs,
           scope-depth gr (only-arguments b st) root sc once env last k c some,
-          ap (λ (l : ℕ). depth (buildValue gr root sc (envFrom gr sc o env last) l)) f,
+          ap (λ (l : ℕ). depth (buildValue gr root sc (idsFrom gr sc o env last .0) l)) f,
         ));
     kept = kept-then (h .kept) (kept-then (d .kept) (v .kept));
     full = v .full;

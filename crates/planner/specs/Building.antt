@@ -29,6 +29,7 @@ use Rattle.graph.specs.declared.Graph.{Graph}
 use Rattle.graph.specs.Graph.{Arena}
 use Rattle.plan.specs.declared.Planned.{Planned}
 use Rattle.plan.specs.declared.Planned.the-variants.{Copy, Field}
+use Rattle.plan.specs.Plan.{choose}
 use Rattle.planner.specs.declared.Opened.{Opened}
 use Rattle.planner.specs.declared.Opened.the-variants.{Same, Thunk}
 
@@ -86,12 +87,8 @@ pub record Maps (ids : List ℕ) (env : Env) : Type 0 where
 
 -- ---- operations
 
-abbrev pub pick : Bool → Planned → Planned → Planned
-pick true p q = p
-pick false p q = q
-
 abbrev pub rowOf : Operation → Planned
-rowOf o = pick (eqb (o .field) 0) (Copy (o .source)) (Field (o .field))
+rowOf o = choose (eqb (o .field) 0) (Copy (o .source)) (Field (o .field))
 
 abbrev pub branchesOf : Operation → List ℕ
 branchesOf o = take (o .branches) (o .first ∷ o .second ∷ [])

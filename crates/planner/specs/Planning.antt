@@ -14,7 +14,7 @@ use Rattle.model.specs.Intern.{Env}
 use Rattle.model.specs.Gate.{symOf}
 use Rattle.model.specs.Gate as model
 use Rattle.model.specs.Materialize.{buildOp, buildNode, buildValue}
-use Rattle.laws.specs.Defining.{defsOf, envFrom, lastFrom}
+use Rattle.laws.specs.Defining.{defsOf, idsFrom}
 use Rattle.key.specs.declared.Operation.{Operation}
 use Rattle.symbols.specs.Symbols.{kidsAt}
 use Rattle.graph.specs.declared.Graph.{Graph}
@@ -52,8 +52,8 @@ freshTree s last gr sc env = buildNode gr (buildValue gr) (symOf gr s) (symOf gr
 pub record DefinesIn (bs ws : List ℕ) (gr : model.Graph) (env : Env) (p : Plan) (above sc : ℕ) (order : List ℕ)
     (last : ℕ) (ws′ map′ : List ℕ) (r : Plan) (last′ : ℕ) : Type 0 where
   pub grown : GrownAll bs ws p above (defsOf gr (buildValue gr) sc order env last) ws′ r
-  pub maps : Maps map′ (envFrom gr sc order env last)
-  pub last-is : last′ ≡ lastFrom gr sc order env last
+  pub maps : Maps map′ (idsFrom gr sc order env last .0)
+  pub last-is : last′ ≡ idsFrom gr sc order env last .1
 
 pub record Defines (bs ws : List ℕ) (g : Graph) (map : List ℕ) (p : Plan) (above sc : ℕ) (order : List ℕ)
     (last count : ℕ) (ws′ map′ : List ℕ) (r : Plan) (last′ : ℕ) : Type 0 where

@@ -30,15 +30,8 @@ pub enum Opened {
 // Where the plan starts in the work memory.
 pub const PLAN: usize = 7176;
 
-// A number of a symbol or a scope, as an index. Rules out: its low bytes alone.
+// A number of a symbol or a scope, as an index. Rules out: its low bytes alone; one more.
 pub fn wide(x: u32) -> usize
-    ensures { λ r. ⌜ r ≡ x ⌝ }
-{
-    x as usize
-}
-
-// The same of a number in an order. Rules out: its low byte alone.
-pub fn wide16(x: u16) -> usize
     ensures { λ r. ⌜ r ≡ x ⌝ }
 {
     x as usize
@@ -77,7 +70,7 @@ pub fn put(work: &mut [u32], p: Plan, above: usize, row: Planned) -> Plan
 }
 
 // An operation's row: its record as it stands, or a projection that no record of the forest has.
-// Rules out: the record of a pair's other projection.
+// Rules out: the record of the pair's other projection, copied; a record of the forest made anew as a projection.
 pub fn row_of(o: Operation) -> Planned
     ensures { λ r. ⌜ r ≡ rowOf o ⌝ }
 {
@@ -89,14 +82,14 @@ pub fn row_of(o: Operation) -> Planned
 
 // ---- the ids of symbols: word s is the id of symbol s, 0 if it has none
 
-// No symbol has an id. Rules out: an id for any.
+// No symbol has an id. Rules out: an id for any; words for 511 symbols.
 pub fn no_ids() -> [u32; 512]
     ensures { λ r. ⌜ r ≡ replicate 512 0 ⌝ }
 {
     [0u32; 512]
 }
 
-// A copy, for a scope of its own. Rules out: an id lost; one more.
+// A copy, for a scope of its own. Rules out: an id lost; an id that was not there.
 pub fn copied(ids: &[u32]) -> [u32; 512]
     requires { ⌜ length (now ids) ≡ 512 ⌝ }
     ensures { λ r. ⌜ r ≡ now (ids .entry) ⌝ }
@@ -149,7 +142,7 @@ pub fn operand_scope(opcode: u8, o: Operation, j: usize) -> Opened
 // ---- the symbols that get a definition
 
 // Whether symbol s gets a definition in scope `sc`.
-// Rules out: one of another scope; one that has an id; a context property, however often it is used.
+// Rules out: one of another scope; a context property, however often it is used.
 pub fn member(forest: &[u8], work: &[u32], g: Graph, s: usize, sc: usize, ids: &[u32]) -> bool
     requires { ⌜ Laid (now forest) ⌝ }
     requires { ⌜ Buildable (now forest) (now work) (g .symbols) (g .scopes) ⌝ }
@@ -180,7 +173,7 @@ fn counted(yes: bool, k: u32) -> u32
 }
 
 // How many symbols of an order get a definition in scope `sc`, seen from before the first of them.
-// Rules out: the symbols of other scopes counted too.
+// Rules out: symbols of other scopes counted too; one that has an id counted again.
 pub fn members(
     forest: &[u8],
     work: &[u32],
@@ -201,7 +194,7 @@ pub fn members(
     let mut k = 0;
     let mut i = 0;
     while i < count {
-        let s = wide16(order[i]);
+        let s = outsiders::wide(order[i]);
         k = counted(member(forest, work, g, s, sc, ids), k);
         i += 1;
     }

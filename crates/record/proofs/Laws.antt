@@ -1,5 +1,5 @@
--- Where records lie, from checks 2 and 3: a row of the forest is what its pair cuts out. In order: the pairs;
--- the rows that sound pairs cut out; `laid-lies`; a row's fields; a row's bytes.
+-- Where records lie, from checks 2 and 3: a row of the forest is what its pair cuts out. In order: the pairs; the rows
+-- that sound pairs cut out; `laid-lies`; a row's fields; a row's bytes.
 -- Assumes nothing.
 use Prim.Native.Nat.{ℕ, zero, suc, _+_, _*_, _-_, _/_, _%_, _<_, _≤_}
 use mathlib.Core.Path.{_≡_, refl, sym, ap, _∙_, subst}

@@ -1,4 +1,5 @@
-// Records by number (codec.rs): header, directory, a record's fields, and its literal as a part of the forest.
+// Records by number (codec.rs). In order: numbers; the header; where a record starts; its fields, its size; its literal
+// and its bytes, as parts of the forest.
 ghost use mathlib.Core.Path.{_≡_};
 ghost use Prim.Native.Nat.{_+_, _<_, _≤_};
 ghost use lib.ListN.{length, drop};
@@ -7,7 +8,8 @@ ghost use Rattle.model.specs.Tree.{rowBytes, rowLen};
 ghost use Rattle.model.specs.Forest.{treeCount, recordCount};
 ghost use Rattle.record.specs.Record.{Laid, Lies, startOf, rowAt};
 
-fn wide(x: u8) -> usize
+// A byte as a number. Rules out: its low bits alone; one more.
+pub fn wide(x: u8) -> usize
     ensures { λ r. ⌜ (r ≡ x) × (r < 256) ⌝ }
 {
     x as usize
@@ -86,6 +88,15 @@ pub fn aux(forest: &[u8], i: usize) -> u8
     forest[at + 4]
 }
 
+// How many bytes record i has. Rules out: where it starts; how long its literal is.
+pub fn size(forest: &[u8], i: usize) -> usize
+    requires { ⌜ Laid (now forest) ⌝ }
+    requires { ⌜ i < recordCount (now forest) ⌝ }
+    ensures { λ r. ⌜ (r ≡ rowLen (rowAt (now (forest .entry)) i)) × (r < 65536) ⌝ }
+{
+    number16(forest, 6 + 4 * i)
+}
+
 // Record i's literal, as that part of the forest: what stands in the record after its five fixed bytes.
 // Rules out: a byte early (aux and the literal less its last byte); the next record's bytes too.
 pub fn literal(forest: &[u8], i: usize) -> &[u8]
@@ -94,17 +105,8 @@ pub fn literal(forest: &[u8], i: usize) -> &[u8]
     ensures { λ r. ⌜ now r ≡ rowAt (now (forest .entry)) i .rec .lit ⌝ }
 {
     let at = start(forest, i);
-    let size = number16(forest, 6 + 4 * i);
+    let size = size(forest, i);
     &forest[at + 5..at + size]
-}
-
-// How many bytes record i has. Rules out: where it starts; how long its literal is.
-pub fn size(forest: &[u8], i: usize) -> usize
-    requires { ⌜ Laid (now forest) ⌝ }
-    requires { ⌜ i < recordCount (now forest) ⌝ }
-    ensures { λ r. ⌜ (r ≡ rowLen (rowAt (now (forest .entry)) i)) × (r < 65536) ⌝ }
-{
-    number16(forest, 6 + 4 * i)
 }
 
 // Record i's bytes, whole, as that part of the forest.
@@ -115,6 +117,6 @@ pub fn bytes(forest: &[u8], i: usize) -> &[u8]
     ensures { λ r. ⌜ now r ≡ rowBytes (rowAt (now (forest .entry)) i) ⌝ }
 {
     let at = start(forest, i);
-    let size = number16(forest, 6 + 4 * i);
+    let size = size(forest, i);
     &forest[at..at + size]
 }

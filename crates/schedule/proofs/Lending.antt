@@ -1,7 +1,7 @@
 -- Lists that are lent with marks of what is in them. In order: an empty list; what a mark says; one symbol more; what
 -- becomes of a list, step by step.
 -- Assumes nothing.
-use Prim.Native.Nat.{ℕ, _+_, _<_, _≤_}
+use Prim.Native.Nat.{ℕ, _<_, _≤_}
 use mathlib.Core.Path.{_≡_, refl, ap, _∙_}
 use mathlib.Core.Bool.{Bool, true, false, not}
 use mathlib.Core.Logic.{inl}

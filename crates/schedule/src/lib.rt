@@ -62,7 +62,7 @@ fn zeros8() -> [u8; 512]
     [0u8; 512]
 }
 
-// An empty list of symbols. Rules out: a symbol that it holds before one is put there.
+// An empty list of symbols, with room for 512. Rules out: room for 511; a number other than 0 before one is put there.
 pub fn zeros16() -> [u16; 512]
     ensures { λ r. ⌜ r ≡ replicate 512 0 ⌝ }
 {
@@ -207,7 +207,7 @@ fn across(
 }
 
 // What symbol c refers to outside its scope (`free_vars`), into the list; how many there are.
-// Rules out: an argument; a symbol twice; the eager children of an IF before its arms.
+// Rules out: a symbol twice; the eager children of an IF before its arms.
 pub fn free(forest: &[u8], work: &[u32], g: Graph, c: usize, list: &mut [u16]) -> usize
     requires { ⌜ Laid (now forest) ⌝ }
     requires { ⌜ Arena (now forest) (now work) (g .symbols) (g .scopes) ⌝ }

@@ -5,19 +5,21 @@ use Prim.Native.Nat.{ℕ, zero, suc, _+_, _*_, _-_, _%_, _<_, _≤_}
 use mathlib.Core.Path.{_≡_, refl, sym, ap, ap₂, _∙_, subst}
 use mathlib.Core.List.{List, [], _∷_, _++_}
 use native.Mathlib.Omega.{arith}
-use lib.ListN.{length, length-append}
+use lib.ListN.{length}
 use Rattle.model.specs.Bytes.{put16}
 use Rattle.model.specs.Tree.{Row, rowBytes, rowLen, directory, bodies, forestOf}
 use Rattle.model.specs.Binding.{argsOf}
 use Rattle.model.specs.Materialize.{argLit}
+use Rattle.laws.specs.Rows.{total}
+use Rattle.laws.proofs.ArgLists.{args-length}
+use Rattle.laws.proofs.Lengths.{row-length, directory-length, bodies-length, forest-length}
 use Rattle.record.specs.Record.{rowAt}
-use Rattle.shape.proofs.Args.{args-length}
 use Rattle.plan.specs.declared.Planned.{Planned}
 use Rattle.plan.specs.declared.Planned.the-variants.{Field, Lambda}
 use Rattle.plan.specs.Plan.{plannedAt, planFrom, rowFor, rowsFor}
 use Rattle.writer.specs.Over.{over, fixed, Put}
-use Rattle.writer.proofs.Over.{over-over, over-nil, over-then, row-length}
-use Rattle.serialise.specs.Serialise.{Renumbered, Writable, AllWritable, total, plannedRows, treeOf}
+use Rattle.writer.proofs.Over.{over-over, over-nil, over-then}
+use Rattle.serialise.specs.Serialise.{Renumbered, Writable, AllWritable, plannedRows, treeOf}
 use Rattle.serialise.proofs.Args.{lit-length}
 
 -- ---- a lambda's row: its arguments numbered anew take as many bytes as they took
@@ -57,22 +59,6 @@ unfolding rowFor
 field-row bs f h = let e : f % 256 ≡ f = omega arith in rw e
 
 -- ---- lengths
-
-pub directory-length : (at : ℕ) (rs : List Row) → length (directory at rs) ≡ 4 * length rs
-unfolding directory put16
-directory-length at [] = refl
-directory-length at (r ∷ rs) = omega (arith, directory-length (at + rowLen r) rs)
-
-pub bodies-length : (rs : List Row) → length (bodies rs) ≡ total rs
-unfolding bodies total
-bodies-length [] = refl
-bodies-length (r ∷ rs) = omega (arith, length-append (rowBytes r) (bodies rs), row-length r, bodies-length rs)
-
-pub forest-length : (k : ℕ) (rs : List Row) → length (forestOf k rs) ≡ 4 + 4 * length rs + total rs
-unfolding forestOf put16
-forest-length k rs =
-    let d = directory (4 + 4 * length rs) rs in
-    omega (arith, length-append d (bodies rs), directory-length (4 + 4 * length rs) rs, bodies-length rs)
 
 pub planned-length : (bs ws : List ℕ) (at n : ℕ) → length (plannedRows bs ws at n) ≡ n
 unfolding planFrom rowsFor
@@ -114,7 +100,6 @@ module _ (bs ws : List ℕ) (at n : ℕ) where
   rows-none i h = let e : n - i ≡ 0 = omega arith in rw e
 
   pub total-none : (i : ℕ) → n ≤ i → total (leftRows bs ws at n i) ≡ 0
-  unfolding total
   total-none i h = ap total (rows-none i h)
 
   pub directory-none : (i : ℕ) (out : List ℕ) (place offset : ℕ) → n ≤ i
@@ -148,7 +133,6 @@ module _ (bs ws : List ℕ) (at n i : ℕ) (p : Planned) (h : i < n) (e : p ≡ 
   rows-next = ap (rowsFor bs) left-next
 
   total-next : total (leftRows bs ws at n i) ≡ rowLen (rowFor bs p) + total (leftRows bs ws at n (i + 1))
-  unfolding total
   total-next = ap total rows-next
 
   pub next-row : AllWritable bs (left ws at n i) → Next bs ws at n i p

@@ -1,12 +1,12 @@
--- Plans that can be written, and what is written. In order: rows that can be written; how many bytes rows take; the
--- rows and the bytes of a planned tree.
+-- Plans that can be written, and what is written. In order: rows that can be written; the rows and the bytes of a
+-- planned tree.
 -- Assumes nothing.
 use Prim.Native.Nat.{ℕ, _+_, _<_}
 use mathlib.Core.Path.{_≡_}
 use mathlib.Core.Bool.{true}
 use mathlib.Core.List.{List, [], _∷_}
 use Rattle.model.specs.Shape.{aId, aOpt, _then_, times, whole}
-use Rattle.model.specs.Tree.{Row, rowLen, forestOf}
+use Rattle.model.specs.Tree.{Row, forestOf}
 use Rattle.model.specs.Forest.{recordCount}
 use Rattle.record.specs.Record.{rowAt}
 use Rattle.plan.specs.Plan.{planFrom, rowsFor}
@@ -31,11 +31,6 @@ Writable bs (Lambda i last) = (i < recordCount bs) × Renumbered (rowAt bs i) la
 abbrev pub AllWritable : List ℕ → List Planned → Type 0
 AllWritable bs [] = Unit {0}
 AllWritable bs (p ∷ ps) = Writable bs p × AllWritable bs ps
-
--- how many bytes rows take
-unfoldable pub total : List Row → ℕ
-total [] = 0
-total (r ∷ rs) = rowLen r + total rs
 
 -- the n rows planned from word `at` on, and the bytes of their tree: a forest of that tree alone
 abbrev pub plannedRows : List ℕ → List ℕ → ℕ → ℕ → List Row

@@ -9,11 +9,12 @@ ghost use Rattle.model.specs.Tree.{rowLen, directory, bodies};
 ghost use Rattle.model.specs.Binding.{argsOf};
 ghost use Rattle.model.specs.Forest.{recordCount};
 ghost use Rattle.model.specs.Materialize.{argLit};
+ghost use Rattle.laws.specs.Rows.{total};
 ghost use Rattle.record.specs.Record.{Laid, rowAt};
 ghost use Rattle.plan.specs.declared.Planned.the-variants.{Lambda};
 ghost use Rattle.plan.specs.Plan.{planFrom, rowFor};
 ghost use Rattle.writer.specs.Over.{over, Put};
-ghost use Rattle.serialise.specs.Serialise.{Renumbered, Writable, AllWritable, total, plannedRows, treeOf};
+ghost use Rattle.serialise.specs.Serialise.{Renumbered, Writable, AllWritable, plannedRows, treeOf};
 use plan::Planned;
 
 // The arguments of the literal `lit`, their ids replaced by the numbers after `last`.

@@ -1,4 +1,4 @@
--- Laws of `over`. In order: from the start on; its length; stores; a copy; one part after another; a row's bytes.
+-- Laws of `over`. In order: from the start on; its length; stores; a copy; one part after another.
 -- Assumes nothing.
 use Prim.Native.Nat.{ℕ, suc, _+_, _≤_}
 use mathlib.Core.Path.{_≡_, sym, ap, ap₂, _∙_}
@@ -7,8 +7,6 @@ use native.Mathlib.Omega.{arith}
 use native.Mathlib.Numerals.{add-one}
 use lib.ListN.{length, take, drop, set, length-append, take-append-drop, length-drop}
 use lib.Seq.{length-take-le, sets-eq, take-length, paste, take-at, drop-at, drop-drop}
-use Rattle.model.specs.Bytes.{put16}
-use Rattle.model.specs.Tree.{Row, rowBytes, rowLen}
 use Rattle.writer.specs.Over.{over}
 
 -- from the start on: the bytes, and what stood past them
@@ -87,9 +85,3 @@ pub over-then : (o₀ o₁ o₂ : List ℕ) (at at₁ : ℕ) (a b : List ℕ) �
     → at₁ ≡ at + length a → at + length a + length b ≤ length o₀ → o₂ ≡ over o₀ at (a ++ b)
 over-then o₀ o₁ o₂ at at₁ a b p q e h =
     q ∙ (ap₂ (λ (o : List ℕ) (n : ℕ). over o n b) p e ∙ over-over o₀ at a b h)
-
--- ---- a row's bytes
-
-pub row-length : (r : Row) → length (rowBytes r) ≡ rowLen r
-unfolding rowBytes rowLen put16
-row-length r = omega arith

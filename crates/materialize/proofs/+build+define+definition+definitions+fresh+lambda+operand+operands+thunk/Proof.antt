@@ -56,7 +56,7 @@ pub +build+define+definition+definitions+fresh+lambda+operand+operands+thunk-spe
     (λ t. definitions-lts.spec (cycle.definitions-claims t) (cycle.definitions-at t)
     definitions.Post of-definitions.definitions-Inv-loop of-definitions.definitions-μ-loop
     (of-definitions.definitions-loop-holds t) (λ c. search needs)
-    (of-definitions.definitions-shared-slice-read-wide16 t) (λ c κs. search needs)
+    (of-definitions.definitions-shared-slice-read-wide t) (λ c κs. search needs)
     (of-definitions.definitions-definition-requires t) (λ c. search needs) (λ c. search needs)
     (of-definitions.definitions-loop-again t) (λ c. search needs) (λ c. search needs)
     (of-definitions.definitions-returns t))

@@ -14,29 +14,8 @@ Inv-loop ids map₀ s₀ map s = (s ≤ 512) × (length map ≡ 512) × (length 
 abbrev μ-loop : tie.MeasureT-loop
 μ-loop ids map₀ s₀ map s = 512 - s
 
-no-ids-requires : tie.Need-no-ids-requires Inv-loop μ-loop
-no-ids-requires c κs = search needs
-
 loop-holds : tie.Need-loop-holds Inv-loop μ-loop
 loop-holds c = (omega arith, ap length (c .no-ids .ensures), c .before .before .pre, refl)
-
-mul-map : tie.Need-mul-map Inv-loop μ-loop
-mul-map c = search needs
-
-shared-slice-read-map : tie.Need-shared-slice-read-map Inv-loop μ-loop
-shared-slice-read-map c = search needs
-
-mul-map-2 : tie.Need-mul-map-2 Inv-loop μ-loop
-mul-map-2 c = search needs
-
-array-write-map : tie.Need-array-write-map Inv-loop μ-loop
-array-write-map c = search needs
-
-add-s : tie.Need-add-s Inv-loop μ-loop
-add-s c = search needs
-
-loop-less : tie.Need-loop-less Inv-loop μ-loop
-loop-less c = search needs
 
 loop-again : tie.Need-loop-again Inv-loop μ-loop
 loop-again c = let inv = c .before .before .loop .inv in
@@ -52,17 +31,5 @@ returns c = let inv = c .before .loop .inv in
 
 pub copied-spec : {M : Type 1} → statement M
 copied-spec =
-    tie.close
-    (tie.spec
-    Inv-loop
-    μ-loop
-    no-ids-requires
-    loop-holds
-    mul-map
-    shared-slice-read-map
-    mul-map-2
-    array-write-map
-    add-s
-    loop-less
-    loop-again
-    returns)
+    tie.close (tie.spec Inv-loop μ-loop (λ c κs. search needs) loop-holds (λ c. search needs) (λ c. search needs)
+    (λ c. search needs) (λ c. search needs) (λ c. search needs) (λ c. search needs) loop-again returns)

@@ -4,9 +4,6 @@ use borrow.Author.Needs.{needs}
 use Rattle.planner.proofs.counted.Statement.{statement}
 use Rattle.planner.proofs.counted.Tie as tie
 
-add-result : tie.Need-add-result
-add-result c = search needs
-
 returns : tie.Need-returns
 returns c = counted-true _ _ (c .if1 .taken)
 
@@ -14,4 +11,5 @@ returns-2 : tie.Need-returns-2
 returns-2 c = counted-false _ _ (c .if1 .left)
 
 pub counted-spec : {M : Type 1} → statement M
-counted-spec = tie.close (tie.spec add-result returns returns-2)
+counted-spec =
+    tie.close (tie.spec (λ c. search needs) returns returns-2)

@@ -11,9 +11,7 @@ use Rattle.planner.proofs.members.Tie as tie
 
 abbrev Inv-loop : tie.InvT-loop
 Inv-loop forest work g order count sc ids k₀ i₀ k i =
-    (i ≤ count)
-    × (k ≤ i)
-    × Members forest work g ids sc (take i order) k
+    (i ≤ count) × (k ≤ i) × Members forest work g ids sc (take i order) k
 
 abbrev μ-loop : tie.MeasureT-loop
 μ-loop forest work g order count sc ids k₀ i₀ k i = count - i
@@ -21,60 +19,22 @@ abbrev μ-loop : tie.MeasureT-loop
 loop-holds : tie.Need-loop-holds Inv-loop μ-loop
 loop-holds c = (omega arith, omega arith, λ gr env st maps. members-none gr _ env)
 
-mul-wide16 : tie.Need-mul-wide16 Inv-loop μ-loop
-mul-wide16 c = search needs
-
-shared-slice-read-wide16 : tie.Need-shared-slice-read-wide16 Inv-loop μ-loop
-shared-slice-read-wide16 c = search needs
-
-wide16-requires : tie.Need-wide16-requires Inv-loop μ-loop
-wide16-requires c κs = search needs
-
 member-requires : tie.Need-member-requires Inv-loop μ-loop
 member-requires c κs =
-    let z = c .before .before .before .before .before .before .before .before in (
-      z .pre .0,
-      (
-        z .pre .1 .0,
-        (
-          omega (
-            arith,
-            c .wide16 .ensures,
-            z .pre .1 .1 .1 _
-                (c .before .before .loop-test .taken),
-          ),
-          z .pre .1 .1 .0 .2,
-        ),
-      ),
-    )
-
-counted-requires : tie.Need-counted-requires Inv-loop μ-loop
-counted-requires c κs = search needs
-
-add-i : tie.Need-add-i Inv-loop μ-loop
-add-i c = search needs
-
-loop-less : tie.Need-loop-less Inv-loop μ-loop
-loop-less c = search needs
+    let p = c .before .before .before .before .before .before .before .before .pre in
+    let low = p .1 .1 .1 _ (c .before .before .loop-test .taken) in
+    (p .0, (p .1 .0, (omega (arith, c .wide .ensures .0, low), p .1 .1 .0 .2)))
 
 loop-again : tie.Need-loop-again Inv-loop μ-loop
 loop-again c =
     let z = c .before .before .before .before .before .before .before .before .before .before in
-    let inv = c .before .before .before .before .before .loop .inv in (
+    let l = c .before .before .before .before .before .loop in (
       omega arith,
-      omega (
-        arith,
-        c .counted .ensures,
-        counted-few (c .before .member .result)
-            (c .before .before .before .before .before .loop .k) (c .before .before .before .before .before .loop .i)
-            (inv .1),
-      ),
+      omega (arith, c .counted .ensures, counted-few (c .before .member .result) (l .k) (l .i) (l .inv .1)),
       λ gr env st maps.
           c .counted .ensures
-          ∙ members-more gr _ env (z .args .order .now) (c .before .before .before .before .before .loop .i) _ _ _
-          (omega (arith, z .pre .1 .1 .0 .1)) (c .before .before .wide16 .ensures)
-          (c .before .member .ensures gr env st maps)
-          (inv .2 gr env st maps),
+          ∙ members-more gr _ env (z .args .order .now) (l .i) _ _ _ (omega (arith, z .pre .1 .1 .0 .1))
+          (c .before .before .wide .ensures .0) (c .before .member .ensures gr env st maps) (l .inv .2 gr env st maps),
     )
 
 returns : tie.Need-returns Inv-loop μ-loop
@@ -85,17 +45,5 @@ returns c =
 
 pub members-spec : {M : Type 1} → statement M
 members-spec =
-    tie.close
-    (tie.spec
-    Inv-loop
-    μ-loop
-    loop-holds
-    mul-wide16
-    shared-slice-read-wide16
-    wide16-requires
-    member-requires
-    counted-requires
-    add-i
-    loop-less
-    loop-again
-    returns)
+    tie.close (tie.spec Inv-loop μ-loop loop-holds (λ c. search needs) (λ c. search needs) (λ c κs. search needs)
+    member-requires (λ c κs. search needs) (λ c. search needs) (λ c. search needs) loop-again returns)

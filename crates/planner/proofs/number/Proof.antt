@@ -21,9 +21,6 @@ loop-holds : tie.Need-loop-holds Inv-loop μ-loop
 unfolding range
 loop-holds c = (omega arith, omega arith, refl, refl)
 
-add-id : tie.Need-add-id Inv-loop μ-loop
-add-id c = search needs
-
 add-map : tie.Need-add-map Inv-loop μ-loop
 add-map c = omega (arith, c .before .before .pre .0 (omega arith))
 
@@ -33,18 +30,9 @@ mul-map c = omega (arith, c .before .before .pre .0 (omega arith))
 slice-write-map : tie.Need-slice-write-map Inv-loop μ-loop
 slice-write-map c = omega (arith, c .before .before .pre .0 (omega arith), c .before .loop .inv .3)
 
-add-j : tie.Need-add-j Inv-loop μ-loop
-add-j c = search needs
-
-loop-less : tie.Need-loop-less Inv-loop μ-loop
-loop-less c = search needs
-
 loop-again : tie.Need-loop-again Inv-loop μ-loop
 loop-again c = let inv = c .before .loop .inv in
     (omega arith, omega arith, number-more _ _ _ _ _ _ (inv .2) (omega (arith, inv .1)), simp length-set (inv .3))
-
-same-length : tie.Need-same-length Inv-loop μ-loop
-same-length c = search needs
 
 returns : tie.Need-returns Inv-loop μ-loop
 returns c =
@@ -56,17 +44,5 @@ returns c =
 
 pub number-spec : {M : Type 1} → statement M
 number-spec =
-    tie.close
-    (tie.spec
-    Inv-loop
-    μ-loop
-    loop-holds
-    add-id
-    add-map
-    mul-map
-    slice-write-map
-    add-j
-    loop-less
-    loop-again
-    same-length
-    returns)
+    tie.close (tie.spec Inv-loop μ-loop loop-holds (λ c. search needs) add-map mul-map slice-write-map
+    (λ c. search needs) (λ c. search needs) loop-again (λ c. search needs) returns)

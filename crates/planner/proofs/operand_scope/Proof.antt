@@ -6,9 +6,6 @@ use borrow.Author.Needs.{needs}
 use Rattle.planner.proofs.operand_scope.Statement.{statement}
 use Rattle.planner.proofs.operand_scope.Tie as tie
 
-is-thunked-requires : tie.Need-is-thunked-requires
-is-thunked-requires c κs = search needs
-
 returns : tie.Need-returns
 returns c =
     sym (opened-first _ _ _ (sym (c .before .before .before .before .is-thunked .ensures)
@@ -34,4 +31,4 @@ returns-5 c = sym (opened-none _ _ _ (sym (c .before .is-thunked .ensures) ∙ c
 
 pub operand-scope-spec : {M : Type 1} → statement M
 operand-scope-spec =
-    tie.close (tie.spec is-thunked-requires returns returns-2 returns-3 returns-4 returns-5)
+    tie.close (tie.spec (λ c κs. search needs) returns returns-2 returns-3 returns-4 returns-5)

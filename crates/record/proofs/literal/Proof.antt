@@ -2,12 +2,11 @@
 use borrow.Author.Needs.{needs}
 use native.Mathlib.Omega.{arith}
 use denote.Ref.{now}
-use mathlib.Core.Path.{_≡_, _∙_}
+use mathlib.Core.Path.{_≡_, sym, _∙_}
 use Prim.Native.Nat.{ℕ, _+_, _-_}
 use mathlib.Core.List.{List}
 use lib.ListN.{take, drop}
-use Rattle.record.specs.Record.{sizeOf}
-use Rattle.record.proofs.Laws.{literal-at}
+use Rattle.record.proofs.Laws.{size-at, literal-at}
 use Rattle.record.proofs.literal.Statement.{statement}
 use Rattle.record.proofs.literal.Tie as tie
 
@@ -17,26 +16,28 @@ part : (bs : List ℕ) (x y a b : ℕ) → x ≡ a → y ≡ b
 part bs x y a b p q = let e : x + y - (x + 5) ≡ y - 5 = omega arith in rw (e, p, q)
 
 sub-result : tie.Need-sub-result
-unfolding sizeOf
-sub-result c = omega (arith, c .before .start .ensures .1 .fixed, c .number16 .ensures .0)
+sub-result c =
+    let s = c .before .start .ensures .1 in
+    omega (arith, s .fixed, c .size .ensures .0, size-at _ _ s)
 
 part-result-start : tie.Need-part-result-start
-unfolding sizeOf
-part-result-start c = omega (arith, c .before .start .ensures .1 .fixed, c .before .start .ensures .1 .inside)
+part-result-start c =
+    let s = c .before .start .ensures .1 in
+    omega (arith, s .fixed, s .inside, c .size .ensures .0, size-at _ _ s)
 
 part-result-end : tie.Need-part-result-end
-unfolding sizeOf
-part-result-end c = omega (arith, c .before .start .ensures .1 .inside, c .number16 .ensures .0)
+part-result-end c =
+    let s = c .before .start .ensures .1 in
+    omega (arith, s .inside, c .size .ensures .0, size-at _ _ s)
 
 returns : tie.Need-returns
-unfolding sizeOf
 returns c =
     let a = c .before .before .before .before .args in
     let s = c .before .before .start .ensures in
     let bs = now (a .forest) in
-    part bs _ _ _ _ (s .0) (c .before .number16 .ensures .0) ∙ literal-at bs (a .i) (s .1)
+    part bs _ _ _ _ (s .0) (c .before .size .ensures .0 ∙ sym (size-at bs (a .i) (s .1))) ∙ literal-at bs (a .i) (s .1)
 
 pub literal-spec : {M : Type 1} → statement M
 literal-spec =
-    tie.close (tie.spec (λ c κs. search needs) (λ c. search needs) (λ c. search needs) (λ c κs. search needs)
-    (λ c. search needs) (λ c. search needs) sub-result part-result-start part-result-end returns)
+    tie.close (tie.spec (λ c κs. search needs) (λ c κs. search needs) (λ c. search needs) (λ c. search needs)
+    sub-result part-result-start part-result-end returns)

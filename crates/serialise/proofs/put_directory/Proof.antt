@@ -6,7 +6,8 @@ use native.Mathlib.Omega.{arith}
 use lib.ListN.{length}
 use Rattle.model.specs.Tree.{Row, directory}
 use Rattle.writer.specs.Over.{over}
-use Rattle.serialise.specs.Serialise.{AllWritable, total, plannedRows}
+use Rattle.laws.specs.Rows.{total}
+use Rattle.serialise.specs.Serialise.{AllWritable, plannedRows}
 use Rattle.serialise.proofs.Rows.{left, leftRows, writable-all, rows-all, next-row}
 use Rattle.serialise.proofs.Rows.{directory-none, directory-turn}
 use Rattle.serialise.proofs.put_directory.Statement.{statement}

@@ -10,7 +10,7 @@ use mathlib.Core.List.{List, [], _∷_, _++_, append-assoc, append-nil}
 use Prim.Native.Nat.{ℕ, suc, _+_, _*_, _≤_}
 use native.Mathlib.Omega.{arith}
 use lib.Dec.{eqb, ltb}
-use lib.ListN.{length, length-append, drop}
+use lib.ListN.{length, drop}
 use lib.Seq.{drop-at, take-at, drop-drop}
 use borrow.Author.Tests.{eq-eqb, le-leb, le-ltb}
 use Rattle.model.specs.Bytes.{u16, put16}
@@ -25,7 +25,10 @@ use Rattle.model.specs.Accept.{checks, accept}
 use Rattle.laws.proofs.Clear.{Clear, clear-first, clear-join}
 use Rattle.laws.proofs.Checks.{Passes, passes-checked, _also_}
 use Rattle.laws.proofs.Members.{neither-or, both-and}
+use Rattle.laws.specs.Rows.{total}
+use Rattle.laws.proofs.Trees.{size-some}
 use Rattle.laws.proofs.Rows.{sizes-rows, grow-rows}
+use Rattle.laws.proofs.Lengths.{row-length, directory-length, forest-length}
 use Rattle.theory.proofs.Acceptance.Checked.{Checked, CheckedIn, checked-join}
 use Rattle.theory.proofs.Acceptance.Accept.{AllFine, fines-rows, fine-fits, fine-agrees}
 
@@ -34,10 +37,6 @@ use Rattle.theory.proofs.Acceptance.Accept.{AllFine, fines-rows, fine-f
 read-16 : (n : ℕ) (rest : List ℕ) → u16 (put16 n ++ rest) ≡ n
 unfolding u16 put16
 read-16 n rest = omega arith
-
-row-length : (r : Row) → length (rowBytes r) ≡ rowLen r
-unfolding rowBytes rowLen put16
-row-length r = omega arith
 
 row-read : (r : Row) → rowOf (rowBytes r) ≡ r
 unfolding rowOf rowBytes put16
@@ -50,15 +49,6 @@ abbrev pairList : ℕ → List Row → Pairs
 pairList at [] = []
 pairList at (r ∷ rs) = (at, rowLen r) ∷ pairList (at + rowLen r) rs
 
-abbrev pub total : List Row → ℕ
-total [] = 0
-total (r ∷ rs) = rowLen r + total rs
-
-directory-length : (at : ℕ) (rs : List Row) → length (directory at rs) ≡ 4 * length rs
-unfolding directory put16
-directory-length at [] = refl
-directory-length at (r ∷ rs) = omega (arith, directory-length (at + rowLen r) rs)
-
 directory-read : (at : ℕ) (rs : List Row) (rest : List ℕ) →
     pairsAt (length rs) (directory at rs ++ rest) ≡ pairList at rs
 unfolding directory pairsAt put16
@@ -66,11 +56,6 @@ directory-read at [] rest = refl
 directory-read at (r ∷ rs) rest =
     ap₂ (λ (p : ℕ × ℕ) (ps : Pairs). p ∷ ps)
     (ap₂ (λ (a b : ℕ). (a, b)) (read-16 at _) (read-16 (rowLen r) _)) (directory-read (at + rowLen r) rs rest)
-
-bodies-length : (rs : List Row) → length (bodies rs) ≡ total rs
-unfolding bodies
-bodies-length [] = refl
-bodies-length (r ∷ rs) = length-append (rowBytes r) (bodies rs) ∙ ap₂ _+_ (row-length r) (bodies-length rs)
 
 bodies-read : (at : ℕ) (rs : List Row) → rowsAt (pairList at rs) (bodies rs) ≡ rs
 unfolding rowsAt bodies
@@ -90,17 +75,6 @@ afterHeader rs = directory (4 + 4 * length rs) rs ++ bodies rs
 laid : (n : ℕ) (rs : List Row) → forestOf n rs ≡ put16 n ++ (put16 (length rs) ++ afterHeader rs)
 unfolding forestOf
 laid n rs = simp append-assoc
-
-pub laid-length : (n : ℕ) (rs : List Row) → length (forestOf n rs) ≡ 4 + 4 * length rs + total rs
-unfolding put16
-laid-length n rs =
-    ap length (laid n rs) ∙
-    omega (
-      arith,
-      length-append (directory (4 + 4 * length rs) rs) (bodies rs),
-      directory-length (4 + 4 * length rs) rs,
-      bodies-length rs,
-    )
 
 laid-drop : (n : ℕ) (rs : List Row) → drop 4 (forestOf n rs) ≡ afterHeader rs
 unfolding put16
@@ -206,14 +180,11 @@ module _ (t : Tree) (c : Checked t false []) (few : size t ≤ 256) (short : len
 
   length-is : length bs ≡ 4 + 4 * length rs + total rs
   unfolding serialise
-  length-is = laid-length (many (cons t nil)) rs
+  length-is = forest-length (many (cons t nil)) rs
 
   some-rows : 1 ≤ length rs
   unfolding size
-  some-rows = omega (arith, count-is, one-record t)
-    where
-      one-record : (u : Tree) → 1 ≤ size u
-      one-record (node r ts) = omega arith
+  some-rows = omega (arith, count-is, size-some t)
 
   passes-2 : check2 bs ≡ none
   unfolding check2 serialise many

@@ -28,7 +28,8 @@ use Rattle.laws.proofs.Walks.{every-join}
 use Rattle.laws.proofs.Falls.{Under}
 use Rattle.laws.proofs.ArgLists.{symsIn}
 use Rattle.laws.proofs.Rows.{many-sizes}
-use Rattle.theory.proofs.Acceptance.Bytes.{total, laid-length}
+use Rattle.laws.specs.Rows.{total}
+use Rattle.laws.proofs.Lengths.{forest-length}
 use Rattle.theory.proofs.Interning.Good.{symCount, scopeCount}
 use Rattle.theory.proofs.Bounds.Sound.{every-drop, RecHas, TreeHas, TreesHave, NodeSound, Sound}
 use Rattle.theory.proofs.Bounds.Limits.{forest-leaves}
@@ -170,7 +171,7 @@ serialise-has t h few short =
     rs = rowsOf (cons t nil)
 
     laid : length (forestOf 1 rs) ≡ 4 + 4 * length rs + total rs
-    laid = laid-length 1 rs
+    laid = forest-length 1 rs
 
 -- what a call writes for an accepted forest of bytes
 pub written-bytes : (forest : List ℕ) → Every Byte forest → (ts : Trees) → accept forest ≡ good ts →

@@ -32,6 +32,12 @@ use Rattle.theory.proofs.Bounds.Sound.{sym-more}
 
 -- ---- a new symbol
 
+-- the scopes from `cur` outward
+outward-low : (B : ℕ → Type 0) (cur : ℕ) (st : State) → Sound B st → cur < scopeCount st →
+    Under (scopeCount st) (cur ∷ scopeOf st cur .around)
+outward-low B cur st h l x (inl e) = omega arith
+outward-low B cur st h l x (inr i) = omega (arith, h .around-low cur l x i)
+
 climb-low : (scs : List Scope) (deps l : List ℕ) (m : ℕ) → 0 < m → Under m l → climb scs deps l < m
 unfolding climb
 climb-low scs deps [] m z h = z
@@ -105,11 +111,7 @@ module _ (B : ℕ → Type 0) (at cur : ℕ) (r : Rec) (has : RecHas B r) where
       last = getD-append-seam (st .syms) new [] noSym
 
       placed : climb (st .scopes) deps (cur ∷ scopeOf st cur .around) < scopeCount st
-      placed = climb-low (st .scopes) deps _ (scopeCount st) (omega arith) around
-        where
-          around : Under (scopeCount st) (cur ∷ scopeOf st cur .around)
-          around x (inl e) = omega arith
-          around x (inr i) = omega (arith, h .around-low cur cl x i)
+      placed = climb-low (st .scopes) deps _ (scopeCount st) (omega arith) (outward-low B cur st h cl)
 
       new-sound : SymSound B (symCount st) (scopeCount st) new
       new-sound = record { kids-low = kl; deps-low = dl; scope-low = placed; rec-has = has; node-sound = ns }
@@ -327,14 +329,10 @@ open-sound B cur args ts st h cl al to tl = record {
     old : (b : ℕ) → b < scopeCount st → getD (st .scopes ++ (new ∷ [])) b rootScope ≡ scopeOf st b
     old b l = List·getD-append (st .scopes) (new ∷ []) rootScope b l
 
-    outer : Under (scopeCount st) (cur ∷ scopeOf st cur .around)
-    outer x (inl e) = omega arith
-    outer x (inr i) = omega (arith, h .around-low cur cl x i)
-
     around : (b : ℕ) → (b < scopeCount st) ⊎ (b ≡ scopeCount st) →
         Under b (getD (st .scopes ++ (new ∷ [])) b rootScope .around)
     around b (inl l) = rw (old b l) (h .around-low b l)
-    around b (inr e) = rw (e, last-scope (st .scopes) new) outer
+    around b (inr e) = rw (e, last-scope (st .scopes) new) (outward-low B cur st h cl)
 
     arguments : (b : ℕ) → (b < scopeCount st) ⊎ (b ≡ scopeCount st) →
         Under (symCount st) (argsIn (getD (st .scopes ++ (new ∷ [])) b rootScope .args))

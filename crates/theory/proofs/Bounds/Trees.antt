@@ -24,17 +24,13 @@ use Rattle.laws.proofs.Members.{clash}
 use Rattle.laws.proofs.Falls.{Under}
 use Rattle.theory.proofs.Acceptance.Checked.{Fine, Fines, CheckedIn}
 use Rattle.theory.proofs.Interning.Good.{argsIn, symCount, scopeCount}
-use Rattle.theory.proofs.Interning.Inv.{InAny}
+use Rattle.theory.proofs.Interning.Inv.{any-opened, any-closed}
 use Rattle.theory.proofs.Bounds.Sound.{TreeHas, TreesHave, scopeOf, Sound, Room, room-less, keeps-none}
 use Rattle.theory.proofs.Bounds.Sound.{keeps-then, keeps-less, KeepsOne, KeepsAll, thunks}
 use Rattle.theory.proofs.Bounds.Steps.{open-sound, open-room, open-more, read-sound, read-room}
 use Rattle.theory.proofs.Bounds.Kinds.{EnvLow, env-more, env-def, plainKids, Pays, kind-keeps}
 
 -- ---- thunks
-
-drop-any : (i : ℕ) (ts : List (List ℕ)) → InAny i (dropFirst ts) → InAny i ts
-drop-any i [] h = h
-drop-any i (t ∷ ts) h = inr h
 
 drop-one : (n : ℕ) (ts : List (List ℕ)) → length ts ≡ suc n → length (dropFirst ts) ≡ n
 drop-one n [] e = absurd (omega arith)
@@ -49,7 +45,7 @@ close-keeps B cur st k c o some w = record {
       few-readings = w .keeps .sound .few-readings;
       syms-sound = w .keeps .sound .syms-sound;
       tables-open = omega (arith, some, dropped);
-      tables-low = λ i h. w .keeps .sound .tables-low i (drop-any i (o .1 .tables) h);
+      tables-low = λ i h. w .keeps .sound .tables-low i (any-closed i (o .1 .tables) h);
       memo-low = w .keeps .sound .memo-low;
       around-low = w .keeps .sound .around-low;
       args-low = w .keeps .sound .args-low;
@@ -77,11 +73,8 @@ pub record Scoped (B : ℕ → Type 0) (t : Bool) (st : State) (k c : ℕ) (o : 
 pub thunk-sound : (B : ℕ → Type 0) (cur : ℕ) (st : State) → Sound B st → cur < scopeCount st →
     Sound B (openThunk cur st)
 thunk-sound B cur st h l =
-    open-sound B cur none ([] ∷ st .tables) st h l (λ x i. absurd i) (omega arith) no-more
-  where
-    no-more : (i : ℕ) → InAny i ([] ∷ st .tables) → InAny i (st .tables)
-    no-more i (inl h) = absurd h
-    no-more i (inr h) = h
+    open-sound B cur none ([] ∷ st .tables) st h l (λ x i. absurd i) (omega arith)
+    (λ i k. any-opened i (st .tables) k)
 
 scoped-keeps : (B : ℕ → Type 0) (t : Bool) (cur : ℕ) (child : ℕ → State → Out) (st : State) (k c : ℕ) → Sound B st →
     cur < scopeCount st → Room st k c → (t ≡ true → 1 ≤ c) →
@@ -232,16 +225,12 @@ start-sound B = record {
   few-readings = omega arith;
   syms-sound = λ i l. absurd (omega arith);
   tables-open = omega arith;
-  tables-low = λ i h. absurd (no-table i h);
+  tables-low = λ i h. absurd (any-opened i [] h);
   memo-low = λ p a b e. none-some e;
   around-low = λ b l. none-around b (omega arith);
   args-low = λ b l. no-args b (omega arith);
 }
   where
-    no-table : (i : ℕ) → InAny i ([] ∷ []) → ⊥
-    no-table i (inl h) = h
-    no-table i (inr h) = h
-
     none-around : (b : ℕ) → b ≡ 0 → Under b (scopeOf start b .around)
     none-around b e = rw e (λ x i. absurd i)
 

@@ -24,7 +24,7 @@ use Rattle.laws.proofs.Apart.{none-some}
 use Rattle.laws.proofs.Members.{Every}
 use Rattle.laws.proofs.Walks.{every-join}
 use Rattle.laws.proofs.ArgLists.{optsIn}
-use Rattle.laws.proofs.Trees.{def-size}
+use Rattle.laws.proofs.Trees.{sizes-snoc, def-size}
 use Rattle.theory.proofs.Bounds.Sound.{RecHas, TreeHas, TreesHave, OptsHave}
 
 abbrev pub Byte : ℕ → Type 0
@@ -75,11 +75,6 @@ defs-snoc l nil d h k = (subst (λ (z : ℕ). DefHas z d) (omega arith) k, tt)
 defs-snoc l (cons e ds) d h k =
     (h .0, defs-snoc (l + 16 * size e) ds d (h .1) (subst (λ (z : ℕ). DefHas z d) (omega arith) k))
 
-snoc-sizes : (ds : Trees) (d : Tree) → sizes (snoc ds d) ≡ sizes ds + size d
-unfolding snoc sizes
-snoc-sizes nil d = omega arith
-snoc-sizes (cons e ds) d = omega (arith, snoc-sizes ds d)
-
 snoc-have : (ds : Trees) (d : Tree) → TreesHave Byte ds → TreeHas Byte d → TreesHave Byte (snoc ds d)
 unfolding snoc
 snoc-have nil d h k = (k, tt)
@@ -119,12 +114,12 @@ wrap-has l (cons d nil) r h k f = go (renames d (below d) r) f
     go false f =
         block-has (cons d (cons r nil)) (one-has l d (h .0) (omega arith), (k (omega arith), tt))
 wrap-has l (cons d (cons e ds)) r h k f =
-    let w = defs-have l (cons d (cons e ds)) h (omega (arith, snoc-sizes ds r)) in
+    let w = defs-have l (cons d (cons e ds)) h (omega (arith, sizes-snoc ds r)) in
     block-has (cons d (cons e (snoc ds r))) (
       w .0,
       (
         w .1 .0,
-        snoc-have ds r (w .1 .1) (k (omega (arith, snoc-sizes ds r))),
+        snoc-have ds r (w .1 .1) (k (omega (arith, sizes-snoc ds r))),
       ),
     )
 
@@ -170,7 +165,7 @@ module _ (g : Graph) (f : Builder) (ok : (s : ℕ) → Writes f s) where
       one-of (member g sc env s) (define g f root sc order ((s, suc last) ∷ env) (suc last) (snoc defs d))
       (define g f root sc order env last defs) l
       (define-has root sc order ((s, suc last) ∷ env) (suc last) (snoc defs d) l (ids-def s env last ids)
-      (omega (arith, snoc-sizes defs d, def-size (suc last) (f s sc env last))) (defs-snoc l defs d h new))
+      (omega (arith, sizes-snoc defs d, def-size (suc last) (f s sc env last))) (defs-snoc l defs d h new))
       (define-has root sc order env last defs l ids low h) ft
     where
       d : Tree

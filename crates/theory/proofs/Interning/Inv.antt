@@ -19,7 +19,7 @@ use lib.ListN.{length, getD}
 use Rattle.model.specs.Lists.{anyIn}
 use Rattle.model.specs.Tree.{rec}
 use Rattle.model.specs.Binding.{argIds}
-use Rattle.model.specs.Intern.{func, Sym, Scope, State, Env, symAt, rootScope, climb, recall, resolve}
+use Rattle.model.specs.Intern.{func, Sym, Scope, State, Env, symAt, rootScope, climb, dropFirst, recall, resolve}
 use Rattle.laws.proofs.Induction.{strong}
 use Rattle.laws.proofs.Members.{In, anyIn-false}
 use Rattle.laws.proofs.ArgLists.{ArgList, symsIn}
@@ -54,6 +54,15 @@ arg-in i a (p ∷ A) (inr h) = inr (arg-in i a A h)
 abbrev pub InAny : ℕ → List (List ℕ) → Type 0
 InAny i [] = ⊥
 InAny i (t ∷ ts) = In i t ⊎ InAny i ts
+
+-- a table opened, and one closed
+pub any-opened : (i : ℕ) (ts : List (List ℕ)) → InAny i ([] ∷ ts) → InAny i ts
+any-opened i ts (inl h) = absurd h
+any-opened i ts (inr h) = h
+
+pub any-closed : (i : ℕ) (ts : List (List ℕ)) → InAny i (dropFirst ts) → InAny i ts
+any-closed i [] h = h
+any-closed i (t ∷ ts) h = inr h
 
 -- around a scope is nothing, or a lower scope and what is around that
 abbrev pub Chain : List Scope → ℕ → Type 0

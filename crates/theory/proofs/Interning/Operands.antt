@@ -25,8 +25,8 @@ use Rattle.laws.proofs.Members.{In, clash}
 use Rattle.theory.proofs.Meaning.Mean.{meanAll}
 use Rattle.theory.proofs.Acceptance.Checked.{Checked, CheckedIn, checked-head, checked-place}
 use Rattle.theory.proofs.Interning.Good.{PairOk, PairsOk, out, depsAt, scopeCount, symCount}
-use Rattle.theory.proofs.Interning.Inv.{Args, argSyms, InAny, keys, Inv, EnvOk, env-later, grow-same, Fits}
-use Rattle.theory.proofs.Interning.Inv.{fits-back, Grow, grow-none, grow-then}
+use Rattle.theory.proofs.Interning.Inv.{Args, argSyms, any-opened, any-closed, keys, Inv, EnvOk, env-later, grow-same}
+use Rattle.theory.proofs.Interning.Inv.{Fits, fits-back, Grow, grow-none, grow-then}
 use Rattle.theory.proofs.Interning.Finish.{Result, Results, Step, step-gives, step-then, result-later}
 use Rattle.theory.proofs.Interning.Fresh.{sem-one}
 use Rattle.theory.proofs.Interning.Scopes.{open-grows, open-is, open-inv, leave-inv, pair-of}
@@ -45,26 +45,19 @@ module _ (cur : ℕ) (st : State) (A : Args) where
   pub thunk-opens : (fin : List Sym) (scs : List Scope) → Fits fin scs (openThunk cur st) → Inv fin scs st A cur →
       Inv fin scs (openThunk cur st) A (scopeCount st)
   thunk-opens fin scs f inv =
-      open-inv fin scs cur none ([] ∷ st .tables) st A A (symCount st) f inv tables
-      (λ a h. absurd h) (λ x l n. l) (λ b a l h. inv .args-low b a l h) (λ i a h. inl h)
-    where
-      tables : (i : ℕ) → InAny i ([] ∷ st .tables) → InAny i (st .tables)
-      tables i (inl h) = absurd h
-      tables i (inr h) = h
+      open-inv fin scs cur none ([] ∷ st .tables) st A A (symCount st) f inv
+      (λ i h. any-opened i (st .tables) h) (λ a h. absurd h) (λ x l n. l) (λ b a l h. inv .args-low b a l h)
+      (λ i a h. inl h)
 
   thunk-closes : (fin : List Sym) (scs : List Scope) (s : State) → Fits fin scs (openThunk cur st) →
       Inv fin scs st A cur → scopeCount st ≤ scopeCount s → Inv fin scs s A (scopeCount st) →
       Inv fin scs (closeThunk s) A cur
   thunk-closes fin scs s f inv l h =
       leave-inv fin scs cur (scopeCount st) s (dropFirst (s .tables)) A A h (omega (arith, inv .cur-low))
-      (ap (λ (z : Scope). z .around) is) (λ i h. tables i (s .tables) h) (λ i a h. h) (λ i a h g. rw is at g)
+      (ap (λ (z : Scope). z .around) is) (λ i h. any-closed i (s .tables) h) (λ i a h. h) (λ i a h g. rw is at g)
     where
       is : getD scs (scopeCount st) rootScope ≡ record { around = out scs cur; args = none }
       is = open-is fin scs cur none ([] ∷ st .tables) st (inv .cur-low) f
-
-      tables : (i : ℕ) (ts : List (List ℕ)) → InAny i (dropFirst ts) → InAny i ts
-      tables i [] h = h
-      tables i (t ∷ ts) h = inr h
 
 module _ (cur : ℕ) (st : State) (A : Args) (env : Env) (u : Unfolding) where
   thunk-kept : (o : ℕ × State) → Kept (openThunk cur st) A (scopeCount st) env u o →

@@ -5,10 +5,10 @@ use denote.Ref.{now}
 use mathlib.Core.Path.{ap, _∙_}
 use Prim.Native.Nat.{ℕ, _+_}
 use lib.ListN.{length}
+use Rattle.laws.proofs.Lengths.{row-length}
 use Rattle.record.specs.Record.{rowAt}
 use Rattle.plan.specs.Plan.{rowFor}
 use Rattle.writer.specs.Over.{over}
-use Rattle.writer.proofs.Over.{row-length}
 use Rattle.writer.proofs.put_copy.Statement.{statement}
 use Rattle.writer.proofs.put_copy.Tie as tie
 

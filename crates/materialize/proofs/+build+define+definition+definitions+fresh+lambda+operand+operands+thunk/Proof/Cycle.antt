@@ -42,7 +42,7 @@ use Rattle.planner.proofs.operand_scope.Reads as operand-scope-reads
 use Rattle.planner.proofs.put.Reads as put-reads
 use Rattle.planner.proofs.row_of.Reads as row-of-reads
 use Rattle.planner.proofs.wide.Reads as wide-reads
-use Rattle.planner.proofs.wide16.Reads as wide16-reads
+use Rattle.outsiders.proofs.wide.Reads as entry-reads
 use Rattle.record.proofs.aux.Reads as aux-reads
 use Rattle.record.proofs.opcode.Reads as opcode-reads
 use Rattle.schedule.proofs.schedule.Reads as schedule-reads
@@ -165,7 +165,7 @@ definition-claims t =
 
 abbrev pub definitions-claims : ℕ → definitions-lts.Claims
 definitions-claims t =
-    (wide16-reads.Asked, wide16-reads.Learnt, definition-below t, definition.Post)
+    (entry-reads.Asked, entry-reads.Learnt, definition-below t, definition.Post)
 
 abbrev pub fresh-claims : ℕ → fresh-lts.Claims
 fresh-claims t = (

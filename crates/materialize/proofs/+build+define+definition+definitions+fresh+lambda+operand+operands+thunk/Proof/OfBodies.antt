@@ -1,14 +1,14 @@
 -- What is left to show of `thunk` and `lambda`: scopes with ids of their own. Assumes nothing.
-use Prim.Native.Nat.{ℕ, _+_}
-use mathlib.Core.Path.{ap, _∙_}
+use Prim.Native.Nat.{ℕ, _+_, _≤_}
+use mathlib.Core.Path.{_≡_, ap, _∙_}
 use native.Mathlib.Omega.{arith}
 use lib.ListN.{length, getD}
 use Rattle.planner.proofs.Keeping.{buildable-kept}
 use Rattle.planner.proofs.Loaded.{source-low, slots-loaded}
 use Rattle.record.specs.Record.{rowAt}
 use Rattle.key.specs.declared.Symbol.{Symbol}
-use Rattle.planner.proofs.Nodes.{grew-few}
-use Rattle.planner.proofs.Nodes.{plans-copied}
+use Rattle.planner.proofs.Nodes.{grew-few, plans-copied}
+use Rattle.planner.proofs.Sites.{put-fits, load-fits, site-on}
 use Rattle.planner.proofs.Binding.{lambda-fits, lambda-writable, body-low, plans-lambda}
 use Rattle.materialize.proofs.lambda.Reads as lambda
 use Rattle.materialize.proofs.+build+define+definition+definitions+fresh+lambda+operand+operands+thunk.Lts-lambda as lambda-lts
@@ -26,25 +26,9 @@ pub thunk-define-requires : (t : ℕ) → thunk-lts.Need-define-requires (cycle.
     thunk.Post
 thunk-define-requires t c κs =
     let z = c .before .before .before .before .before .before in
-    let b = z .pre .1 .1 .0 in
-    let at = z .pre .1 .1 .1 .0 in (
-      omega (arith, z .pre .0),
-      (
-        z .pre .1 .0,
-        (
-          b,
-          (
-            record {
-              low = at .low;
-              long = ap length (c .before .before .copied .ensures) ∙ at .long;
-              room = omega (arith, at .room);
-              count = at .count;
-            },
-            z .pre .1 .1 .1 .1,
-          ),
-        ),
-      ),
-    )
+    let q = z .pre .1 .1 in
+    let long = ap length (c .before .before .copied .ensures) in
+    (omega (arith, z .pre .0), (z .pre .1 .0, (q .0, (site-on (q .1 .0) long (omega arith) (q .1 .0 .count), q .1 .1))))
 
 pub thunk-returns : (t : ℕ) → thunk-lts.Need-returns (cycle.thunk-claims t) (cycle.thunk-at t) thunk.Post
 thunk-returns t c =
@@ -53,6 +37,21 @@ thunk-returns t c =
     plans-copied (c6 .copied .ensures) (c3 .define .ensures)
 
 -- ---- lambda
+
+-- how many arguments it has, as read
+module _ (t : ℕ) (c : lambda-lts.After-wide8 (cycle.lambda-claims t) (cycle.lambda-at t) lambda.Post) where
+  abbrev from : lambda-lts.Start (cycle.lambda-claims t) (cycle.lambda-at t) lambda.Post
+  from = c .before .before .before .before .before .before
+
+  count-is : c .wide8 .result ≡ rowAt (from .args .forest .now) (from .args .f .source) .rec .aux
+  count-is =
+      c .wide8 .ensures ∙ (c .before .aux .ensures
+      ∙ ap (λ (i : ℕ). rowAt (from .args .forest .now) i .rec .aux) (c .before .before .wide .ensures))
+
+  count-few : c .wide8 .result ≤ 15
+  count-few =
+      let q = from .pre .1 .1 in
+      omega (arith, count-is, lambda-fits (q .0) _ (q .1 .0 .low) _ (q .1 .1) .few)
 
 pub lambda-aux-requires : (t : ℕ) → lambda-lts.Need-aux-requires (cycle.lambda-claims t) (cycle.lambda-at t) lambda.Post
 lambda-aux-requires t c κs =
@@ -66,9 +65,7 @@ pub lambda-load-requires : (t : ℕ) → lambda-lts.Need-load-requires (cycle.la
     lambda.Post
 lambda-load-requires t c κs =
     let z = c .before .before .before .before .before .before .before in
-    let b = z .pre .1 .1 .0 in
-    let at = z .pre .1 .1 .1 .0 in
-    omega (arith, at .low, b .arena .few, b .arena .words)
+    load-fits (z .pre .1 .1 .1 .0) (z .pre .1 .1 .0)
 
 pub lambda-slice-read-wide : (t : ℕ) → lambda-lts.Need-slice-read-wide (cycle.lambda-claims t) (cycle.lambda-at t)
     lambda.Post
@@ -76,16 +73,13 @@ lambda-slice-read-wide t c =
     let z = c .before .before .before .before .before .before .before .before .before .before in
     let b = z .pre .1 .1 .0 in
     let at = z .pre .1 .1 .1 .0 in
-    let e = z .pre .1 .1 .1 .1 in
     let slots = slots-loaded b _ (at .low) (c .before .before .load .ensures) in
     omega (arith, c .before .wide2 .ensures, slots, b .arena .words)
 
 pub lambda-put-requires : (t : ℕ) → lambda-lts.Need-put-requires (cycle.lambda-claims t) (cycle.lambda-at t) lambda.Post
 lambda-put-requires t c κs =
     let z = c .before .before .before .before .before .before .before .before .before .before .before .before in
-    let b = z .pre .1 .1 .0 in
-    let at = z .pre .1 .1 .1 .0 in
-    (omega (arith, b .arena .words), at .count, omega (arith, at .room))
+    put-fits (z .pre .1 .1 .1 .0) (z .pre .1 .1 .0)
 
 pub lambda-copied-requires : (t : ℕ) → lambda-lts.Need-copied-requires (cycle.lambda-claims t) (cycle.lambda-at t)
     lambda.Post
@@ -98,14 +92,11 @@ pub lambda-number-requires : (t : ℕ) → lambda-lts.Need-number-requires (cycl
 lambda-number-requires t c κs =
     let c3 = c .before .before .before in
     let c13 = c3 .before .before .before .before .before .before .before .before .before .before in
-    let c14 = c13 .before in
-    let c15 = c14 .before in
-    let z = c15 .before .before .before .before in
+    let z = from t c13 in
     let b = z .pre .1 .1 .0 in
     let at = z .pre .1 .1 .1 .0 in
     let e = z .pre .1 .1 .1 .1 in
-    let ec = c13 .wide8 .ensures
-    ∙ (c14 .aux .ensures ∙ ap (λ (i : ℕ). rowAt (z .args .forest .now) i .rec .aux) (c15 .wide .ensures)) in
+    let ec = count-is t c13 in
     let fit = lambda-fits b _ (at .low) _ e in (
       λ some. omega (
         arith,
@@ -115,50 +106,29 @@ lambda-number-requires t c κs =
         fit .first (omega (arith, some, c .wide5 .ensures, ec)),
         at .low,
         b .arena .few,
-        ap length
-            (c3 .copied .ensures),
+        ap length (c3 .copied .ensures),
         at .long,
       ),
-      omega (arith, c .wide5 .ensures, ec, fit .few, at .room),
+      omega (arith, c .wide5 .ensures, count-few t c13, at .room),
     )
 
 pub lambda-add-define : (t : ℕ) → lambda-lts.Need-add-define (cycle.lambda-claims t) (cycle.lambda-at t) lambda.Post
 lambda-add-define t c =
     let c18 = c .before .before .before .before .before .before .before .before .before .before .before .before .before
     .before .before .before .before .before in
-    let c19 = c18 .before in
-    let c20 = c19 .before in
-    let z = c20 .before .before .before .before in
-    let b = z .pre .1 .1 .0 in
-    let at = z .pre .1 .1 .1 .0 in
-    let e = z .pre .1 .1 .1 .1 in
-    let ec = c18 .wide8 .ensures
-    ∙ (c19 .aux .ensures ∙ ap (λ (i : ℕ). rowAt (z .args .forest .now) i .rec .aux) (c20 .wide .ensures)) in
-    let fit = lambda-fits b _ (at .low) _ e in
-    omega (arith, ec, fit .few, at .room)
+    omega (arith, count-few t c18, from t c18 .pre .1 .1 .1 .0 .room)
 
 pub lambda-add-define-2 : (t : ℕ) → lambda-lts.Need-add-define-2 (cycle.lambda-claims t) (cycle.lambda-at t) lambda.Post
 lambda-add-define-2 t c =
     let c18 = c .before .before .before .before .before .before .before .before .before .before .before .before .before
     .before .before .before .before .before in
-    let c19 = c18 .before in
-    let c20 = c19 .before in
-    let z = c20 .before .before .before .before in
-    let b = z .pre .1 .1 .0 in
-    let at = z .pre .1 .1 .1 .0 in
-    let e = z .pre .1 .1 .1 .1 in
-    let ec = c18 .wide8 .ensures
-    ∙ (c19 .aux .ensures ∙ ap (λ (i : ℕ). rowAt (z .args .forest .now) i .rec .aux) (c20 .wide .ensures)) in
-    let fit = lambda-fits b _ (at .low) _ e in
-    omega (arith, ec, fit .few, at .room)
+    omega (arith, count-few t c18, from t c18 .pre .1 .1 .1 .0 .room)
 
 pub lambda-add-define-3 : (t : ℕ) → lambda-lts.Need-add-define-3 (cycle.lambda-claims t) (cycle.lambda-at t) lambda.Post
 lambda-add-define-3 t c =
     let z = c .before .before .before .before .before .before .before .before .before .before .before .before .before
     .before .before .before .before .before .before .before .before .before .before .before in
-    let b = z .pre .1 .1 .0 in
-    let at = z .pre .1 .1 .1 .0 in
-    omega (arith, at .room)
+    omega (arith, z .pre .1 .1 .1 .0 .room)
 
 pub lambda-define-requires : (t : ℕ) → lambda-lts.Need-define-requires (cycle.lambda-claims t) (cycle.lambda-at t)
     lambda.Post
@@ -170,14 +140,10 @@ lambda-define-requires t c κs =
     let c15 = c13 .before .before in
     let c16 = c15 .before in
     let c18 = c16 .before .before in
-    let c19 = c18 .before in
-    let c20 = c19 .before in
-    let z = c20 .before .before .before .before in
+    let z = from t c18 in
     let b = z .pre .1 .1 .0 in
     let at = z .pre .1 .1 .1 .0 in
     let e = z .pre .1 .1 .1 .1 in
-    let ec = c18 .wide8 .ensures
-    ∙ (c19 .aux .ensures ∙ ap (λ (i : ℕ). rowAt (z .args .forest .now) i .rec .aux) (c20 .wide .ensures)) in
     let fit = lambda-fits b _ (at .low) _ e in
     let h = c11 .put .ensures (z .args .forest .now) (lambda-writable b _ (at .low) _ e _ (omega (arith, at .room))) in
     let er = c13 .wide3 .ensures
@@ -193,7 +159,7 @@ lambda-define-requires t c κs =
             record {
               low = omega (arith, er, low, at .low);
               long = c4 .number .kept .0 ∙ (ap length (c8 .copied .ensures) ∙ at .long);
-              room = omega (arith, er, low, ec, fit .few, at .room);
+              room = omega (arith, er, low, count-few t c18, at .room);
               count = grew-few h;
             },
             omega (arith, c .before .wide6 .ensures, fit .body),
@@ -215,18 +181,13 @@ lambda-returns t c =
     let c19 = c17 .before .before in
     let c20 = c19 .before in
     let c22 = c20 .before .before in
-    let c23 = c22 .before in
-    let c24 = c23 .before in
-    let z = c24 .before .before .before .before in
+    let z = from t c22 in
     let b = z .pre .1 .1 .0 in
     let at = z .pre .1 .1 .1 .0 in
     let e = z .pre .1 .1 .1 .1 in
-    let ec = c22 .wide8 .ensures
-    ∙ (c23 .aux .ensures ∙ ap (λ (i : ℕ). rowAt (z .args .forest .now) i .rec .aux) (c24 .wide .ensures)) in
     let h = c15 .put .ensures (z .args .forest .now) (lambda-writable b _ (at .low) _ e _ (omega (arith, at .room))) in
     let er = c17 .wide3 .ensures
     ∙ ap (λ (k : ℕ). getD (z .args .work .now) (2560 + k) 0) (c19 .wide2 .ensures ∙ ap (λ (y : Symbol). y .kids)
     (c20 .load .ensures)) in
-    plans-lambda b _ (at .low) _ _ e (at .long) ec er (c12 .copied .ensures) (c10 .wide4 .ensures) (c9 .wide5 .ensures)
-    (c5 .wide6 .ensures)
-    (c8 .number .ensures) h (c3 .define .ensures)
+    plans-lambda b _ (at .low) _ _ e (at .long) (count-is t c22) er (c12 .copied .ensures) (c10 .wide4 .ensures)
+    (c9 .wide5 .ensures) (c5 .wide6 .ensures) (c8 .number .ensures) h (c3 .define .ensures)

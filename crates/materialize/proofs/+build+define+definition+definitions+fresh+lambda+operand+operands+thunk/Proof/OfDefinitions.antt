@@ -1,11 +1,12 @@
 -- What is left to show of `definitions` and `definition`. Assumes nothing.
 use Prim.Native.Nat.{ℕ, _-_, _≤_}
-use mathlib.Core.Path.{_≡_, _∙_}
+use mathlib.Core.Path.{_≡_, refl, _∙_}
 use native.Mathlib.Omega.{arith}
 use lib.ListN.{length, take}
 use Rattle.planner.specs.Planning.{Defines}
 use Rattle.planner.proofs.Keeping.{buildable-kept}
 use Rattle.planner.proofs.Nodes.{grew-few}
+use Rattle.planner.proofs.Sites.{put-fits, id-fits, site-on}
 use Rattle.planner.proofs.Scoping.{defines-none, defines-one, defines-other, defines-more}
 use Rattle.materialize.proofs.definition.Reads as definition
 use Rattle.materialize.proofs.+build+define+definition+definitions+fresh+lambda+operand+operands+thunk.Lts-definition as definition-lts
@@ -28,16 +29,13 @@ pub definitions-loop-holds : (t : ℕ) → definitions-lts.Need-loop-holds (cycl
     (cycle.definitions-at t) definitions.Post definitions-Inv-loop definitions-μ-loop
 definitions-loop-holds t c =
     let z = c .before .before .before .before in
-    let b = z .pre .1 .1 .0 in
     let at = z .pre .1 .1 .1 .0 in
     (omega arith, at .long, defines-none (at .count))
 
-pub definitions-shared-slice-read-wide16 : (t : ℕ) → definitions-lts.Need-shared-slice-read-wide16
+pub definitions-shared-slice-read-wide : (t : ℕ) → definitions-lts.Need-shared-slice-read-wide
     (cycle.definitions-claims t) (cycle.definitions-at t) definitions.Post definitions-Inv-loop definitions-μ-loop
-definitions-shared-slice-read-wide16 t c =
+definitions-shared-slice-read-wide t c =
     let z = c .before .before .before .before .before .before .before in
-    let b = z .pre .1 .1 .0 in
-    let at = z .pre .1 .1 .1 .0 in
     omega (arith, z .pre .1 .1 .1 .1 .0 .0, z .pre .1 .1 .1 .1 .0 .1)
 
 pub definitions-definition-requires : (t : ℕ) → definitions-lts.Need-definition-requires (cycle.definitions-claims t)
@@ -51,15 +49,15 @@ definitions-definition-requires t c κs =
     let at = z .pre .1 .1 .1 .0 in
     let inv = c5 .loop .inv in
     let low = z .pre .1 .1 .1 .1 .1 _ (c4 .loop-test .taken) in (
-      omega (arith, z .pre .0, c2 .wide16 .ensures, low),
+      omega (arith, z .pre .0, c2 .wide .ensures .0, low),
       (
         z .pre .1 .0,
         (
           buildable-kept (inv .2 .kept) b,
           record {
-            low = omega (arith, c2 .wide16 .ensures, low, at .low);
+            low = omega (arith, c2 .wide .ensures .0, low, at .low);
             long = inv .1;
-            room = omega (arith, c2 .wide16 .ensures, low, inv .0, inv .2 .few, at .room, z .pre .1 .1 .1 .1 .0 .0);
+            room = omega (arith, c2 .wide .ensures .0, low, inv .0, inv .2 .few, at .room, z .pre .1 .1 .1 .1 .0 .0);
             count = inv .2 .full;
           },
         ),
@@ -75,7 +73,6 @@ definitions-loop-again t c =
     let c10 = c9 .before in
     let z = c10 .before .before .before .before .before in
     let b = z .pre .1 .1 .0 in
-    let at = z .pre .1 .1 .1 .0 in
     let inv = c10 .loop .inv in (
       omega (arith, c9 .loop-test .taken),
       c4 .definition .kept .1 .1 .1 .1 .1 .0 ∙ inv .1,
@@ -84,7 +81,7 @@ definitions-loop-again t c =
         c9 .loop-test .taken,
         z .pre .1 .1 .1 .1 .0 .0,
         z .pre .1 .1 .1 .1 .0 .1,
-      )) (c7 .wide16 .ensures) (inv .2) (c4 .definition .ensures),
+      )) (c7 .wide .ensures .0) (inv .2) (c4 .definition .ensures),
     )
 
 pub definitions-returns : (t : ℕ) → definitions-lts.Need-returns (cycle.definitions-claims t) (cycle.definitions-at t)
@@ -102,33 +99,26 @@ pub definition-member-requires : (t : ℕ) → definition-lts.Need-member-requir
     (cycle.definition-at t) definition.Post
 definition-member-requires t c κs =
     let z = c .before .before .before .before .before in
-    let b = z .pre .1 .1 .0 in
     let at = z .pre .1 .1 .1 in
-    (z .pre .1 .0, (b, (at .low, at .long)))
+    (z .pre .1 .0, (z .pre .1 .1 .0, (at .low, at .long)))
 
 pub definition-add-id : (t : ℕ) → definition-lts.Need-add-id (cycle.definition-claims t) (cycle.definition-at t)
     definition.Post
 definition-add-id t c =
     let z = c .before .before .before .before .before .before .before in
-    let b = z .pre .1 .1 .0 in
-    let at = z .pre .1 .1 .1 in
-    omega (arith, at .room)
+    omega (arith, z .pre .1 .1 .1 .room)
 
 pub definition-put-requires : (t : ℕ) → definition-lts.Need-put-requires (cycle.definition-claims t)
     (cycle.definition-at t) definition.Post
 definition-put-requires t c κs =
     let z = c .before .before .before .before .before .before .before .before in
-    let b = z .pre .1 .1 .0 in
-    let at = z .pre .1 .1 .1 in
-    (omega (arith, b .arena .words), at .count, omega (arith, at .room))
+    put-fits (z .pre .1 .1 .1) (z .pre .1 .1 .0)
 
 pub definition-add-build : (t : ℕ) → definition-lts.Need-add-build (cycle.definition-claims t) (cycle.definition-at t)
     definition.Post
 definition-add-build t c =
     let z = c .before .before .before .before .before .before .before .before .before .before .before .before .before in
-    let b = z .pre .1 .1 .0 in
-    let at = z .pre .1 .1 .1 in
-    omega (arith, at .room)
+    omega (arith, z .pre .1 .1 .1 .room)
 
 pub definition-build-requires : (t : ℕ) → definition-lts.Need-build-requires (cycle.definition-claims t)
     (cycle.definition-at t) definition.Post
@@ -139,18 +129,7 @@ definition-build-requires t c κs =
     let at = z .pre .1 .1 .1 in
     let h = c4 .put .ensures (z .args .forest .now) tt in (
       omega (arith, z .pre .0),
-      (
-        z .pre .1 .0,
-        (
-          buildable-kept (h .kept) b,
-          record {
-            low = at .low;
-            long = at .long;
-            room = omega (arith, at .room);
-            count = grew-few h;
-          },
-        ),
-      ),
+      (z .pre .1 .0, (buildable-kept (h .kept) b, site-on at refl (omega arith) (grew-few h))),
     )
 
 pub definition-slice-write-map : (t : ℕ) → definition-lts.Need-slice-write-map (cycle.definition-claims t)
@@ -158,9 +137,7 @@ pub definition-slice-write-map : (t : ℕ) → definition-lts.Need-slice-write-m
 definition-slice-write-map t c =
     let z = c .before .before .before .before .before .before .before .before .before .before .before .before .before
     .before .before .before in
-    let b = z .pre .1 .1 .0 in
-    let at = z .pre .1 .1 .1 in
-    omega (arith, at .low, at .long, b .arena .few)
+    id-fits (z .pre .1 .1 .1) (z .pre .1 .1 .0)
 
 pub definition-returns : (t : ℕ) → definition-lts.Need-returns (cycle.definition-claims t) (cycle.definition-at t)
     definition.Post
@@ -172,7 +149,7 @@ definition-returns t c =
     let z = c10 .before .before .before .before .before .before in
     let b = z .pre .1 .1 .0 in
     let at = z .pre .1 .1 .1 in
-    defines-one _ _ b (c9 .if1 .taken) (c10 .member .ensures) (omega (arith, at .low, at .long, b .arena .few))
+    defines-one _ _ b (c9 .if1 .taken) (c10 .member .ensures) (id-fits at b)
     (c7 .put .ensures (z .args .forest .now) tt)
     (c2 .build .ensures)
 

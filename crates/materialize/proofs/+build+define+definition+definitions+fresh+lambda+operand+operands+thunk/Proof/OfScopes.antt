@@ -1,11 +1,12 @@
 -- What is left to show of `define`: a scope. Assumes nothing.
 use Prim.Native.Nat.{ℕ}
-use mathlib.Core.Path.{ap, _∙_}
+use mathlib.Core.Path.{refl, ap, _∙_}
 use native.Mathlib.Omega.{arith}
 use lib.ListN.{length}
 use Rattle.planner.proofs.Growing.{kept-then}
 use Rattle.planner.proofs.Keeping.{buildable-kept}
 use Rattle.planner.proofs.Nodes.{grew-few, plans-full}
+use Rattle.planner.proofs.Sites.{put-fits, site-on}
 use Rattle.planner.proofs.Scoping.{plans-result, plans-block}
 use Rattle.materialize.proofs.define.Reads as define
 use Rattle.materialize.proofs.+build+define+definition+definitions+fresh+lambda+operand+operands+thunk.Lts-define as define-lts
@@ -32,44 +33,18 @@ define-members-requires t c κs =
     let c4 = c .before .before .before .before in
     let c7 = c4 .before .before .before in
     let z = c7 .before .before .before .before .before .before in
-    let b = z .pre .1 .1 .0 in
-    let at = z .pre .1 .1 .1 .0 in (
-      z .pre .1 .0,
-      (
-        b,
-        (
-          (
-            c4 .schedule .ensures .fit,
-            c4 .schedule .kept .1 .1 .1 .1 .1 .0 ∙ ap length
-                (c7 .zeros16 .ensures),
-            at .long,
-          ),
-          λ k l. omega (arith, c4 .schedule .ensures .low k l, at .low),
-        ),
-      ),
-    )
+    let at = z .pre .1 .1 .1 .0 in
+    let long = c4 .schedule .kept .1 .1 .1 .1 .1 .0 ∙ ap length (c7 .zeros16 .ensures) in
+    let s = c4 .schedule .ensures in
+    (z .pre .1 .0, (z .pre .1 .1 .0, ((s .fit, long, at .long), λ k l. omega (arith, s .low k l, at .low))))
 
 pub define-build-requires : (t : ℕ) → define-lts.Need-build-requires (cycle.define-claims t) (cycle.define-at t)
     define.Post
 define-build-requires t c κs =
     let z = c .before .before .before .before .before .before .before .before .before .before .before .before .before
     .before .before .before .before in
-    let b = z .pre .1 .1 .0 in
-    let at = z .pre .1 .1 .1 .0 in (
-      omega (arith, z .pre .0),
-      (
-        z .pre .1 .0,
-        (
-          b,
-          record {
-            low = at .low;
-            long = at .long;
-            room = omega (arith, at .room);
-            count = at .count;
-          },
-        ),
-      ),
-    )
+    let at = z .pre .1 .1 .1 .0 in
+    (omega (arith, z .pre .0), (z .pre .1 .0, (z .pre .1 .1 .0, site-on at refl (omega arith) (at .count))))
 
 pub define-returns-2 : (t : ℕ) → define-lts.Need-returns-2 (cycle.define-claims t) (cycle.define-at t) define.Post
 define-returns-2 t c =
@@ -79,7 +54,6 @@ define-returns-2 t c =
     let c11 = c6 .before .before .before .before .before in
     let z = c11 .before .before .before .before .before .before .before .before .before in
     let b = z .pre .1 .1 .0 in
-    let at = z .pre .1 .1 .1 .0 in
     plans-result _ _ b _ _ _ _ _ (c11 .schedule .ensures .is) (c6 .members .ensures .1) (c5 .if2 .taken)
     (c2 .build .ensures)
 
@@ -87,18 +61,14 @@ pub define-put-requires : (t : ℕ) → define-lts.Need-put-requires (cycle.defi
 define-put-requires t c κs =
     let z = c .before .before .before .before .before .before .before .before .before .before .before .before .before
     .before .before .before in
-    let b = z .pre .1 .1 .0 in
-    let at = z .pre .1 .1 .1 .0 in
-    (omega (arith, b .arena .words), at .count, omega (arith, at .room))
+    put-fits (z .pre .1 .1 .1 .0) (z .pre .1 .1 .0)
 
 pub define-add-definitions : (t : ℕ) → define-lts.Need-add-definitions (cycle.define-claims t) (cycle.define-at t)
     define.Post
 define-add-definitions t c =
     let z = c .before .before .before .before .before .before .before .before .before .before .before .before .before
     .before .before .before .before .before .before .before .before .before in
-    let b = z .pre .1 .1 .0 in
-    let at = z .pre .1 .1 .1 .0 in
-    omega (arith, at .room)
+    omega (arith, z .pre .1 .1 .1 .0 .room)
 
 pub define-definitions-requires : (t : ℕ) → define-lts.Need-definitions-requires (cycle.define-claims t)
     (cycle.define-at t) define.Post
@@ -110,25 +80,13 @@ define-definitions-requires t c κs =
     let z = c16 .before .before .before .before .before .before in
     let b = z .pre .1 .1 .0 in
     let at = z .pre .1 .1 .1 .0 in
-    let h = c5 .put .ensures (z .args .forest .now) (omega (arith, c8 .members .ensures .0)) in (
+    let h = c5 .put .ensures (z .args .forest .now) (omega (arith, c8 .members .ensures .0)) in
+    let s = c13 .schedule .ensures in
+    let long = c13 .schedule .kept .1 .1 .1 .1 .1 .0 ∙ ap length (c16 .zeros16 .ensures) in (
       omega (arith, z .pre .0),
       (
         z .pre .1 .0,
-        (
-          buildable-kept (h .kept) b,
-          (
-            record {
-              low = at .low;
-              long = at .long;
-              room = omega (arith, at .room);
-              count = grew-few h;
-            },
-            (
-              (c13 .schedule .ensures .fit, c13 .schedule .kept .1 .1 .1 .1 .1 .0 ∙ ap length (c16 .zeros16 .ensures)),
-              c13 .schedule .ensures .low,
-            ),
-          ),
-        ),
+        (buildable-kept (h .kept) b, (site-on at refl (omega arith) (grew-few h), ((s .fit, long), s .low))),
       ),
     )
 
@@ -137,9 +95,7 @@ define-add-build t c =
     let z = c .before .before .before .before .before .before .before .before .before .before .before .before .before
     .before .before .before .before .before .before .before .before .before .before .before .before .before .before
     .before .before in
-    let b = z .pre .1 .1 .0 in
-    let at = z .pre .1 .1 .1 .0 in
-    omega (arith, at .room)
+    omega (arith, z .pre .1 .1 .1 .0 .room)
 
 pub define-build-requires-2 : (t : ℕ) → define-lts.Need-build-requires-2 (cycle.define-claims t) (cycle.define-at t)
     define.Post
@@ -158,12 +114,8 @@ define-build-requires-2 t c κs =
         z .pre .1 .0,
         (
           buildable-kept (kept-then (h .kept) (d .kept)) b,
-          record {
-            low = at .low;
-            long = c6 .definitions .kept .1 .1 .1 .1 .1 .1 .1 .0 ∙ at .long;
-            room = omega (arith, d .few, c20 .schedule .ensures .fit, at .room);
-            count = d .full;
-          },
+          site-on at (c6 .definitions .kept .1 .1 .1 .1 .1 .1 .1 .0)
+              (omega (arith, d .few, c20 .schedule .ensures .fit)) (d .full),
         ),
       ),
     )
@@ -178,7 +130,6 @@ define-returns-3 t c =
     let c23 = c18 .before .before .before .before .before in
     let z = c23 .before .before .before .before .before .before .before .before .before in
     let b = z .pre .1 .1 .0 in
-    let at = z .pre .1 .1 .1 .0 in
     let h = c15 .put .ensures (z .args .forest .now) (omega (arith, c18 .members .ensures .0)) in
     plans-block _ _ b _ _ _ _ _ (c23 .schedule .ensures .is) (c18 .members .ensures .1) (omega (arith, c17 .if2 .left))
     h (c9 .definitions .ensures)

@@ -1,7 +1,7 @@
 -- What is left to show of `build`, `fresh`, `operand` and `operands`: symbols. Assumes nothing.
 use borrow.Author.Needs.{needs}
 use Prim.Native.Nat.{ℕ, _+_, _-_, _≤_, _<_}
-use mathlib.Core.Path.{sym, ap, _∙_}
+use mathlib.Core.Path.{refl, sym, ap, _∙_}
 use native.Mathlib.Omega.{arith}
 use Rattle.planner.specs.Grew.{Kept}
 use Rattle.planner.specs.Planning.{Leads}
@@ -11,8 +11,8 @@ use Rattle.planner.proofs.Operands.{opened-there}
 use Rattle.planner.proofs.Loaded.{node-loaded, put-as, source-low, row-writable, node-opens, slots-loaded}
 use Rattle.record.specs.Record.{rowAt}
 use Rattle.planner.proofs.Nodes.{grew-few, plans-full, plans-use, plans-new, plans-const, plans-unparsed}
-use Rattle.planner.proofs.Nodes.{plans-argument}
-use Rattle.planner.proofs.Nodes.{plans-same, plans-thunk, opened-scope}
+use Rattle.planner.proofs.Nodes.{plans-argument, plans-same, plans-thunk, opened-scope}
+use Rattle.planner.proofs.Sites.{put-fits, load-fits, id-fits, site-on}
 use Rattle.planner.proofs.Applying.{operands-start, operands-next, operand-low, operands-end, plans-operation}
 use Rattle.materialize.proofs.build.Reads as build
 use Rattle.materialize.proofs.+build+define+definition+definitions+fresh+lambda+operand+operands+thunk.Lts-build as build-lts
@@ -34,16 +34,12 @@ pub build-shared-slice-read-id : (t : ℕ) → build-lts.Need-shared-slice-read-
     (cycle.build-at t) build.Post
 build-shared-slice-read-id t c =
     let z = c .before .before .before .before .before .before in
-    let b = z .pre .1 .1 .0 in
-    let at = z .pre .1 .1 .1 in
-    omega (arith, at .low, at .long, b .arena .few)
+    id-fits (z .pre .1 .1 .1) (z .pre .1 .1 .0)
 
 pub build-put-requires : (t : ℕ) → build-lts.Need-put-requires (cycle.build-claims t) (cycle.build-at t) build.Post
 build-put-requires t c κs =
     let z = c .before .before .before .before .before .before .before .before in
-    let b = z .pre .1 .1 .0 in
-    let at = z .pre .1 .1 .1 in
-    (omega (arith, b .arena .words), at .count, omega (arith, at .room))
+    put-fits (z .pre .1 .1 .1) (z .pre .1 .1 .0)
 
 pub build-returns-2 : (t : ℕ) → build-lts.Need-returns-2 (cycle.build-claims t) (cycle.build-at t) build.Post
 build-returns-2 t c =
@@ -57,9 +53,7 @@ build-returns-2 t c =
 pub build-fresh-requires : (t : ℕ) → build-lts.Need-fresh-requires (cycle.build-claims t) (cycle.build-at t) build.Post
 build-fresh-requires t c κs =
     let z = c .before .before .before .before .before .before .before .before in
-    let b = z .pre .1 .1 .0 in
-    let at = z .pre .1 .1 .1 in
-    (omega (arith, z .pre .0), (z .pre .1 .0, (b, at)))
+    (omega (arith, z .pre .0), z .pre .1)
 
 pub build-returns-3 : (t : ℕ) → build-lts.Need-returns-3 (cycle.build-claims t) (cycle.build-at t) build.Post
 build-returns-3 t c =
@@ -75,30 +69,22 @@ build-returns-3 t c =
 pub fresh-load-requires : (t : ℕ) → fresh-lts.Need-load-requires (cycle.fresh-claims t) (cycle.fresh-at t) fresh.Post
 fresh-load-requires t c κs =
     let z = c .before .before .before .before in
-    let b = z .pre .1 .1 .0 in
-    let at = z .pre .1 .1 .1 in
-    omega (arith, at .low, b .arena .few, b .arena .words)
+    load-fits (z .pre .1 .1 .1) (z .pre .1 .1 .0)
 
 pub fresh-put-requires : (t : ℕ) → fresh-lts.Need-put-requires (cycle.fresh-claims t) (cycle.fresh-at t) fresh.Post
 fresh-put-requires t c κs =
     let z = c .before .before .before .before .before .before .before .before .before in
-    let b = z .pre .1 .1 .0 in
-    let at = z .pre .1 .1 .1 in
-    (omega (arith, b .arena .words), at .count, omega (arith, at .room))
+    put-fits (z .pre .1 .1 .1) (z .pre .1 .1 .0)
 
 pub fresh-put-requires-2 : (t : ℕ) → fresh-lts.Need-put-requires-2 (cycle.fresh-claims t) (cycle.fresh-at t) fresh.Post
 fresh-put-requires-2 t c κs =
     let z = c .before .before .before .before .before .before .before .before .before in
-    let b = z .pre .1 .1 .0 in
-    let at = z .pre .1 .1 .1 in
-    (omega (arith, b .arena .words), at .count, omega (arith, at .room))
+    put-fits (z .pre .1 .1 .1) (z .pre .1 .1 .0)
 
 pub fresh-put-requires-3 : (t : ℕ) → fresh-lts.Need-put-requires-3 (cycle.fresh-claims t) (cycle.fresh-at t) fresh.Post
 fresh-put-requires-3 t c κs =
     let z = c .before .before .before .before .before .before .before .before in
-    let b = z .pre .1 .1 .0 in
-    let at = z .pre .1 .1 .1 in
-    (omega (arith, b .arena .words), at .count, omega (arith, at .room))
+    put-fits (z .pre .1 .1 .1) (z .pre .1 .1 .0)
 
 pub fresh-returns : (t : ℕ) → fresh-lts.Need-returns (cycle.fresh-claims t) (cycle.fresh-at t) fresh.Post
 fresh-returns t c =
@@ -165,11 +151,8 @@ pub operand-build-requires : (t : ℕ) → operand-lts.Need-build-requires (cycl
     operand.Post
 operand-build-requires t c κs =
     let z = c .before .before .before .before .before .before in
-    let b = z .pre .1 .1 .0 in
-    let at = z .pre .1 .1 .1 .0 in (
-      omega (arith, z .pre .0),
-      (z .pre .1 .0, (b, record { low = at .low; long = at .long; room = omega (arith, at .room); count = at .count })),
-    )
+    let at = z .pre .1 .1 .1 .0 in
+    (omega (arith, z .pre .0), (z .pre .1 .0, (z .pre .1 .1 .0, site-on at refl (omega arith) (at .count))))
 
 pub operand-returns : (t : ℕ) → operand-lts.Need-returns (cycle.operand-claims t) (cycle.operand-at t) operand.Post
 operand-returns t c =
@@ -218,31 +201,25 @@ pub operands-load-requires : (t : ℕ) → operands-lts.Need-load-requires (cycl
     operands.Post operands-Inv-loop operands-μ-loop
 operands-load-requires t c κs =
     let z = c .before .before .before .before .before .before in
-    let b = z .pre .1 .1 .0 in
-    let at = z .pre .1 .1 .1 .0 in
-    omega (arith, at .low, b .arena .few, b .arena .words)
+    load-fits (z .pre .1 .1 .1 .0) (z .pre .1 .1 .0)
 
 pub operands-put-requires : (t : ℕ) → operands-lts.Need-put-requires (cycle.operands-claims t) (cycle.operands-at t)
     operands.Post operands-Inv-loop operands-μ-loop
 operands-put-requires t c κs =
     let z = c .before .before .before .before .before .before .before .before .before .before .before in
-    let b = z .pre .1 .1 .0 in
-    let at = z .pre .1 .1 .1 .0 in
-    (omega (arith, b .arena .words), at .count, omega (arith, at .room))
+    put-fits (z .pre .1 .1 .1 .0) (z .pre .1 .1 .0)
 
 pub operands-loop-holds : (t : ℕ) → operands-lts.Need-loop-holds (cycle.operands-claims t) (cycle.operands-at t)
     operands.Post operands-Inv-loop operands-μ-loop
 operands-loop-holds t c =
     let c2 = c .before .before in
     let c3 = c2 .before in
-    let c7 = c3 .before .before .before .before in
-    let z = c7 .before .before .before .before .before .before .before in
+    let z = c3 .before .before .before .before .before .before .before .before .before .before .before in
     let b = z .pre .1 .1 .0 in
     let at = z .pre .1 .1 .1 .0 in
     let e = z .pre .1 .1 .1 .1 in
     let h = put-as (c3 .row-of .ensures) (c2 .put .ensures) (row-writable b _ (at .low) _ e) in
     let b₀ = buildable-kept (h .kept) b in
-    let y₀ = c7 .load .ensures ∙ sym (symbol-kept (h .kept) (b .arena) _ (at .low)) in
     (omega arith, kept-same _, grew-few h, operands-start b₀ _ (at .low) _ _ _)
 
 pub operands-slice-read-wide : (t : ℕ) → operands-lts.Need-slice-read-wide (cycle.operands-claims t)
@@ -281,9 +258,7 @@ pub operands-add-operand : (t : ℕ) → operands-lts.Need-add-operand (cycle.op
 operands-add-operand t c =
     let z = c .before .before .before .before .before .before .before .before .before .before .before .before .before
     .before .before .before .before .before .before .before in
-    let b = z .pre .1 .1 .0 in
-    let at = z .pre .1 .1 .1 .0 in
-    omega (arith, at .room)
+    omega (arith, z .pre .1 .1 .1 .0 .room)
 
 pub operands-operand-requires : (t : ℕ) → operands-lts.Need-operand-requires (cycle.operands-claims t)
     (cycle.operands-at t) operands.Post operands-Inv-loop operands-μ-loop
