@@ -39,11 +39,11 @@ use Rattle.intern.specs.declared.Here.{Here}
 use Rattle.intern.specs.declared.Read.{Read}
 use Rattle.intern.specs.declared.Kids.{Kids}
 use Rattle.intern.specs.declared.Selected.{Selected}
-use Rattle.intern.specs.declared.Selected.the-variants.{Done, Anew}
+use Rattle.intern.specs.declared.Selected.the-variants.{Done, Children}
 use Rattle.intern.specs.Steps.{refusedRead}
 use Rattle.intern.specs.Words.{Kept}
 use Rattle.intern.specs.Intern.{Stands, Past, Reads, Legible, Counted, kidsRead, concluded, WellKids}
-use Rattle.intern.specs.Intern.{ReadsOn}
+use Rattle.intern.specs.Intern.{Incomplete, ReadsOn}
 use Rattle.intern.proofs.Kept.{kept-none}
 use Rattle.intern.proofs.After.{out-good}
 use Rattle.intern.proofs.Bodies.{lambda-kind}
@@ -52,10 +52,10 @@ use Rattle.intern.proofs.Records.{reads-refused, concluded-10, conclude
 -- ---- the definitions unfolded
 
 module _ (at cur : ℕ) (r : Rec) (env : Env) (kids : intern.Kids) (st : intern.State) where
-  kind-keyed : (r .shape ≡ 7 → ⊥) → (r .shape ≡ 12 → ⊥) → (r .shape ≡ 17 → ⊥) →
+  kind-other : (r .shape ≡ 7 → ⊥) → (r .shape ≡ 12 → ⊥) → (r .shape ≡ 17 → ⊥) →
       internKind (kind (r .shape)) at cur r env kids st ≡ concluded at cur r (kids cur env st)
   unfolding kind internKind
-  kind-keyed a b c = go (eqb (r .shape) 10) (eqb (r .shape) 11) refl refl
+  kind-other a b c = go (eqb (r .shape) 10) (eqb (r .shape) 11) refl refl
     where
       m : Outs
       m = kids cur env st
@@ -141,9 +141,9 @@ module _ (bs : List ℕ) (i cur : ℕ) (env : Env) (s : intern.State) where
         let k : kind (recAt bs i .shape) ≡ field = rw e in
         intern-read ∙ ap (λ (z : Kind). internKind z i cur (recAt bs i) env (kidsRead bs i) (read s)) k
 
-    intern-keyed : (recAt bs i .shape ≡ 7 → ⊥) → (recAt bs i .shape ≡ 12 → ⊥) → (recAt bs i .shape ≡ 17 → ⊥) →
+    intern-other : (recAt bs i .shape ≡ 7 → ⊥) → (recAt bs i .shape ≡ 12 → ⊥) → (recAt bs i .shape ≡ 17 → ⊥) →
         intern u i cur env s ≡ concluded i cur (recAt bs i) (kidsRead bs i cur env (read s))
-    intern-keyed a b c = intern-read ∙ kind-keyed i cur (recAt bs i) env (kidsRead bs i) (read s) a b c
+    intern-other a b c = intern-read ∙ kind-other i cur (recAt bs i) env (kidsRead bs i) (read s) a b c
 
 -- ---- a record of any kind
 
@@ -198,6 +198,11 @@ module _ (bs ws : List ℕ) (t : Tables) (st : State) (i : ℕ) (at : Here) (sou
       counted-opcode e = op-field (recAt bs i) e (legible .well .checked .fine .1)
 
       -- the answer of its kind is the record's
+      counted-kept : (ws′ : List ℕ) (last : State) → Kept at ws ws′ counted last → Kept at ws ws′ st last
+      counted-kept ws′ last =
+          subst (λ (z : State). Kept at ws ws′ z last → Kept at ws ws′ st last) (sym is)
+          (λ k. record { words = k .words; scopes = k .scopes })
+
       counted-reads : (o o′ : Out) (ws′ : List ℕ) (r : Read) → o′ ≡ o → Reads bs ws t counted i at o ws′ r →
           Reads bs ws t st i at o′ ws′ r
       counted-reads o o′ ws′ r e v = record {
@@ -205,8 +210,7 @@ module _ (bs ws : List ℕ) (t : Tables) (st : State) (i : ℕ) (at : Here) (sou
         opened = v .opened;
         is = v .is ∙ sym e;
         past = v .past;
-        kept = subst (λ (z : State). Kept at ws ws′ z (r .step .st) → Kept at ws ws′ st (r .step .st)) (sym is)
-            (λ k. record { words = k .words; scopes = k .scopes }) (v .kept);
+        kept = counted-kept ws′ (r .step .st) (v .kept);
       }
 
       module _ (ws′ : List ℕ) (r : Read) where
@@ -219,7 +223,15 @@ module _ (bs ws : List ℕ) (t : Tables) (st : State) (i : ℕ) (at : Here) (sou
             (intern-lambda bs i (at .scope) env₀ (absOf bs ws t st) left e
             ∙ ap (internFunc i (at .scope) (recAt bs i) env₀ (kidsRead bs i)) (sym counted-abs)) v
 
-      -- a SelectField, and any other record: it is done, or still to be read
+      counted-incomplete : (o o′ : Out) (ws′ : List ℕ) (k : Kids) → o′ ≡ o →
+          Incomplete bs ws t counted i at o ws′ k → Incomplete bs ws t st i at o′ ws′ k
+      counted-incomplete o o′ ws′ k e u = record {
+        ready = u .ready;
+        is = u .is ∙ sym e;
+        kept = counted-kept ws′ (k .st) (u .kept);
+      }
+
+      -- a SelectField, and any other record: it is done, or still to be completed
       pub record-field : recAt bs i .shape ≡ 17 → (ws′ : List ℕ) (s : Selected) →
           ReadsOn bs ws t counted i at
           (internKind field i (at .scope) (recAt bs i) env₀ (kidsRead bs i) (absOf bs ws t counted)) ws′ s →
@@ -236,23 +248,18 @@ module _ (bs ws : List ℕ) (t : Tables) (st : State) (i : ℕ) (at : Here) (sou
               (internKind field i (at .scope) (recAt bs i) env₀ (kidsRead bs i) (absOf bs ws t counted)) ws′ s →
               ReadsOn bs ws t st i at whole ws′ s
           go (Done r) v = counted-reads _ whole ws′ r is-field v
-          go (Anew next) v = record {
-            stands = v .stands;
-            well = v .well;
-            then = λ ws″ r w. counted-reads _ whole ws″ r is-field (v .then ws″ r w);
-          }
+          go (Children k) v = counted-incomplete _ whole ws′ k is-field v
 
-      pub record-keyed : (recAt bs i .shape ≡ 7 → ⊥) → (recAt bs i .shape ≡ 12 → ⊥) →
-          (recAt bs i .shape ≡ 17 → ⊥) → ReadsOn bs ws t st i at whole ws (Anew counted)
-      record-keyed a b c = record {
-        stands = counted-stands;
-        well = counted-kids b;
-        then = λ ws″ r w.
-            counted-reads _ whole ws″ r
-            (intern-keyed bs i (at .scope) env₀ (absOf bs ws t st) left a b c
-            ∙ ap (λ (z : intern.State). concluded i (at .scope) (recAt bs i) (kidsRead bs i (at .scope) env₀ z))
-            (sym counted-abs)) w;
-      }
+      pub record-other : (recAt bs i .shape ≡ 7 → ⊥) → (recAt bs i .shape ≡ 12 → ⊥) →
+          (recAt bs i .shape ≡ 17 → ⊥) → (ws′ : List ℕ) (k : Kids) →
+          Incomplete bs ws t counted i at
+          (concluded i (at .scope) (recAt bs i) (kidsRead bs i (at .scope) env₀ (absOf bs ws t counted))) ws′ k →
+          Incomplete bs ws t st i at whole ws′ k
+      record-other a b c ws′ k u =
+          counted-incomplete _ whole ws′ k
+          (intern-other bs i (at .scope) env₀ (absOf bs ws t st) left a b c
+          ∙ ap (λ (z : intern.State). concluded i (at .scope) (recAt bs i) (kidsRead bs i (at .scope) env₀ z))
+          (sym counted-abs)) u
 
       -- a use
       pub record-uses : recAt bs i .shape ≡ 7 → Uses bs ws i (at .top)

@@ -1,5 +1,5 @@
 -- What a record gives once its children were read, or read twice, or counted twice.
--- In order: definitions, blocks and other records; a SelectField.
+-- In order: a record completed; a record's children read; a SelectField.
 -- Assumes nothing.
 use Prim.Native.Nat.{ℕ, _+_, _<_, _≤_}
 use mathlib.Core.Path.{_≡_, refl, sym, ap, _∙_, subst}
@@ -19,24 +19,105 @@ use Rattle.symbols.specs.Words.{pendingFrom}
 use Rattle.bindings.specs.Bindings.{envOf}
 use Rattle.bindings.proofs.Laws.{env-words}
 use Rattle.tables.specs.declared.Tables.{Tables}
-use Rattle.tables.specs.Tables.{Open}
 use Rattle.interner.specs.declared.State.{State}
 use Rattle.interner.specs.declared.Step.{Step}
 use Rattle.interner.specs.State.{absOf, Rep}
 use Rattle.interner.specs.Step.{Answers}
-use Rattle.concluding.specs.Concluding.{readsAgain, Concludes, Branched, Selects, Input}
+use Rattle.concluding.specs.Concluding.{readsAgain, Concludes, Selects, Input}
 use Rattle.concluding.proofs.Selecting.{selects-input, field-again}
 use Rattle.intern.specs.declared.Here.{Here}
 use Rattle.intern.specs.declared.Read.{Read}
 use Rattle.intern.specs.declared.Kids.{Kids}
 use Rattle.intern.specs.Steps.{refusedRead, repeats, repeated}
-use Rattle.intern.specs.Intern.{Stands, Reads, kidsRead, concluded, WellKids, KeyedRead, Again, Operands}
-use Rattle.intern.specs.Intern.{Concluding, Concluded, kidsAnswer, ReadsAll}
+use Rattle.intern.specs.Intern.{Stands, Reads, kidsRead, concluded, WellKids, Operands, ReadsAll, kidsAnswer}
+use Rattle.intern.specs.Intern.{kidsOf, Concluding, Concluded, Ready, completes, Completed, Incomplete}
 use Rattle.intern.proofs.Kept.{kept-none, kept-then}
 use Rattle.intern.proofs.Records.{reads-refused, reads-answers, concluded-other, concluded-refused, Below, Gave}
-use Rattle.intern.proofs.Records.{stands-below, stands-later, kids-operands, kids-fail, kids-gave}
+use Rattle.intern.proofs.After.{kids-good, kids-refused}
+use Rattle.intern.proofs.Records.{stands-below, stands-later, kids-operands, all-is, kids-fail, kids-gave}
 use Rattle.intern.proofs.Repeats.{repeats-few, repeated-more, repeated-is, repeated-rep}
 use Rattle.intern.proofs.Cases.{field-refused, field-good}
+
+-- ---- a record completed
+
+module _ (bs ws : List ℕ) (t : Tables) (i : ℕ) (at : Here) (k : Kids) (ready : Ready bs ws t i at k) where
+  pub complete-refused : (z : Read) → z ≡ refusedRead (k .st) (k .number) (k .place) i → (k .number ≡ 0 → ⊥) →
+      Completed bs ws t i at k ws z
+  complete-refused z e h =
+      subst (Completed bs ws t i at k ws) (sym e)
+      (reads-refused i at (completes bs ws t i at k) (kept-none at ws (k .st)) (ready .rep) (ready .opened) (k .number)
+      (k .place) i h
+      (ap (concluded i (at .scope) (recAt bs i)) (kids-refused bs ws t (at .held) (rowAt bs i .kids) k h)
+      ∙ concluded-refused i (at .scope) (recAt bs i) (k .number) (k .place)))
+
+  pub complete-done : k .number ≡ 0 → (ws₂ : List ℕ) (step : Step) → Concluded bs ws t i at k ws₂ step →
+      Completed bs ws t i at k ws₂ (record { step = step; next = k .next })
+  complete-done ok ws₂ step a =
+      reads-answers i at (completes bs ws t i at k) (kept-none at ws (k .st)) (ready .rep) (ready .opened) ws₂ step
+      (k .next) (ready .past ok)
+      (record {
+        rep = a .rep;
+        leaves = a .leaves;
+        low = a .low;
+        is =
+            a .is
+            ∙ ap (concluded i (at .scope) (recAt bs i))
+            (sym (kids-good bs ws t (at .held) (rowAt bs i .kids) k ok));
+      })
+
+-- its answer is the record's
+pub incomplete-reads : (bs ws : List ℕ) (t : Tables) (st : State) (i : ℕ) (at : Here) (o : Out) (ws₁ : List ℕ)
+    (k : Kids) → Incomplete bs ws t st i at o ws₁ k → (ws₂ : List ℕ) (z : Read) → Completed bs ws₁ t i at k ws₂ z →
+    Reads bs ws t st i at o ws₂ z
+incomplete-reads bs ws t st i at o ws₁ k u ws₂ z w = record {
+  rep = w .rep;
+  opened = w .opened;
+  is = w .is ∙ u .is;
+  past = w .past;
+  kept = kept-then (omega arith) (omega arith) (u .kept) (w .kept);
+}
+
+-- ---- a record's children read
+
+module _ (bs ws : List ℕ) (t : Tables) (st : State) (i : ℕ) (at : Here) (sound : Sound bs) (lt : i < recordCount bs)
+    (stands : Stands bs ws t st i (depth (treeAt bs i)) at) (well : WellKids bs ws t st i at) where
+  below : Below bs ws t st i at
+  below = stands-below bs ws t st i at stands
+
+  module _ (n op : ℕ) (en : n ≡ rowAt bs i .kids) (eo : op ≡ recAt bs i .opcode) where
+    pub children-operands : Operands bs ws t st (i + 1) n op at
+    children-operands =
+        kids-operands bs i sound lt ws t st at (isBlock (recAt bs i)) below well n op en eo
+
+    module _ (ws₁ : List ℕ) (k : Kids) (v : ReadsAll bs ws t st (i + 1) n op at ws₁ k) where
+      gave : k .number ≡ 0 → Gave bs ws t st i at (isBlock (recAt bs i)) n ws₁ k
+      gave = kids-gave bs i sound lt ws t st at (isBlock (recAt bs i)) below well n op en eo ws₁ k v
+
+      children-is : completes bs ws₁ t i at k
+          ≡ concluded i (at .scope) (recAt bs i) (kidsRead bs i (at .scope) (envOf ws (at .top)) (absOf bs ws t st))
+      children-is =
+          ap (λ (z : ℕ). concluded i (at .scope) (recAt bs i) (kidsOf bs ws₁ t (at .held) z k)) (sym en)
+          ∙ ap (concluded i (at .scope) (recAt bs i))
+          (all-is bs i sound lt ws t st at (isBlock (recAt bs i)) below well n op en eo ws₁ k v)
+
+      pub children-read : Incomplete bs ws t st i at
+          (concluded i (at .scope) (recAt bs i) (kidsRead bs i (at .scope) (envOf ws (at .top)) (absOf bs ws t st))) ws₁
+          k
+      children-read = record {
+        ready = record {
+          rep = v .rep;
+          opened = v .opened;
+          branched = v .branched;
+          concludes = λ ok.
+              subst (Concludes bs ws₁ (k .st) i (at .scope) (at .scope) (at .held)) en
+              (gave ok .conclude (at .scope) (stands .scope));
+          past = λ ok. gave ok .past;
+        };
+        is = children-is;
+        kept = v .kept;
+      }
+
+-- ---- a SelectField
 
 module _ (bs ws : List ℕ) (t : Tables) (st : State) (i : ℕ) (at : Here) (sound : Sound bs) (lt : i < recordCount bs)
     (stands : Stands bs ws t st i (depth (treeAt bs i)) at) (well : WellKids bs ws t st i at) where
@@ -46,59 +127,8 @@ module _ (bs ws : List ℕ) (t : Tables) (st : State) (i : ℕ) (at : Here) (sou
   abbrev env : Env
   env = envOf ws (at .top)
 
-  below : Below bs ws t st i at
-  below = stands-below bs ws t st i at stands
-
-  -- ---- definitions, blocks and other records
-
-  module _ (n op : ℕ) (en : n ≡ rowAt bs i .kids) (eo : op ≡ recAt bs i .opcode) where
-    pub keyed-operands : Operands bs ws t st (i + 1) n op at
-    keyed-operands =
-        kids-operands bs i sound lt ws t st at (isBlock r) below well n op en eo
-
-    module _ (ws₁ : List ℕ) (k : Kids) (v : ReadsAll bs ws t st (i + 1) n op at ws₁ k) where
-      abbrev keyedOut : Out
-      keyedOut = concluded i (at .scope) r (kidsRead bs i (at .scope) env (absOf bs ws t st))
-
-      pub keyed-refused : (z : Read) → z ≡ refusedRead (k .st) (k .number) (k .place) i → (k .number ≡ 0 → ⊥) →
-          Reads bs ws t st i at keyedOut ws₁ z
-      keyed-refused z e h =
-          subst (Reads bs ws t st i at keyedOut ws₁) (sym e)
-          (reads-refused i at keyedOut (v .kept) (v .rep) (v .opened) (k .number) (k .place) i h
-          (ap (concluded i (at .scope) r)
-          (kids-fail bs i sound lt ws t st at (isBlock r) below well n op en eo ws₁ k v h)
-          ∙ concluded-refused i (at .scope) r (k .number) (k .place)))
-
-      module _ (ok : k .number ≡ 0) where
-        gave : Gave bs ws t st i at (isBlock r) n ws₁ k
-        gave = kids-gave bs i sound lt ws t st at (isBlock r) below well n op en eo ws₁ k v ok
-
-        pub keyed-conclude :
-            Concludes bs ws₁ (k .st) i (at .scope) (at .scope) (at .held) (rowAt bs i .kids)
-        keyed-conclude =
-            subst (Concludes bs ws₁ (k .st) i (at .scope) (at .scope) (at .held)) en
-            (gave .conclude (at .scope)
-            (stands .scope))
-
-        pub keyed-done : (ws₂ : List ℕ) (step : Step) →
-            Answers bs ws₁ t (k .st)
-            (concluded i (at .scope) r (kidsAnswer bs ws₁ t (at .held) (rowAt bs i .kids) k)) ws₂ step →
-            Reads bs ws t st i at keyedOut ws₂ (record { step = step; next = k .next })
-        keyed-done ws₂ step a =
-            reads-answers i at keyedOut (v .kept) (v .rep) (v .opened) ws₂ step (k .next)
-            (gave .past)
-            (record {
-              rep = a .rep;
-              leaves = a .leaves;
-              low = a .low;
-              is =
-                  a .is
-                  ∙ ap (λ (z : ℕ). concluded i (at .scope) r (kidsAnswer bs ws₁ t (at .held) z k)) (sym en)
-                  ∙ ap (concluded i (at .scope) r)
-                  (sym (gave .is));
-            })
-
-  -- ---- a SelectField
+  field-below : Below bs ws t st i at
+  field-below = stands-below bs ws t st i at stands
 
   module _ (shape : recAt bs i .shape ≡ 17) where
     pub field-one : _≡_ {A = ℕ} 1 (rowAt bs i .kids)
@@ -109,18 +139,22 @@ module _ (bs ws : List ℕ) (t : Tables) (st : State) (i : ℕ) (at : Here) (sou
       abbrev fieldOut : Out
       fieldOut = internKind field i (at .scope) r env (kidsRead bs i) (absOf bs ws t st)
 
-      pub field-fails : (z : Read) → z ≡ refusedRead (k .st) (k .number) (k .place) i → (k .number ≡ 0 → ⊥) →
-          Reads bs ws t st i at fieldOut ws₁ z
-      field-fails z e h =
-          subst (Reads bs ws t st i at fieldOut ws₁) (sym e)
-          (reads-refused i at fieldOut (v .kept) (v .rep) (v .opened) (k .number) (k .place) i h
-          (field-refused i (at .scope) r env (kidsRead bs i) (absOf bs ws t st) (k .number) (k .place)
-          (kids-fail bs i sound lt ws t st at (isBlock r) below well 1 op field-one eo ws₁ k
-          v h)))
+      pub field-fails : (k .number ≡ 0 → ⊥) → Incomplete bs ws t st i at fieldOut ws₁ k
+      field-fails h =
+          let u = children-read bs ws t st i at sound lt stands well 1 op field-one eo ws₁ k v in
+          record {
+            ready = u .ready;
+            is =
+                ap (concluded i (at .scope) r) (kids-refused bs ws₁ t (at .held) (rowAt bs i .kids) k h)
+                ∙ concluded-refused i (at .scope) r (k .number) (k .place)
+                ∙ sym (field-refused i (at .scope) r env (kidsRead bs i) (absOf bs ws t st) (k .number) (k .place)
+                (kids-fail bs i sound lt ws t st at (isBlock r) field-below well 1 op field-one eo ws₁ k v h));
+            kept = u .kept;
+          }
 
       module _ (ok : k .number ≡ 0) where
         gave₁ : Gave bs ws t st i at (isBlock r) 1 ws₁ k
-        gave₁ = kids-gave bs i sound lt ws t st at (isBlock r) below well 1 op field-one eo ws₁ k v ok
+        gave₁ = kids-gave bs i sound lt ws t st at (isBlock r) field-below well 1 op field-one eo ws₁ k v ok
 
         pub field-selects : Selects bs ws₁ (k .st) i (at .scope) (at .held)
         field-selects = record {
@@ -176,22 +210,22 @@ module _ (bs ws : List ℕ) (t : Tables) (st : State) (i : ℕ) (at : Here) (sou
                 forced = rw (← field-one) (c .forced);
               }
 
-          pub recount-concludes : (z : Kids) → z ≡ repeated st k →
-              Rep bs ws₁ (z .st) × (Open t (z .st .entries) × (Concluding bs ws₁ i at z × Branched (z .branches)))
-          recount-concludes z is = rw is (recount-rep, (v .opened, (recount-concluding, v .branched)))
+          recount-ready : Ready bs ws₁ t i at (repeated st k)
+          recount-ready = record {
+            rep = recount-rep;
+            opened = v .opened;
+            branched = v .branched;
+            concludes = λ z. recount-concluding;
+            past = λ z. gave₁ .past;
+          }
 
-          recount-keyed : (ws₂ : List ℕ) (step : Step) → Concluded bs ws₁ t i at (repeated st k) ws₂ step →
-              KeyedRead bs ws₁ t (k .st) i at ws₂ (record { step = step; next = k .next })
-          recount-keyed ws₂ step a =
-              let kept = kept-none at ws₁ (k .st) in
-              reads-answers i at _ (record { words = kept .words; scopes = kept .scopes }) recount-rep (v .opened) ws₂
-              step (k .next) (gave₁ .past)
-              (record {
-                rep = a .rep;
-                leaves = a .leaves;
-                low = a .low;
-                is = a .is ∙ ap (concluded i (at .scope) r) recount-is;
-              })
+        -- read again
+        again-stands : Stands bs ws₁ t (k .st) i (depth (treeAt bs i)) at
+        again-stands = stands-later stands (v .rep) (v .opened) (v .kept)
+
+        pub again-operands : Operands bs ws₁ t (k .st) (i + 1) 1 op at
+        again-operands =
+            children-operands bs ws₁ t (k .st) i at sound lt again-stands (gave₁ .again) 1 op field-one eo
 
         module _ (b : Bool)
             (told : (n : ℕ) → getD ws₁ (8200 + at .held) 0 < n → b ≡ readsAgain bs ws₁ n i (at .held)) where
@@ -207,35 +241,40 @@ module _ (bs ws : List ℕ) (t : Tables) (st : State) (i : ℕ) (at : Here) (sou
               (gave₁ .past)
               (record { rep = a .rep; leaves = a .leaves; low = a .low; is = a .is ∙ sym field-is })
 
-          -- read again
-          again-reads : b ≡ true → (ws₂ : List ℕ) (z : Read) → KeyedRead bs ws₁ t (k .st) i at ws₂ z →
-              Reads bs ws t st i at fieldOut ws₂ z
-          again-reads e ws₂ z w = record {
-            rep = w .rep;
-            opened = w .opened;
-            is =
-                w .is
-                ∙ concluded-other i (at .scope) r _ (λ q. omega (arith, shape, q)) (λ q. omega (arith, shape, q))
+          -- to read again, or to count again, gives the record's answer
+          module _ (e : b ≡ true) where
+            again-is : concluded i (at .scope) r
+                (kidsRead bs i (at .scope) (envOf ws₁ (at .top)) (absOf bs ws₁ t (k .st))) ≡ fieldOut
+            again-is =
+                concluded-other i (at .scope) r _ (λ q. omega (arith, shape, q)) (λ q. omega (arith, shape, q))
                 ∙ ap (λ (x : Env). internGeneral i (at .scope) r
                 (kidsRead bs i (at .scope) x (absOf bs ws₁ t (k .st)))) (env-words ws₁ ws (at .top)
                 (v .kept .words .bound))
                 ∙ sym (field-again bs ws₁ t (k .st) i (at .scope) (at .held) env (kidsRead bs i)
                 (sym (told (k .st .symbols) input-low) ∙ e))
-                ∙ sym field-is;
-            past = w .past;
-            kept = kept-then (omega arith) (omega arith) (v .kept) (w .kept);
-          }
+                ∙ sym field-is
 
-          pub again-done : b ≡ true → Again bs ws t st i at fieldOut ws₁ (k .st)
-          again-done e = record {
-            stands = stands-later stands (v .rep) (v .opened) (v .kept);
-            well = gave₁ .again;
-            then = again-reads e;
-          }
+            recount-incomplete : repeats st (k .st) ≡ true → Incomplete bs ws t st i at fieldOut ws₁ (repeated st k)
+            recount-incomplete calm = record {
+              ready = recount-ready calm;
+              is =
+                  ap (concluded i (at .scope) r)
+                  (kids-good bs ws₁ t (at .held) (rowAt bs i .kids) (repeated st k) ok ∙ recount-is calm)
+                  ∙ again-is;
+              kept = record { words = v .kept .words; scopes = v .kept .scopes };
+            }
 
-          pub recount-done : b ≡ true → repeats st (k .st) ≡ true → (z : Kids) → z ≡ repeated st k →
-              (ws₂ : List ℕ) (step : Step) → Concluded bs ws₁ t i at z ws₂ step →
-              Reads bs ws t st i at fieldOut ws₂ (record { step = step; next = k .next })
-          recount-done e calm z is ws₂ step a =
-              again-reads e ws₂ (record { step = step; next = k .next })
-              (recount-keyed calm ws₂ step (subst (λ (y : Kids). Concluded bs ws₁ t i at y ws₂ step) is a))
+            pub recount-done : repeats st (k .st) ≡ true → (z : Kids) → z ≡ repeated st k →
+                Incomplete bs ws t st i at fieldOut ws₁ z
+            recount-done calm z is = subst (Incomplete bs ws t st i at fieldOut ws₁) (sym is) (recount-incomplete calm)
+
+            pub again-done : (ws₂ : List ℕ) (k₂ : Kids) → ReadsAll bs ws₁ t (k .st) (i + 1) 1 op at ws₂ k₂ →
+                Incomplete bs ws t st i at fieldOut ws₂ k₂
+            again-done ws₂ k₂ v₂ =
+                let u = children-read bs ws₁ t (k .st) i at sound lt again-stands (gave₁ .again) 1 op field-one eo ws₂
+                k₂ v₂ in
+                record {
+                  ready = u .ready;
+                  is = u .is ∙ again-is;
+                  kept = kept-then (omega arith) (omega arith) (v .kept) (u .kept);
+                }

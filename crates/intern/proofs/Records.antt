@@ -246,7 +246,7 @@ module _ (bs : List ℕ) (i : ℕ) (sound : Sound bs) (lt : i < recordCount bs) 
 
   -- what is known once they are
   module _ (ws₁ : List ℕ) (k : Kids) (v : ReadsAll bs ws t st (i + 1) n op at ws₁ k) where
-    all-is : kidsOf bs ws₁ t (at .held) n k ≡ kidsRead bs i (at .scope) env A
+    pub all-is : kidsOf bs ws₁ t (at .held) n k ≡ kidsRead bs i (at .scope) env A
     all-is = v .is ∙ rw (trees-are, eo, add-one i)
 
     pub kids-fail : (k .number ≡ 0 → ⊥) → kidsRead bs i (at .scope) env A ≡ refused (k .number) (k .place)

@@ -1,6 +1,6 @@
 -- What reading records by number asks and answers: bs are the forest's bytes, ws the work words.
--- In order: where a record is read; answers; a record; a child; operands; a lambda's body; a
--- forest.
+-- In order: where a record is read; answers; a record; a record whose children are read; a child; operands; a lambda's
+-- body; a forest.
 -- Assumes nothing.
 use Prim.Native.Nat.{ℕ, suc, _+_, _-_, _*_, _<_, _≤_}
 use mathlib.Core.Path.{_≡_}
@@ -35,7 +35,7 @@ use Rattle.intern.specs.declared.Here.{Here}
 use Rattle.intern.specs.declared.Read.{Read}
 use Rattle.intern.specs.declared.Kids.{Kids}
 use Rattle.intern.specs.declared.Selected.{Selected}
-use Rattle.intern.specs.declared.Selected.the-variants.{Done, Anew}
+use Rattle.intern.specs.declared.Selected.the-variants.{Done, Children}
 use Rattle.intern.specs.declared.Entered.{Entered}
 use Rattle.intern.specs.Words.{Kept}
 
@@ -110,7 +110,7 @@ WellKids bs ws t st i at =
     WellAll (kidsAt bs i) (isBlock (recAt bs i)) (recAt bs i .opcode) 0 (at .scope) (envOf ws (at .top))
     (absOf bs ws t st) 1
 
--- record i is read, whatever it is; as a lambda; as any other record
+-- record i is read, whatever it is; as a lambda
 abbrev pub RecordRead : List ℕ → List ℕ → Tables → State → ℕ → Here → List ℕ → Read → Type 0
 RecordRead bs ws t st i at ws′ r =
     Reads bs ws t st i at (intern.intern (treeAt bs i) i (at .scope) (envOf ws (at .top)) (absOf bs ws t st)) ws′ r
@@ -120,23 +120,53 @@ LambdaRead bs ws t st i at ws′ r =
     Reads bs ws t st i at
     (internFunc i (at .scope) (recAt bs i) (envOf ws (at .top)) (kidsRead bs i) (absOf bs ws t st)) ws′ r
 
-abbrev pub KeyedRead : List ℕ → List ℕ → Tables → State → ℕ → Here → List ℕ → Read → Type 0
-KeyedRead bs ws t st i at ws′ r =
-    Reads bs ws t st i at
-    (concluded i (at .scope) (recAt bs i) (kidsRead bs i (at .scope) (envOf ws (at .top)) (absOf bs ws t st))) ws′ r
+-- ---- a record whose children are read
 
--- record i, of which o is the answer, is still to be read as any other record, in state `next`
-pub record Again (bs ws : List ℕ) (t : Tables) (st : State) (i : ℕ) (at : Here) (o : Out) (ws′ : List ℕ) (next : State)
+-- `count` symbols pending from `held` on, the scopes of their thunks, and the state after them
+abbrev pub kidsAnswer : List ℕ → List ℕ → Tables → ℕ → ℕ → Kids → Outs
+kidsAnswer bs ws t held count k = good (pendingFrom ws held count, branchesOf (k .branches), absOf bs ws t (k .st))
+
+-- or a refusal
+unfoldable pub kidsOf : List ℕ → List ℕ → Tables → ℕ → ℕ → Kids → Outs
+kidsOf bs ws t held count k =
+    elim (eqb (k .number) 0) [ true ↦ kidsAnswer bs ws t held count k | false ↦ refused (k .number) (k .place) ]
+
+-- record i can be concluded, and is
+abbrev pub Concluding : List ℕ → List ℕ → ℕ → Here → Kids → Type 0
+Concluding bs ws i at k = Concludes bs ws (k .st) i (at .scope) (at .scope) (at .held) (rowAt bs i .kids)
+
+abbrev pub Concluded : List ℕ → List ℕ → Tables → ℕ → Here → Kids → List ℕ → Step → Type 0
+Concluded bs ws t i at k ws′ r =
+    Answers bs ws t (k .st)
+    (concluded i (at .scope) (recAt bs i) (kidsAnswer bs ws t (at .held) (rowAt bs i .kids) k)) ws′ r
+
+-- record i's children are read, or refused, and it can be completed
+pub record Ready (bs ws : List ℕ) (t : Tables) (i : ℕ) (at : Here) (k : Kids) : Type 0 where
+  pub rep : Rep bs ws (k .st)
+  pub opened : Open t (k .st .entries)
+  pub branched : Branched (k .branches)
+  pub concludes : k .number ≡ 0 → Concluding bs ws i at k
+  pub past : k .number ≡ 0 → Past bs i (size (treeAt bs i)) (restAt bs i) (k .next)
+
+-- the answer for it, and it is completed
+abbrev pub completes : List ℕ → List ℕ → Tables → ℕ → Here → Kids → Out
+completes bs ws t i at k = concluded i (at .scope) (recAt bs i) (kidsOf bs ws t (at .held) (rowAt bs i .kids) k)
+
+abbrev pub Completed : List ℕ → List ℕ → Tables → ℕ → Here → Kids → List ℕ → Read → Type 0
+Completed bs ws t i at k ws′ r = Reads bs ws t (k .st) i at (completes bs ws t i at k) ws′ r
+
+-- record i, of which o is the answer, is still to be completed
+pub record Incomplete (bs ws : List ℕ) (t : Tables) (st : State) (i : ℕ) (at : Here) (o : Out) (ws′ : List ℕ) (k : Kids)
     : Type 0
   where
-    pub stands : StandsAt bs ws′ t next i at
-    pub well : WellKids bs ws′ t next i at
-    pub then : (ws″ : List ℕ) (r : Read) → KeyedRead bs ws′ t next i at ws″ r → Reads bs ws t st i at o ws″ r
+    pub ready : Ready bs ws′ t i at k
+    pub is : completes bs ws′ t i at k ≡ o
+    pub kept : Kept at ws ws′ st (k .st)
 
--- record i is done, or still to be read
+-- record i is done, or still to be completed
 abbrev pub ReadsOn : List ℕ → List ℕ → Tables → State → ℕ → Here → Out → List ℕ → Selected → Type 0
 ReadsOn bs ws t st i at o ws′ (Done r) = Reads bs ws t st i at o ws′ r
-ReadsOn bs ws t st i at o ws′ (Anew next) = Again bs ws t st i at o ws′ next
+ReadsOn bs ws t st i at o ws′ (Children k) = Incomplete bs ws t st i at o ws′ k
 
 -- a SelectField whose input is read
 abbrev pub SelectedRead : List ℕ → List ℕ → Tables → State → ℕ → Here → List ℕ → Selected → Type 0
@@ -177,24 +207,6 @@ pub record Operands (bs ws : List ℕ) (t : Tables) (st : State) (i count op : �
   pub block : Bool
   pub paid : ℕ
   pub well : WellAll (trees bs i count) block op 0 (at .scope) (envOf ws (at .top)) (absOf bs ws t st) paid
-
--- `count` symbols pending from `held` on, the scopes of their thunks, and the state after them
-abbrev pub kidsAnswer : List ℕ → List ℕ → Tables → ℕ → ℕ → Kids → Outs
-kidsAnswer bs ws t held count k = good (pendingFrom ws held count, branchesOf (k .branches), absOf bs ws t (k .st))
-
--- record i's children are read, and it can be concluded
-abbrev pub Concluding : List ℕ → List ℕ → ℕ → Here → Kids → Type 0
-Concluding bs ws i at k = Concludes bs ws (k .st) i (at .scope) (at .scope) (at .held) (rowAt bs i .kids)
-
-abbrev pub Concluded : List ℕ → List ℕ → Tables → ℕ → Here → Kids → List ℕ → Step → Type 0
-Concluded bs ws t i at k ws′ r =
-    Answers bs ws t (k .st)
-    (concluded i (at .scope) (recAt bs i) (kidsAnswer bs ws t (at .held) (rowAt bs i .kids) k)) ws′ r
-
--- or a refusal
-unfoldable pub kidsOf : List ℕ → List ℕ → Tables → ℕ → ℕ → Kids → Outs
-kidsOf bs ws t held count k =
-    elim (eqb (k .number) 0) [ true ↦ kidsAnswer bs ws t held count k | false ↦ refused (k .number) (k .place) ]
 
 pub record ReadsAll (bs ws : List ℕ) (t : Tables) (st : State) (i count op : ℕ) (at : Here) (ws′ : List ℕ) (k : Kids)
     : Type 0 where

@@ -20,8 +20,8 @@ ghost use Rattle.tables.specs.Tables.{Open};
 ghost use Rattle.interner.specs.State.{Rep};
 ghost use Rattle.concluding.specs.Concluding.{Branched};
 ghost use Rattle.intern.specs.Intern.{StandsAt, LegibleAt, CountedAt, WellKids, Child, Operands, Concluding};
-ghost use Rattle.intern.specs.Intern.{RecordRead, LambdaRead, SelectedRead, KeyedRead, ChildRead, ReadsAll};
-ghost use Rattle.intern.specs.Intern.{Enters, Concluded, Interned};
+ghost use Rattle.intern.specs.Intern.{RecordRead, LambdaRead, SelectedRead, ChildRead, ReadsAll};
+ghost use Rattle.intern.specs.Intern.{Enters, Concluded, Ready, Completed, Interned};
 
 // Where a record is read: its scope, how many symbols are pending, how many ids are bound.
 pub struct Here {
@@ -55,11 +55,10 @@ pub struct Entered {
     pub first: u32,
 }
 
-// A SelectField whose input is read is done. Any other record is read by its children, from this state on; so is a
-// Tuple's field, unless to read its input again only counts.
+// A record that is done; or its children, read for the last time, with the record still to be completed.
 pub enum Selected {
     Done(Read),
-    Anew(State),
+    Children(Kids),
 }
 
 // ---- a lambda's body
@@ -138,6 +137,20 @@ fn conclude(forest: &[u8], work: &mut [u32], t: Tables, i: usize, at: Here, k: K
     concluding::general(forest, work, t, st, i, cur, held, count, b)
 }
 
+// Record i, whose children are read or refused. Rules out: a symbol though a child is refused; i + 1 as the next.
+fn complete(forest: &[u8], work: &mut [u32], t: Tables, i: usize, at: Here, k: Kids) -> Read
+    requires { ⌜ Sound (now forest) ⌝ }
+    requires { ⌜ Ready (now forest) (now work) t i at k ⌝ }
+    ensures { λ r. ⌜ Completed (now (forest .entry)) (now (work .entry)) t i at k (now (work .exit)) r ⌝ }
+{
+    if k.number != 0 {
+        let after = k.st;
+        return small::refused(after, k.number, k.place, i);
+    }
+    let step = conclude(forest, work, t, i, at, k);
+    Read { step, next: k.next }
+}
+
 // ---- the walk
 
 // Record i's subtree. Rules out: a reading that is not counted; the record after i's first child.
@@ -164,11 +177,13 @@ pub fn subtree(forest: &[u8], work: &mut [u32], t: Tables, i: usize, at: Here, s
     let selected = if shape == 17 {
         field(forest, work, t, i, at, counted)
     } else {
-        Selected::Anew(counted)
+        let count = record::kids(forest, i);
+        let op = record::opcode(forest, i);
+        Selected::Children(operands(forest, work, t, i + 1, count, op, at, counted))
     };
     match selected {
         Selected::Done(r) => r,
-        Selected::Anew(next) => keyed(forest, work, t, i, at, next),
+        Selected::Children(k) => complete(forest, work, t, i, at, k),
     }
 }
 
@@ -218,41 +233,19 @@ fn field(forest: &[u8], work: &mut [u32], t: Tables, i: usize, at: Here, st: Sta
 {
     let op = record::opcode(forest, i);
     let k = operands(forest, work, t, i + 1, 1, op, at, st);
+    if k.number != 0 {
+        return Selected::Children(k);
+    }
     let after = k.st;
-    if k.number != 0 {
-        return Selected::Done(small::refused(after, k.number, k.place, i));
-    }
     let held = at.held;
-    if concluding::reads_again(forest, work, i, held) {
-        if small::repeats(st, after) {
-            let again = small::repeated(st, k);
-            let step = conclude(forest, work, t, i, at, again);
-            return Selected::Done(Read { step, next: k.next });
-        }
-        return Selected::Anew(after);
+    if !concluding::reads_again(forest, work, i, held) {
+        let step = concluding::field(forest, work, t, after, i, at.scope, held);
+        return Selected::Done(Read { step, next: k.next });
     }
-    let step = concluding::field(forest, work, t, after, i, at.scope, held);
-    Selected::Done(Read { step, next: k.next })
-}
-
-// Any other record; and a SelectField of a Tuple, once more. Rules out: a key with the symbols of other children; a
-// block's own symbol.
-fn keyed(forest: &[u8], work: &mut [u32], t: Tables, i: usize, at: Here, st: State) -> Read
-    requires { ⌜ Sound (now forest) ⌝ }
-    requires { ⌜ i < recordCount (now forest) ⌝ }
-    requires { ⌜ StandsAt (now forest) (now work) t st i at ⌝ }
-    requires { ⌜ WellKids (now forest) (now work) t st i at ⌝ }
-    ensures { λ r. ⌜ KeyedRead (now (forest .entry)) (now (work .entry)) t st i at (now (work .exit)) r ⌝ }
-{
-    let count = record::kids(forest, i);
-    let op = record::opcode(forest, i);
-    let k = operands(forest, work, t, i + 1, count, op, at, st);
-    if k.number != 0 {
-        let after = k.st;
-        return small::refused(after, k.number, k.place, i);
+    if small::repeats(st, after) {
+        return Selected::Children(small::repeated(st, k));
     }
-    let step = conclude(forest, work, t, i, at, k);
-    Read { step, next: k.next }
+    Selected::Children(operands(forest, work, t, i + 1, 1, op, at, after))
 }
 
 // The operands of an opcode, `count` of them from record i on. Rules out: a symbol stored over an older pending one; a

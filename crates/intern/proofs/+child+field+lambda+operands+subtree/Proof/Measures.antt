@@ -7,8 +7,6 @@ use Rattle.intern.proofs.child.Reads as child
 use Rattle.intern.proofs.child.Kinds as child-kinds
 use Rattle.intern.proofs.field.Reads as field
 use Rattle.intern.proofs.field.Kinds as field-kinds
-use Rattle.intern.proofs.keyed.Reads as keyed
-use Rattle.intern.proofs.keyed.Kinds as keyed-kinds
 use Rattle.intern.proofs.lambda.Reads as lambda
 use Rattle.intern.proofs.lambda.Kinds as lambda-kinds
 use Rattle.intern.proofs.operands.Reads as operands
@@ -21,9 +19,6 @@ abbrev pub μ-child : Measures 2 child-kinds.ps ℕ
 
 abbrev pub μ-field : Measures 2 field-kinds.ps ℕ
 μ-field κs a = 5 * (256 - a .1 .1 .1 .0) + 1
-
-abbrev pub μ-keyed : Measures 2 keyed-kinds.ps ℕ
-μ-keyed κs a = 5 * (256 - a .1 .1 .1 .0) + 0
 
 abbrev pub μ-lambda : Measures 2 lambda-kinds.ps ℕ
 μ-lambda κs a = 5 * (256 - a .1 .1 .1 .0) + 1
@@ -45,12 +40,6 @@ field-at t = and 2 field-kinds.ps (is 2 field-kinds.ps μ-field t) field.Pre
 
 abbrev pub field-below : ℕ → In 2 field-kinds.ps
 field-below t = and 2 field-kinds.ps (falls 2 field-kinds.ps _<_ μ-field t) field.Pre
-
-abbrev pub keyed-at : ℕ → In 2 keyed-kinds.ps
-keyed-at t = and 2 keyed-kinds.ps (is 2 keyed-kinds.ps μ-keyed t) keyed.Pre
-
-abbrev pub keyed-below : ℕ → In 2 keyed-kinds.ps
-keyed-below t = and 2 keyed-kinds.ps (falls 2 keyed-kinds.ps _<_ μ-keyed t) keyed.Pre
 
 abbrev pub lambda-at : ℕ → In 2 lambda-kinds.ps
 lambda-at t = and 2 lambda-kinds.ps (is 2 lambda-kinds.ps μ-lambda t) lambda.Pre

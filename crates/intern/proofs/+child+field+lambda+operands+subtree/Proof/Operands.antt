@@ -10,14 +10,14 @@ use Rattle.intern.proofs.Reading.{loop-operands, loop-start, loop-reads
 use Rattle.intern.proofs.Reading.{reading-room, reading-child, reading-refused, reading-turn}
 use Rattle.intern.proofs.child.Reads as child
 use Rattle.intern.proofs.operands.Reads as operands
-use Rattle.intern.proofs.+child+field+keyed+lambda+operands+subtree.Lts-operands as operands-lts
+use Rattle.intern.proofs.+child+field+lambda+operands+subtree.Lts-operands as operands-lts
 use Rattle.bindings.proofs.bind_def.Reads as bind-def-reads
 use Rattle.intern.proofs.small.child_at.Reads as child-at-reads
 use Rattle.intern.proofs.small.failed.Reads as failed-reads
 use Rattle.graph.proofs.is_thunked.Reads as thunked-reads
 use Rattle.intern.proofs.small.unread.Reads as unread-reads
 use Rattle.intern.proofs.small.with_child.Reads as with-child-reads
-use Rattle.intern.proofs.+child+field+keyed+lambda+operands+subtree.Proof.Measures.{child-below, operands-at}
+use Rattle.intern.proofs.+child+field+lambda+operands+subtree.Proof.Measures.{child-below, operands-at}
 
 abbrev loop-inv : operands-lts.InvT-loop
 loop-inv forest work₀ t i count op at held k₀ top₀ j₀ work k top j =

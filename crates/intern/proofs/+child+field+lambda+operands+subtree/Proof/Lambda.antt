@@ -7,13 +7,13 @@ use Rattle.walk.proofs.Bridge.{records-few}
 use Rattle.intern.proofs.Lambdas.{lambda-unmade, lambda-operands, lambda-refused, lambda-conclude, lambda-body}
 use Rattle.intern.proofs.Lambdas.{lambda-first, lambda-done}
 use Rattle.intern.proofs.lambda.Reads as lambda
-use Rattle.intern.proofs.+child+field+keyed+lambda+operands+subtree.Lts-lambda as lambda-lts
+use Rattle.intern.proofs.+child+field+lambda+operands+subtree.Lts-lambda as lambda-lts
 use Rattle.intern.proofs.operands.Reads as operands
 use Rattle.concluding.proofs.lambda.Reads as lambda-reads
 use Rattle.intern.proofs.enter_lambda.Reads as enter-lambda-reads
 use Rattle.intern.proofs.small.refused.Reads as refused-reads
 use Rattle.record.proofs.opcode.Reads as opcode-reads
-use Rattle.intern.proofs.+child+field+keyed+lambda+operands+subtree.Proof.Measures.{lambda-at, operands-below}
+use Rattle.intern.proofs.+child+field+lambda+operands+subtree.Proof.Measures.{lambda-at, operands-below}
 
 pub lambda-part : {M : Type 1} (t : ℕ) → lambda-lts.Closed (
   enter-lambda-reads.Asked,

@@ -7,12 +7,12 @@ use denote.Ref.{now}
 use Rattle.intern.proofs.Thunks.{child-legible, child-plainly, child-room, thunk-stands, thunk-legible}
 use Rattle.intern.proofs.Thunks.{thunk-done}
 use Rattle.intern.proofs.child.Reads as child
-use Rattle.intern.proofs.+child+field+keyed+lambda+operands+subtree.Lts-child as child-lts
+use Rattle.intern.proofs.+child+field+lambda+operands+subtree.Lts-child as child-lts
 use Rattle.intern.proofs.subtree.Reads as subtree
 use Rattle.opening.proofs.close_thunk.Reads as close-thunk-reads
 use Rattle.opening.proofs.open_thunk.Reads as open-thunk-reads
 use Rattle.tables.proofs.Tables.push.Reads as push-reads
-use Rattle.intern.proofs.+child+field+keyed+lambda+operands+subtree.Proof.Measures.{child-at, subtree-below}
+use Rattle.intern.proofs.+child+field+lambda+operands+subtree.Proof.Measures.{child-at, subtree-below}
 
 pub child-part : {M : Type 1} (t : ℕ) → child-lts.Closed (
   subtree-below t,
