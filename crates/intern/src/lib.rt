@@ -81,7 +81,7 @@ fn enter_lambda(
 {
     let cur = at.scope;
     let top = at.top;
-    let count = small::wide(record::aux(forest, i));
+    let count = record::wide(record::aux(forest, i));
     let made = interner::alloc_args(forest, work, st, cur, i as u32, count);
     let after = made.st;
     if made.number != 0 {

@@ -13,12 +13,6 @@ ghost use Rattle.laws.specs.Range.{range};
 ghost use Rattle.intern.specs.Steps.{refusedRead, childAt, noted, unread, withChild, failed};
 ghost use Rattle.intern.specs.Steps.{repeats, repeated};
 
-pub fn wide(x: u8) -> usize
-    ensures { λ r. ⌜ (r ≡ x) × (r < 256) ⌝ }
-{
-    x as usize
-}
-
 pub fn refused(st: State, number: u32, place: u32, next: usize) -> Read
     ensures { λ r. ⌜ r ≡ refusedRead st number place next ⌝ }
 {
