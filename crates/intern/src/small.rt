@@ -13,6 +13,7 @@ ghost use Rattle.laws.specs.Range.{range};
 ghost use Rattle.intern.specs.Steps.{refusedRead, childAt, noted, unread, withChild, failed};
 ghost use Rattle.intern.specs.Steps.{repeats, repeated};
 
+// A refusal, at record `place`. Rules out: number 0; the record after it as the place.
 pub fn refused(st: State, number: u32, place: u32, next: usize) -> Read
     ensures { λ r. ⌜ r ≡ refusedRead st number place next ⌝ }
 {
@@ -25,7 +26,7 @@ pub fn refused(st: State, number: u32, place: u32, next: usize) -> Read
     Read { step, next }
 }
 
-// Where child j is read, with `top` ids bound.
+// Where child j is read, with `top` ids bound. Rules out: the place of the child before it; its parent's ids alone.
 pub fn child_at(at: Here, j: usize, top: usize) -> Here
     requires { ⌜ at .held + j ≤ 256 ⌝ }
     ensures { λ r. ⌜ r ≡ childAt at j top ⌝ }
@@ -37,7 +38,7 @@ pub fn child_at(at: Here, j: usize, top: usize) -> Here
     }
 }
 
-// The scopes of thunks, with one more where there is one or none.
+// The scopes of thunks, with one more where there is one or none. Rules out: a second in place of the first; a third.
 pub fn one_more(b: Branches, scope: usize) -> Branches
     requires { ⌜ scope ≤ 2049 ⌝ }
     ensures { λ r. ⌜ r ≡ noted true b scope ⌝ }
@@ -56,7 +57,8 @@ pub fn one_more(b: Branches, scope: usize) -> Branches
     }
 }
 
-// The scopes of thunks, after a child that was or was not read in one.
+// The scopes of thunks, after a child that was or was not read in one. Rules out: the scope of a child that has no
+// thunk; a thunk not noted.
 pub fn note(thunk: bool, b: Branches, scope: usize) -> Branches
     requires { ⌜ scope ≤ 2049 ⌝ }
     ensures { λ r. ⌜ r ≡ noted thunk b scope ⌝ }
@@ -67,7 +69,7 @@ pub fn note(thunk: bool, b: Branches, scope: usize) -> Branches
     b
 }
 
-// No child is read yet; the first is record i.
+// No child is read yet; the first is record i. Rules out: a refusal; a thunk.
 pub fn unread(st: State, i: usize) -> Kids
     ensures { λ r. ⌜ r ≡ unread st i ⌝ }
 {
@@ -85,7 +87,7 @@ pub fn unread(st: State, i: usize) -> Kids
     }
 }
 
-// One child more is read.
+// One child more is read. Rules out: the state before it; the record after its own root as the next.
 pub fn with_child(k: Kids, thunk: bool, r: Read) -> Kids
     requires { ⌜ k .st .scopes ≤ 2049 ⌝ }
     ensures { λ z. ⌜ z ≡ withChild k thunk r ⌝ }
@@ -104,7 +106,7 @@ pub fn with_child(k: Kids, thunk: bool, r: Read) -> Kids
     }
 }
 
-// A child that is refused.
+// A child that is refused. Rules out: its number 0; the place of its parent.
 pub fn failed(k: Kids, r: Read) -> Kids
     ensures { λ z. ⌜ z ≡ failed k r ⌝ }
 {
@@ -151,7 +153,7 @@ pub fn repeated(before: State, k: Kids) -> Kids
     }
 }
 
-// The first of a lambda's arguments; 0 where it has none.
+// The first of a lambda's arguments; 0 where it has none. Rules out: the last; 512, where there is no symbol.
 pub fn first_of(symbol: u32, count: usize) -> u32
     requires { ⌜ symbol + count ≤ 512 ⌝ }
     ensures { λ r. ⌜ (range r count ≡ range symbol count) × (r < 512) ⌝ }
