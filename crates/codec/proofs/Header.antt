@@ -3,8 +3,11 @@ use Prim.Native.Nat.{ℕ, _<_, _≤_}
 use mathlib.Core.Path.{_≡_}
 use mathlib.Core.Option.{none, some}
 use mathlib.Core.List.{List}
+use mathlib.Core.Bool.{not, _&&_}
 use borrow.Author.Tests.{lt-ltb, le-ltb, le-leb, lt-leb}
+use lib.Dec.{leb}
 use lib.ListN.{length}
+use Rattle.model.specs.Answer.{at0}
 use Rattle.model.specs.Forest.{treeCount, recordCount, check2}
 
 module _ (bs : List ℕ) where
@@ -31,37 +34,22 @@ module _ (bs : List ℕ) where
             rw (s, l, le-leb 1 (treeCount bs) tree, lt-leb (treeCount bs) 16 h)
 
         module _ (trees : treeCount bs ≤ 16) where
-          pub header-no-record : recordCount bs < 1 → some 0 ≡ check2 bs
+          -- the records' count is left to test
+          records-left : check2 bs ≡ at0 (not (leb 1 (recordCount bs) && leb (recordCount bs) 256))
           unfolding check2
-          header-no-record h =
+          records-left =
               rw (
                 le-ltb (length bs) 4 short,
                 le-ltb 65535 (length bs) long,
                 le-leb 1 (treeCount bs) tree,
                 le-leb (treeCount bs) 16 trees,
-                lt-leb 1 (recordCount bs) h,
               )
+
+          pub header-no-record : recordCount bs < 1 → some 0 ≡ check2 bs
+          header-no-record h = rw (records-left, lt-leb 1 (recordCount bs) h)
 
           pub header-records : 1 ≤ recordCount bs → 256 < recordCount bs → some 0 ≡ check2 bs
-          unfolding check2
-          header-records g h =
-              rw (
-                le-ltb (length bs) 4 short,
-                le-ltb 65535 (length bs) long,
-                le-leb 1 (treeCount bs) tree,
-                le-leb (treeCount bs) 16 trees,
-                le-leb 1 (recordCount bs) g,
-                lt-leb (recordCount bs) 256 h,
-              )
+          header-records g h = rw (records-left, le-leb 1 (recordCount bs) g, lt-leb (recordCount bs) 256 h)
 
           pub header-right : 1 ≤ recordCount bs → recordCount bs ≤ 256 → none ≡ check2 bs
-          unfolding check2
-          header-right g h =
-              rw (
-                le-ltb (length bs) 4 short,
-                le-ltb 65535 (length bs) long,
-                le-leb 1 (treeCount bs) tree,
-                le-leb (treeCount bs) 16 trees,
-                le-leb 1 (recordCount bs) g,
-                le-leb (recordCount bs) 256 h,
-              )
+          header-right g h = rw (records-left, le-leb 1 (recordCount bs) g, le-leb (recordCount bs) 256 h)

@@ -18,7 +18,7 @@ pub enum Verdict {
 }
 
 // Check 2: the forest's length, and the header's counts.
-// Rules out: a place for a forest of 65,535 bytes; nowhere for 257 records.
+// Rules out: a place for 65,535 bytes whose counts are right; nowhere for 257 records.
 pub fn check2(forest: &[u8]) -> Place
     ensures { λ r. ⌜ placeOf r ≡ model.check2 (now (forest .entry)) ⌝ }
 {

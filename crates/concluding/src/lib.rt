@@ -123,12 +123,6 @@ pub fn lambda(
     interner::finish(forest, work, t, st, cur, node, held, 1)
 }
 
-fn wide(x: u8) -> u32
-    ensures { λ r. ⌜ r ≡ x ⌝ }
-{
-    x as u32
-}
-
 // The field that record i selects.
 fn field_of(forest: &[u8], i: usize) -> u32
     requires { ⌜ Sound (now forest) ⌝ }
@@ -136,7 +130,7 @@ fn field_of(forest: &[u8], i: usize) -> u32
     ensures { λ r. ⌜ r ≡ fieldAt (now (forest .entry)) i ⌝ }
 {
     let lit = record::literal(forest, i);
-    wide(lit[0])
+    symbols::wide(lit[0])
 }
 
 // Whether a field is one of a pair.

@@ -16,7 +16,6 @@ use Rattle.model.specs.Forest.{recordCount, treesOf, check4}
 use Rattle.model.specs.Accept.{accept}
 use Rattle.model.specs.Binding.{argsOf, kind}
 use Rattle.model.specs.Intern.{Sym, Scope, symAt}
-use Rattle.model.specs.Intern as intern
 use Rattle.model.specs.Call.{interned}
 use Rattle.laws.specs.Range.{range}
 use Rattle.laws.proofs.Holds.{holds-good}
@@ -30,7 +29,6 @@ use Rattle.theory.proofs.Interning.Interned.{Ready, interned-ready}
 use Rattle.theory.proofs.Bounds.Sound.{NodeSound, SymSound}
 use Rattle.theory.proofs.Bounds.Limits.{Any, Leaves, forest-sound}
 use Rattle.record.specs.Record.{rowAt}
-use Rattle.walk.specs.Walk as walk
 use Rattle.walk.proofs.Bridge.{row-fits}
 use Rattle.codec.proofs.Accepting.{accept-passed}
 use Rattle.key.specs.declared.Node.{Node}

@@ -1,5 +1,5 @@
 -- The place of a refusal of checks 2 to 10 is at most 256: a record of the forest, or their count.
--- In order: the first true of a list; the walk has a test for each record; each check; all of them.
+-- In order: the first true of a list; each check; all of them.
 -- Assumes nothing.
 use Prim.Native.Nat.{ℕ, suc, _≤_, _<_}
 use mathlib.Core.Path.{_≡_, refl, sym, ap, _∙_}
@@ -8,10 +8,9 @@ use mathlib.Core.Bool.{Bool, true, false}
 use mathlib.Core.Option.{Option, none, some}
 use mathlib.Core.List.{List, [], _∷_}
 use native.Mathlib.Omega.{arith}
-use lib.ListN.{length, drop, length-append}
+use lib.ListN.{length, drop}
 use Rattle.model.specs.Lists.{first}
 use Rattle.model.specs.Answer.{refused}
-use Rattle.model.specs.Tree.{Rec, Tree, Trees, node, nil, cons, size, sizes}
 use Rattle.model.specs.Forest.{recordCount, treesOf, check6}
 use Rattle.model.specs.Accept.{checks, accept}
 use Rattle.model.specs.Conditions.{DirectoryOffends, TreesOffend}
@@ -20,8 +19,9 @@ use Rattle.laws.proofs.Checks.{Passes, FirstAt, passes-or-first, passes-checked
 use Rattle.laws.proofs.Header.{header-of, row-count}
 use Rattle.laws.proofs.Rows.{sizes-rows, closed-trees}
 use Rattle.theory.proofs.Demand3.Places.{check-2, check-3, check-4, check-5, check-6}
-use Rattle.walk.specs.Faults.{Ctx, faults, faultsIn, test, start, inner, here, later}
+use Rattle.walk.specs.Faults.{faultsIn, test, start}
 use Rattle.walk.proofs.Checks.{check-7, check-8, check-9, check-10}
+use Rattle.walk.proofs.Steps.{faultsIn-length}
 
 -- ---- the first true of a list
 
@@ -35,25 +35,6 @@ unfolding first
 first-low [] p e = none-some e
 first-low (true ∷ bs) p e = let z : 0 ≡ p = cc in omega arith
 first-low (false ∷ bs) p e = next-low (length bs) p (first bs) (first-low bs) e
-
--- ---- a test for each record
-
-module _ (p : Ctx → Rec → Bool) where
-  mutual
-    unfolding faults size
-
-    tests-tree : (t : Tree) (c : Ctx) → length (faults p t c) ≡ size t
-    tests-tree (node r ts) c = ap suc (tests-trees ts (inner r c))
-
-    tests-trees : (ts : Trees) (c : Ctx) → length (faultsIn p ts c) ≡ sizes ts
-    tests-trees nil c = refl
-    tests-trees (cons t ts) c =
-        omega (
-          arith,
-          length-append (faults p t (here c ts)) (faultsIn p ts (later t c)),
-          tests-tree t (here c ts),
-          tests-trees ts (later t c),
-        )
 
 -- ---- each check
 
@@ -73,7 +54,7 @@ module _ (bs : List ℕ) (p : ℕ) where
       omega (
         arith,
         first-low (faultsIn (test n) (treesOf bs) start) p (is ∙ e),
-        tests-trees (test n) (treesOf bs) start,
+        faultsIn-length (test n) (treesOf bs) start,
         sizes-rows (treesOf bs),
         ap length (closed-trees bs six .1),
         row-count bs,

@@ -5,7 +5,7 @@ use Prim.Native.Nat.{ℕ, zero, suc, _+_, _<_}
 use mathlib.Core.Path.{_≡_, sym, ap, _∙_, subst}
 use mathlib.Core.Logic.{inl, inr}
 use mathlib.Core.Bool.{Bool, true, false, not, _&&_}
-use mathlib.Core.Option.{some}
+use mathlib.Core.Option.{Option·some-injective}
 use mathlib.Core.List.{List, []}
 use native.Mathlib.Omega.{arith}
 use borrow.Author.Tests.{eq-eqb, ne-eqb}
@@ -112,14 +112,12 @@ module _ (bs ws : List ℕ) (st : State) (rep : Rep bs ws st) (held count : ℕ)
     forced-left a i =
         let w = without-cases a (unionDeps syms kids) own i in go (forced a (w .0)) (w .1)
       where
-        inj : {ys zs : List ℕ} → some ys ≡ some zs → ys ≡ zs
-        inj e = cc
-
         at-body : (r : Bound (scopesOf ws (st .scopes)) b a) → r .scope ≡ b → In a own
         at-body r e =
             let p = bound-args ws (st .scopes) (rep .nested) b a (body .low) r in
             let d : r .args ≡ own =
-            inj (sym (p .1) ∙ (ap (λ (z : ℕ). argsIn (scopeWord ws z)) e ∙ body .args)) in
+            Option·some-injective (r .args) own
+            (sym (p .1) ∙ (ap (λ (z : ℕ). argsIn (scopeWord ws z)) e ∙ body .args)) in
             subst (In a) d (r .member)
 
         go : (r : Bound (scopesOf ws (st .scopes)) b a) → (In a own → ⊥) → Bound (scopesOf ws (st .scopes)) cur a

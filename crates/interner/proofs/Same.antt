@@ -7,7 +7,6 @@ use mathlib.Core.List.{List}
 use native.Mathlib.Omega.{arith}
 use lib.ListN.{length}
 use Rattle.model.specs.Intern.{Sym, symAt}
-use Rattle.model.specs.Intern as intern
 use Rattle.laws.proofs.Members.{In}
 use Rattle.key.specs.Key.{symbolAt}
 use Rattle.key.proofs.Runs.{Agree}

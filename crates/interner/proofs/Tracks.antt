@@ -4,7 +4,7 @@ use Prim.Native.Nat.{ℕ, zero, suc, _+_, _<_, _≤_}
 use mathlib.Core.Path.{_≡_, refl, sym, ap, _∙_, subst}
 use mathlib.Core.Logic.{_⊎_, inl, inr}
 use mathlib.Core.Bool.{Bool, true, false, _||_}
-use mathlib.Core.Option.{Option, none, some}
+use mathlib.Core.Option.{Option, none, some, Option·some-injective}
 use mathlib.Core.List.{List, [], _∷_}
 use native.Mathlib.Omega.{arith}
 use native.Mathlib.Decide.{decLt}
@@ -147,11 +147,9 @@ module _ (ws : List ℕ) (m : ℕ) (h : Nested ws m) where
               (subst (In a) (same (b .scope) (b .args) (p .1) (level-once cur cur (b .scope) k (omega arith) current
               (b .around) i (b .args, p .1) (xs, e) (sym r))) (b .member)) d)
             where
-              inj : {ys zs : List ℕ} → some ys ≡ some zs → ys ≡ zs
-              inj e = cc
-
               same : (c : ℕ) (ys : List ℕ) → argsIn (scopeWord ws c) ≡ some ys → c ≡ k → ys ≡ xs
-              same c ys g r = inj (sym g ∙ (ap (λ (z : ℕ). argsIn (scopeWord ws z)) r ∙ e))
+              same c ys g r =
+                  Option·some-injective ys xs (sym g ∙ (ap (λ (z : ℕ). argsIn (scopeWord ws z)) r ∙ e))
 
           go : (b : Bool) → anyIn xs deps ≡ b → anyHas ws (level k) deps ≡ b
           go true f =

@@ -48,7 +48,7 @@ pub fn projection(
     crate::finish(forest, work, t, st, cur, node, held, 1)
 }
 
-// Field 1 or 2, of which the symbols are a and b. Rules out: the other one.
+// Field 1 or 2, of which the symbols are a and b. Rules out: the other one; a refusal.
 pub fn picked(st: State, field: u32, a: u32, b: u32) -> Step
     ensures { λ r. ⌜ r ≡ given st (pick field (a, b)) ⌝ }
 {

@@ -1,6 +1,5 @@
--- A symbol that was stored is read back, every other symbol is as it was, and so is every other word. In order: the
--- parts that words hold; one part of a symbol; reading back; other words; the words that a symbol hangs on; other
--- symbols.
+-- A symbol that was stored is read back, and every other word is as it was. In order: the parts that words hold; one
+-- part of a symbol; reading back; other words; the words that a symbol hangs on.
 -- Assumes nothing.
 use Prim.Native.Nat.{ℕ, suc, _+_, _*_, _/_, _%_, _<_, _≤_}
 use mathlib.Core.Path.{_≡_, refl, sym, ap, _∙_}
@@ -202,11 +201,3 @@ symbol-agree ws ws′ s h =
       h (5 * s + 3) (omega arith) (omega arith),
       h (5 * s + 4) (omega arith) (omega arith),
     )
-
--- ---- other symbols
-
-pub store-lower : (ws : List ℕ) (s : ℕ) (y : Symbol) (t : ℕ) → t < s → symbolAt (storeSymbol ws s y) t ≡ symbolAt ws t
-store-lower ws s y t h = symbol-agree ws (storeSymbol ws s y) t (λ k l r. store-before ws s y k (omega arith))
-
-pub store-higher : (ws : List ℕ) (s : ℕ) (y : Symbol) (t : ℕ) → s < t → symbolAt (storeSymbol ws s y) t ≡ symbolAt ws t
-store-higher ws s y t h = symbol-agree ws (storeSymbol ws s y) t (λ k l r. store-after ws s y k (omega arith))

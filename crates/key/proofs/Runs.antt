@@ -1,4 +1,4 @@
--- `Agree`: two lists of words are the same from one place to another; stores elsewhere. What a list holds after a run
+-- `Agree`: two lists of words are the same from one place to another; a store later. What a list holds after a run
 -- of stores, `sets l i vs` (lib.Seq): the run itself, what stands before it and after it; a run with one store more.
 -- Assumes nothing.
 use Prim.Native.Nat.{ℕ, suc, _+_, _<_, _≤_}
@@ -12,15 +12,9 @@ use lib.Seq.{sets, sets-eq, length-take-le, getD-append-add, getD-set-other}
 abbrev pub Agree : List ℕ → List ℕ → ℕ → ℕ → Type 0
 Agree ws ws′ a b = (k : ℕ) → a ≤ k → k < b → getD ws′ k 0 ≡ getD ws k 0
 
-pub agree-trans : (ws ws₁ ws₂ : List ℕ) (a b : ℕ) → Agree ws ws₁ a b → Agree ws₁ ws₂ a b → Agree ws ws₂ a b
-agree-trans ws ws₁ ws₂ a b h g k l r = g k l r ∙ h k l r
-
--- a store after b, or before a
+-- a store after b
 pub agree-before : (ws : List ℕ) (i v a b : ℕ) → b ≤ i → Agree ws (set ws i v) a b
 agree-before ws i v a b h k l r = getD-set-other ws i k v 0 (λ e. omega arith)
-
-pub agree-after : (ws : List ℕ) (i v a b : ℕ) → i < a → Agree ws (set ws i v) a b
-agree-after ws i v a b h k l r = getD-set-other ws i k v 0 (λ e. omega arith)
 
 pub sets-run : (vs l : List ℕ) (i j : ℕ) → j < length vs → i + length vs ≤ length l →
     getD (sets l i vs) (i + j) 0 ≡ getD vs j 0

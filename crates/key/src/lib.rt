@@ -1,4 +1,6 @@
 // Symbols (key.rs), and their five words each in the work memory: words 5s to 5s + 4 are symbol s's.
+// In order: nodes and symbols; a node's parts; the words that they are packed into; a symbol stored, and loaded; its
+// record, its field.
 ghost use mathlib.Core.Path.{_≡_};
 ghost use Prim.Native.Nat.{_+_, _*_, _<_, _≤_, _/_, _%_};
 ghost use lib.ListN.{length};

@@ -8,7 +8,7 @@
 -- Assumes nothing.
 use mathlib.Core.Path.{_≡_, refl, sym, _∙_, ap₂}
 use mathlib.Core.Logic.{_⊎_, inl, inr}
-use mathlib.Core.Bool.{Bool, true, false, _&&_, _||_, or-true, true≢false}
+use mathlib.Core.Bool.{Bool, true, false, _&&_, _||_, or-true, or-assoc, true≢false}
 use mathlib.Core.List.{List, [], _∷_, _++_}
 use Prim.Native.Nat.{ℕ}
 use lib.Dec.{eqb}
@@ -87,6 +87,11 @@ abbrev pub Every : (ℕ → Type 0) → List ℕ → Type 0
 Every P xs = (s : ℕ) → In s xs → P s
 
 -- ---- members of two lists joined
+
+pub isIn-append : (a : ℕ) (xs ys : List ℕ) → isIn a (xs ++ ys) ≡ (isIn a xs || isIn a ys)
+unfolding isIn
+isIn-append a [] ys = refl
+isIn-append a (x ∷ xs) ys = rw (isIn-append a xs ys) (sym (or-assoc (eqb a x) (isIn a xs) (isIn a ys)))
 
 pub in-left : (a : ℕ) (xs ys : List ℕ) → In a xs → In a (xs ++ ys)
 in-left a [] ys h = absurd h
@@ -202,6 +207,11 @@ apart-anyIn (x ∷ xs) ys h =
     neither-or (isIn x ys) (anyIn xs ys) (not-in-isIn x ys (h x (inl refl))) (apart-anyIn xs ys λ a m. h a (inr m))
 
 -- ---- lists and records that are the same
+
+pub same-refl : (xs : List ℕ) → same xs xs ≡ true
+unfolding same
+same-refl [] = refl
+same-refl (x ∷ xs) = rw (eq-eqb x x refl) (same-refl xs)
 
 pub same-true : (xs ys : List ℕ) → same xs ys ≡ true → xs ≡ ys
 unfolding same

@@ -30,12 +30,6 @@ struct Defined {
     last: u32,
 }
 
-fn wide8(x: u8) -> u32
-    ensures { λ r. ⌜ r ≡ x ⌝ }
-{
-    x as u32
-}
-
 // ---- a symbol
 
 // Symbol s, as a use where it has an id. Rules out: the value of a symbol that is defined; a use of another id.
@@ -199,7 +193,7 @@ fn lambda(
     ensures { λ r. ⌜ Plans (now (forest .entry)) (now (work .entry)) g (now (ids .entry)) p above
         (freshTree s last) (now (work .exit)) r ⌝ }
 {
-    let count = wide8(record::aux(forest, planner::wide(f.source)));
+    let count = symbols::wide(record::aux(forest, planner::wide(f.source)));
     let y = key::load(work, s);
     let root = planner::wide(work[SLOTS + planner::wide(y.kids)]);
     let q = planner::put(work, p, above, Planned::Lambda(f.source, last));

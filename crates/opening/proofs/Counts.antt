@@ -1,4 +1,4 @@
--- How many symbols, scopes and tables a state stands for; readings.
+-- How many symbols and scopes a state stands for; readings.
 -- Assumes nothing.
 use Prim.Native.Nat.{ℕ, _+_, _<_, _≤_}
 use mathlib.Core.Path.{_≡_}
@@ -9,7 +9,6 @@ use lib.ListN.{length}
 use Rattle.model.specs.Intern.{read}
 use Rattle.symbols.proofs.Laws.{syms-length}
 use Rattle.tables.specs.declared.Tables.{Tables}
-use Rattle.tables.proofs.Stack.{tables-length}
 use Rattle.scopes.proofs.Laws.{scopes-length}
 use Rattle.interner.specs.declared.State.{State}
 use Rattle.interner.specs.State.{absOf, Rep}
@@ -21,9 +20,6 @@ module _ (bs ws : List ℕ) (t : Tables) (st : State) where
 
   pub scopes-count : length (absOf bs ws t st .scopes) ≡ st .scopes
   scopes-count = scopes-length ws (st .scopes)
-
-  pub tables-count : length (absOf bs ws t st .tables) ≡ t .depth
-  tables-count = tables-length ws t (st .entries)
 
   -- ---- readings
 

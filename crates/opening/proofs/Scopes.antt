@@ -1,7 +1,7 @@
 -- One scope more, whatever its word, and the tables before and then. In order: words kept; what the state stands for;
 -- what holds of it.
 -- Assumes nothing.
-use Prim.Native.Nat.{ℕ, _+_, _<_, _≤_}
+use Prim.Native.Nat.{ℕ, _+_, _≤_}
 use mathlib.Core.Path.{_≡_, sym, ap, _∙_}
 use mathlib.Core.Logic.{⊎-elim}
 use mathlib.Core.Option.{Option, some}
@@ -33,9 +33,6 @@ module _ (bs ws : List ℕ) (st : State) (rep : Rep bs ws st) (few : st .scopes 
 
   pub scope-other : (k : ℕ) → (k ≡ 5120 + st .scopes → ⊥) → getD ws₁ k 0 ≡ getD ws k 0
   scope-other k h = getD-set-other ws (5120 + st .scopes) k w 0 h
-
-  pub scope-below : (k : ℕ) → k < st .scopes → scopeWord ws₁ k ≡ scopeWord ws k
-  scope-below k lt = scope-other (5120 + k) (λ e. omega arith)
 
   pub scope-new : scopeWord ws₁ (st .scopes) ≡ w
   scope-new = getD-set-same ws (5120 + st .scopes) w 0 (omega (arith, rep .words))

@@ -14,16 +14,12 @@ use lib.ListN.{length, List·getD-append}
 use Rattle.model.specs.Lists.{isIn, anyIn, add, union, without}
 use Rattle.model.specs.Intern.{Scope, rootScope, scopeAt}
 use Rattle.laws.proofs.Apart.{true-false, some-none}
+use Rattle.laws.proofs.Members.{isIn-append}
 use Rattle.levels.specs.Levels.{has}
 use Rattle.scopes.specs.Scopes.{scopeWord, parentOf, scopesOf, Nested, outward, Tracks, lambdas}
 use Rattle.scopes.proofs.Laws.{scopes-length, outermost-around, scope-around}
 
 -- ---- membership
-
-isIn-append : (n : ℕ) (xs ys : List ℕ) → isIn n (xs ++ ys) ≡ (isIn n xs || isIn n ys)
-unfolding isIn
-isIn-append n [] ys = refl
-isIn-append n (x ∷ xs) ys = rw (isIn-append n xs ys) (sym (or-assoc (eqb n x) (isIn n xs) (isIn n ys)))
 
 -- a number that is there already adds no member
 absorb : (n y : ℕ) (xs : List ℕ) → isIn y xs ≡ true → isIn n xs ≡ (isIn n xs || eqb n y)

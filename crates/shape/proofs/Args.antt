@@ -1,8 +1,8 @@
 -- For callers: a walk over the arguments in a lambda's literal, by `id_at` and `arg_end`.
 -- In order: an id's bytes; an answer at every place; an argument that stands at a place; a step of the walk; a loop's
--- turn; places.
+-- turn.
 -- Assumes nothing.
-use Prim.Native.Nat.{ℕ, zero, suc, _+_, _-_, _*_, _<_, _≤_}
+use Prim.Native.Nat.{ℕ, suc, _+_, _-_, _*_, _<_, _≤_}
 use mathlib.Core.Path.{_≡_, refl, sym, ap, _∙_}
 use mathlib.Core.Option.{none, some}
 use mathlib.Core.List.{List, [], _∷_}
@@ -19,7 +19,7 @@ use Rattle.shape.specs.declared.parts.Part.{Part}
 use Rattle.shape.specs.declared.parts.Part.the-variants.{End, Broken}
 use Rattle.shape.specs.Part.{Reads}
 use Rattle.model.specs.Shape.{aArg}
-use Rattle.shape.specs.Args.{Left, argAt, nextArg, argPlace, ArgEnd}
+use Rattle.shape.specs.Args.{Left, argAt, nextArg, ArgEnd}
 use Rattle.shape.proofs.Part.{id-short, id-end, type-none, type-zero, type-short, type-end}
 use Rattle.shape.proofs.Part.{opt-none, opt-absent, opt-type, opt-other}
 use Rattle.shape.proofs.Part.{then-some, then-none, broken-is, whole-stands}
@@ -169,10 +169,6 @@ module _ {n k : ℕ} {lit : List ℕ} {at : ℕ} (h : k < n) (l : Left (n - k) l
   pub turn-stands : aArg (drop at lit) ≡ none → ⊥
   turn-stands = left-stands one-more
 
-  -- there is an end, whatever the code does
-  pub turn-end : ArgEnd lit at (nextArg lit at)
-  turn-end = record { is = refl; within = stands-within lit at turn-stands }
-
   module _ {r : ℕ} (a : ArgEnd lit at r) where
     pub turn-next : Left (n - (k + 1)) lit r
     turn-next = rw (a .is) (left-next one-more)
@@ -181,43 +177,3 @@ module _ {n k : ℕ} {lit : List ℕ} {at : ℕ} (h : k < n) (l : Left (n - k) l
     turn-args =
         let e : n - k ≡ suc (n - (k + 1)) = omega arith in
         rw (e, a .is) (args-step (n - (k + 1)) lit at)
-
--- ---- places: where argument j of a lambda's a arguments begins
-
-module _ {a : ℕ} {lit : List ℕ} (l : Left a lit 0) where
-  pub place-left : (j : ℕ) → j ≤ a → Left (a - j) lit (argPlace lit j)
-  unfolding argPlace
-  place-left zero h = left-first l
-  place-left (suc j) h =
-      let e : a - j ≡ suc (a - suc j) = omega arith in
-      left-next (rw e at (place-left j (omega arith)))
-
-  pub place-within : (j : ℕ) → j ≤ a → argPlace lit j ≤ length lit
-  unfolding argPlace
-  place-within zero h = omega arith
-  place-within (suc j) h =
-      let e : a - j ≡ suc (a - suc j) = omega arith in
-      let left : Left (suc (a - suc j)) lit (argPlace lit j) = rw e at (place-left j (omega arith)) in
-      stands-within lit (argPlace lit j) (left-stands left)
-
-module _ (a : ℕ) (lit : List ℕ) where
-  -- the arguments from the j-th on
-  pub args-from : (j : ℕ) → j ≤ a → drop j (argsOf a lit) ≡ argsOf (a - j) (drop (argPlace lit j) lit)
-  unfolding argPlace
-  args-from zero h = let e : a - 0 ≡ a = omega arith in rw e
-  args-from (suc j) h =
-      let e : a - j ≡ suc (a - suc j) = omega arith in
-      let s : suc j ≡ j + 1 = omega arith in
-      let step = args-step (a - suc j) lit (argPlace lit j) in
-      rw (s, ← drop-drop 1 j (argsOf a lit), args-from j (omega arith), e, step, ← s)
-
-  pub args-at : (j : ℕ) (d : ℕ × List ℕ) → j < a → getD (argsOf a lit) j d ≡ argAt lit (argPlace lit j)
-  args-at j d h =
-      let e : a - j ≡ suc (a - suc j) = omega arith in
-      let s : getD (argsOf a lit) j d ≡ getD (drop j (argsOf a lit)) 0 d = simp (getD-drop, add-zero) in
-      s ∙ rw (args-from j (omega arith), e, args-step (a - suc j) lit (argPlace lit j))
-
-pub args-length : (n : ℕ) (bs : List ℕ) → length (argsOf n bs) ≡ n
-unfolding argsOf
-args-length zero bs = refl
-args-length (suc n) bs = ap suc (args-length n (drop (4 + length (optOf (drop 4 bs))) bs))

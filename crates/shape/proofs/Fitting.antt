@@ -16,7 +16,6 @@ use Rattle.shape.specs.Table.{shapeAt}
 use Rattle.model.specs.Shape.{aArg}
 use Rattle.shape.specs.Args.{Left}
 use Rattle.shape.proofs.Part.{id-short, id-end, never, whole-stands, whole-ends, whole-byte}
-use Rattle.shape.proofs.Table.{fits-none}
 use Rattle.shape.proofs.Args.{stands-id}
 
 -- ---- the tests of `fits`
@@ -64,14 +63,6 @@ whole-id lit w = elim (decLe 4 (length lit)) [
 -- ---- shapes
 
 module _ (r : Row) (h : fits r ≡ true) where
-  pub fits-shape : r .rec .shape ≤ 26
-  fits-shape =
-      let none = fits-none (r .rec .shape) (r .kids) (r .rec .aux) (r .rec .lit) in
-      elim (decLe (r .rec .shape) 26) [
-        | yes l ↦ l
-        | no g ↦ absurd (never (none (omega arith) (r .rec .opcode) ∙ h))
-      ]
-
   -- ValUse: an id
   pub fits-use : r .rec .shape ≡ 7 → length (r .rec .lit) ≡ 4
   unfolding shapes

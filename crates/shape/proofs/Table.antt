@@ -2,8 +2,8 @@
 -- In order: a number that is no shape's; the form's number; `fits` by its four tests.
 -- Assumes nothing.
 use Prim.Native.Nat.{ℕ, _<_, _≤_}
-use mathlib.Core.Path.{_≡_, refl, sym, ap, _∙_}
-use mathlib.Core.Bool.{Bool, true, false, _&&_}
+use mathlib.Core.Path.{_≡_, sym, ap, _∙_}
+use mathlib.Core.Bool.{Bool, false, _&&_}
 use mathlib.Core.List.{List}
 use native.Mathlib.Omega.{arith}
 use borrow.Author.Tests.{le-leb, lt-leb}
@@ -47,15 +47,6 @@ no-form f a lit m =
     ap (λ (g : ℕ → List ℕ → Bool). g a lit) (sym (List·getD-eq-default rights (λ a bs. false) h))
 
 -- ---- `fits` by its four tests
-
-and-false : (b : Bool) → false ≡ b && false
-and-false true = refl
-and-false false = refl
-
-module _ (s kids a : ℕ) (lit : List ℕ) where
-  pub fits-none : 26 < s → (op : ℕ) → false ≡ fits (record { rec = rec s op a lit; kids = kids })
-  unfolding fits
-  fits-none h op = rw (no-shape s h) (and-false (leb 1 kids && leb kids 0 && leb a 0))
 
 -- a record against the code's row of its shape
 module _ {s : ℕ} {r : Limits} (row : LimitsOf s r) (kids a : ℕ) (lit : List ℕ) where

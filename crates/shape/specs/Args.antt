@@ -1,7 +1,7 @@
 -- A walk over the arguments in a lambda's literal, by the place where each begins.
--- In order: the arguments left at a place; the one there; where it ends; where argument j begins; the code's answer.
+-- In order: the arguments left at a place; the one there; where it ends; the code's answer.
 -- Assumes nothing.
-use Prim.Native.Nat.{ℕ, zero, suc, _+_, _≤_}
+use Prim.Native.Nat.{ℕ, _+_, _≤_}
 use mathlib.Core.Path.{_≡_}
 use mathlib.Core.Bool.{true}
 use mathlib.Core.List.{List}
@@ -22,11 +22,6 @@ argAt lit at = (u32 (drop at lit), optOf (drop (at + 4) lit))
 -- where the argument at `at` ends
 abbrev pub nextArg : List ℕ → ℕ → ℕ
 nextArg lit at = at + 4 + length (optOf (drop (at + 4) lit))
-
--- where argument j begins
-unfoldable pub argPlace : List ℕ → ℕ → ℕ
-argPlace lit zero = 0
-argPlace lit (suc j) = nextArg lit (argPlace lit j)
 
 -- r is the end of the argument at `at`
 pub record ArgEnd (lit : List ℕ) (at r : ℕ) : Type 0 where

@@ -35,12 +35,6 @@ ghost use Rattle.text.specs.Text.{refusal};
 ghost use Rattle.walk.specs.Walk.{Sound};
 ghost use Rattle.sheet.specs.Clip.{Clipped};
 
-fn wide(x: u8) -> usize
-    ensures { λ r. ⌜ r ≡ x ⌝ }
-{
-    x as usize
-}
-
 // ---- a record's head: its number, its level, its shape and its opcode
 
 // How many spaces stand before a record's number, so that it takes three columns.
@@ -109,7 +103,7 @@ fn put_field(out: &mut [u8], at: usize, lit: &[u8]) -> usize
         return at;
     }
     let end = put_text(out, at, b"  field ");
-    put_number(out, end, wide(lit[0]) as u64)
+    put_number(out, end, record::wide(lit[0]) as u64)
 }
 
 // What a record of a shape has beside its literal.
@@ -122,7 +116,7 @@ fn put_own(out: &mut [u8], at: usize, shape: u8, aux: u8, lit: &[u8]) -> usize
         0 => put_class(out, at, aux),
         7 => put_id(out, at, lit),
         10 => put_id(out, at, lit),
-        12 => put_args(out, at, lit, wide(aux)),
+        12 => put_args(out, at, lit, record::wide(aux)),
         17 => put_field(out, at, lit),
         _ => at,
     }

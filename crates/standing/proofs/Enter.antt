@@ -1,6 +1,6 @@
 -- Into a forest, a record, a lambda's body and an operand: what may be read there.
--- In order: limits; forests; uses; how many children a record has; the children of a record that is no lambda; a
--- lambda's arguments and its body; operands.
+-- In order: forests; how many children a record has; the children of a record that is no lambda; a lambda's body;
+-- operands.
 -- Assumes nothing.
 use mathlib.Core.Path.{_≡_, refl}
 use mathlib.Core.Bool.{Bool, true, false, not, _&&_}
@@ -11,39 +11,28 @@ use native.Mathlib.Omega.{arith}
 use lib.ListN.{length}
 use Rattle.model.specs.Answer.{good}
 use Rattle.model.specs.Tree.{Rec, Tree, Trees, node, cons, many, isNil}
-use Rattle.model.specs.Shape.{shapes}
-use Rattle.model.specs.Binding.{Kind, kind, valUse, valDef, block, lambda, field, other, isBlock, idOf, argsOf, argIds}
+use Rattle.model.specs.Binding.{Kind, kind, valUse, valDef, block, lambda, field, other, isBlock, argsOf, argIds}
 use Rattle.model.specs.Binding.{inside}
 use Rattle.model.specs.Accept.{accept}
-use Rattle.model.specs.Intern.{State, Env, start, read, resolve, allocArgs, bindArgs, openScope, openThunk, thunked}
+use Rattle.model.specs.Intern.{State, Env, start, read, allocArgs, bindArgs, openScope, openThunk, thunked}
 use Rattle.laws.proofs.Holds.{holds-good}
-use Rattle.laws.proofs.Members.{In, clash}
-use Rattle.laws.proofs.ArgLists.{args-length, boundBy}
+use Rattle.laws.proofs.Members.{clash}
+use Rattle.laws.proofs.ArgLists.{boundBy}
 use Rattle.theory.proofs.Acceptance.Checked.{CheckedIn, checked-head, checked-kids}
-use Rattle.theory.proofs.Acceptance.Records.{kind-shape, fits-at, def-child, lam-child, field-child, op-lambda}
-use Rattle.theory.proofs.Acceptance.Records.{lam-rec}
+use Rattle.theory.proofs.Acceptance.Records.{kind-shape, lam-child, field-child, op-lambda}
 use Rattle.theory.proofs.Acceptance.Accept.{accepted}
-use Rattle.theory.proofs.Interning.Good.{symCount, scopeCount}
-use Rattle.theory.proofs.Interning.Inv.{keys, grow-none}
+use Rattle.theory.proofs.Interning.Good.{scopeCount}
+use Rattle.theory.proofs.Interning.Inv.{keys}
 use Rattle.theory.proofs.Interning.Fresh.{bindArgs-keys}
 use Rattle.theory.proofs.Interning.Body.{ArgsDone, args-done, opened}
 use Rattle.theory.proofs.Interning.Walk.{isBlock-is}
 use Rattle.theory.proofs.Bounds.Sound.{Sound, room-less, KeepsArgs}
 use Rattle.theory.proofs.Bounds.Steps.{allocArgs-keeps, open-sound, open-room, read-room}
-use Rattle.theory.proofs.Bounds.Kinds.{inside-of, lambda-plain, use-bound}
+use Rattle.theory.proofs.Bounds.Kinds.{inside-of, lambda-plain}
 use Rattle.theory.proofs.Bounds.Trees.{start-room}
-use Rattle.theory.proofs.Bounds.Limits.{Limits, sound-limits, Any, any-tree}
-use Rattle.standing.specs.Standing.{Standing, Well, WellAll, Result}
-use Rattle.standing.proofs.Moves.{env-ok, start-stands, read-stands, thunk-stands, body-stands, result-of}
-
--- ---- limits
-
-pub well-limits : {t : Tree} {def : Bool} {cur : ℕ} {env : Env} {st : State} → Well t def cur env st → Limits st
-well-limits {st} w = sound-limits Any st 0 0 (w .standing .sound) (w .room)
-
-pub all-limits : {ts : Trees} {b : Bool} {op j cur : ℕ} {env : Env} {st : State} {k : ℕ} →
-    WellAll ts b op j cur env st k → Limits st
-all-limits {st} {k} w = sound-limits Any st k (w .free) (w .standing .sound) (w .room)
+use Rattle.theory.proofs.Bounds.Limits.{Any, any-tree}
+use Rattle.standing.specs.Standing.{Standing, Well, WellAll}
+use Rattle.standing.proofs.Moves.{start-stands, read-stands, thunk-stands, body-stands}
 
 -- ---- forests
 
@@ -73,26 +62,7 @@ no-args r h = go (kind (r .shape)) refl
 
 module _ {r : Rec} {ts : Trees} {def : Bool} {cur : ℕ} {env : Env} {st : State}
     (w : Well (node r ts) def cur env st) where
-  -- what a use stands for is a symbol, and depends on arguments in force only
-  pub use-result : kind (r .shape) ≡ valUse → Result st cur (resolve env (idOf r))
-  use-result e =
-      let k : In (idOf r) (keys env) =
-      use-bound r ts (keys env) (w .checked .known) (kind-shape (r .shape) valUse e .shape) in
-      let ok = env-ok (w .standing) in
-      result-of (w .standing) (grow-none st) (resolve env (idOf r))
-      (record { low = ok .low (idOf r) k; within = λ a m. ok .deps-in (idOf r) a k m })
-
-  pub use-well : kind (r .shape) ≡ valUse → resolve env (idOf r) < symCount st
-  use-well e = use-result e .low
-
   -- how many children there are
-  pub def-one : kind (r .shape) ≡ valDef → many ts ≡ 1
-  def-one e = def-child r (many ts) (kind-shape (r .shape) valDef e .shape) (w .checked .fine .0)
-
-  pub block-some : kind (r .shape) ≡ block → 1 ≤ many ts
-  unfolding shapes
-  block-some e = fits-at r (many ts) 11 (kind-shape (r .shape) block e .shape) (w .checked .fine .0) .least-is
-
   pub lambda-one : kind (r .shape) ≡ lambda → many ts ≡ 1
   lambda-one e = lam-child r (many ts) (kind-shape (r .shape) lambda e .shape) (w .checked .fine .0)
 
@@ -115,17 +85,6 @@ module _ {r : Rec} {ts : Trees} {def : Bool} {cur : ℕ} {env : Env} {st : State
     twelve : r .shape ≡ 12
     twelve = kind-shape (r .shape) lambda e .shape
 
-    -- the arguments can be made
-    pub args-well : (cur < scopeCount (read st)) × (length (argsOf (r .aux) (r .lit)) ≤ 15)
-    args-well = (
-      w .standing .current,
-      omega (
-        arith,
-        args-length (r .aux) (r .lit),
-        lam-rec r (many ts) twelve (w .checked .fine .0) (w .checked .fine .1) .aux-low,
-      ),
-    )
-
     body-checked : (ss : List ℕ) → length ss ≡ length (boundBy r) →
         CheckedIn ts false (keys (bindArgs (boundBy r) ss env))
     unfolding argIds
@@ -133,7 +92,7 @@ module _ {r : Rec} {ts : Trees} {def : Bool} {cur : ℕ} {env : Env} {st : State
         let ids : keys (bindArgs (boundBy r) ss env) ≡ argIds r ++ keys env = bindArgs-keys (boundBy r) ss env l in
         rw ids (rw (isBlock-is r lambda e, inside-of r lambda e) at (checked-kids r ts def (keys env) (w .checked)))
 
-    -- and then its scope can be opened, and its body read
+    -- once its arguments are made, its scope can be opened and its body read
     pub lambda-well : st .readings < 2048 → (at : ℕ) (made : List ℕ × List ℕ × State) →
         allocArgs at cur r (argsOf (r .aux) (r .lit)) (read st) ≡ good made →
         (scopeCount (made .2) ≤ 2048)

@@ -1,5 +1,5 @@
 -- Arguments in force, as states grow and scopes open.
--- In order: what is in force stays so in a later state (`results-later`); the deps of some results (`union-forced`);
+-- In order: what is in force stays so in a later state (`bound-later`); the deps of some results (`union-forced`);
 -- in a scope that opens what is around it stays in force (`bound-inside`), and its own arguments are (`bound-own`).
 -- Assumes nothing.
 use mathlib.Core.Path.{_≡_, refl, ap, subst, sym, _∙_}
@@ -8,12 +8,11 @@ use mathlib.Core.Bool.{Bool, true, false}
 use mathlib.Core.Option.{Option, some}
 use mathlib.Core.List.{List, [], _∷_}
 use Prim.Native.Nat.{ℕ, _<_}
-use native.Mathlib.Omega.{arith}
 use lib.Dec.{ltb}
 use lib.ListN.{length, List·getD-eq-default}
 use lib.Seq.{getD-append-seam}
 use borrow.Author.Tests.{ltb-true, ltb-false}
-use Rattle.model.specs.Intern.{Sym, Scope, State, rootScope, scopeAt, unionDeps, openScope}
+use Rattle.model.specs.Intern.{Scope, State, rootScope, scopeAt, unionDeps, openScope}
 use Rattle.laws.proofs.Apart.{none-some}
 use Rattle.laws.proofs.Members.{In, Every}
 use Rattle.interner.specs.Levels.{Bound, InForce}
@@ -48,15 +47,6 @@ bound-later {cur} g l b = record {
   args = b .args;
   args-is = args-later (b .scope) g (b .args-is);
   member = b .member;
-}
-
-pub results-later : {st st′ : State} {cur s : ℕ} → Grow st st′ → cur < scopeCount st → Result st cur s →
-    Result st′ cur s
-results-later {st} {st′} {cur} {s} g l h = record {
-  low = omega (arith, h .low);
-  forced =
-      subst (λ (y : Sym). InForce (st′ .scopes) cur (y .deps)) (g .same-syms s (h .low))
-      (λ a k. bound-later g l (h .forced a k));
 }
 
 -- ---- deps

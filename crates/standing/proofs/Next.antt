@@ -3,7 +3,7 @@
 -- operands, that these may be read again, and when that gives the same (`again-same`).
 -- Assumes nothing.
 use mathlib.Core.Path.{_≡_, refl}
-use mathlib.Core.Bool.{Bool, true, false, not, _&&_, _||_}
+use mathlib.Core.Bool.{Bool, true, false, not, _&&_, _||_, and-false}
 use mathlib.Core.List.{List, [], _∷_}
 use Prim.Native.Nat.{ℕ, zero, suc, _+_, _-_, _≤_}
 use native.Mathlib.Omega.{arith}
@@ -17,7 +17,7 @@ use Rattle.model.specs.Intern.{State, Env, bindDef, thunked, internScoped, inte
 use Rattle.laws.proofs.Holds.{holds-good}
 use Rattle.theory.proofs.Acceptance.Checked.{Checked, checked-head, checked-tail}
 use Rattle.theory.proofs.Interning.Good.{symCount, scopeCount}
-use Rattle.theory.proofs.Interning.Inv.{keys, Grow}
+use Rattle.theory.proofs.Interning.Inv.{keys}
 use Rattle.theory.proofs.Interning.Keep.{KeptAll, last-in}
 use Rattle.theory.proofs.Interning.Operands.{KeptIn, bindDef-keys, bindDef-env}
 use Rattle.theory.proofs.Interning.Walk.{internAll-keeps}
@@ -52,12 +52,6 @@ module _ {t : Tree} {ts : Trees} {b : Bool} {op j cur : ℕ} {env : Env} {st : S
       (trees.child-keeps Any tt tt tt t (keys env) (any-tree t) (head .fine) (head .known) op j at cur env st k
       (w .free) (w .standing .sound) (w .standing .current) (env-low (w .standing)) (w .room) (w .pays))
 
-  pub child-later : Grow st (o .1)
-  child-later = kept .grows
-
-  pub child-result : Result (o .1) cur (o .0)
-  child-result = result-of (w .standing) (kept .grows) (o .0) (step-gives (w .standing) kept .0 .result)
-
   pub next-well : WellAll ts b op (suc j) cur (bindDef t (o .0) env) (o .1) (suc k)
   next-well = record {
     standing =
@@ -72,15 +66,10 @@ module _ {t : Tree} {ts : Trees} {b : Bool} {op j cur : ℕ} {env : Env} {st : S
 -- ---- how many thunks
 
 -- no opcode has a thunk at operand 0, nor from operand 3 on
-no-thunk : (a b : Bool) → ((a && false) || (b && false)) ≡ false
-no-thunk true true = refl
-no-thunk true false = refl
-no-thunk false true = refl
-no-thunk false false = refl
-
 thunked-not : (op j : ℕ) → (j ≡ 1 → ⊥) → (j ≡ 2 → ⊥) → thunked op j ≡ false
 unfolding thunked
-thunked-not op j a b = rw (ne-eqb j 1 a, ne-eqb j 2 b) (no-thunk (eqb op 0x95) (eqb op 0xED || eqb op 0xEC))
+thunked-not op j a b =
+    rw (ne-eqb j 1 a, ne-eqb j 2 b, and-false (eqb op 0x95), and-false (eqb op 0xED || eqb op 0xEC))
 
 late-thunks : (op j : ℕ) (ks : List ℕ) → 3 ≤ j → thunks op j ks ≡ 0
 late-thunks op j [] l = refl

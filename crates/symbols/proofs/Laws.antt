@@ -1,9 +1,8 @@
 -- The symbols that words hold. In order: how many; symbol i; the words that they hang on; what one more symbol changes;
--- one more symbol, as model's `push` has it.
+-- the symbols with one more.
 -- Assumes nothing.
 use Prim.Native.Nat.{ℕ, zero, suc, _+_, _*_, _<_, _≤_}
 use mathlib.Core.Path.{_≡_, refl, sym, ap, _∙_, subst}
-use mathlib.Core.Bool.{Bool}
 use mathlib.Core.List.{List, [], _∷_, _++_}
 use mathlib.Core.Logic.{⊎-elim}
 use native.Mathlib.Omega.{arith}
@@ -11,13 +10,13 @@ use native.Mathlib.Nat.{eq-or-lt-of-le}
 use lib.ListN.{length, getD, length-append, List·getD-append}
 use lib.Seq.{sets, length-sets, getD-at}
 use Rattle.model.specs.Forest.{recordCount}
-use Rattle.model.specs.Intern.{Sym, State, noSym, symAt, placement, push}
+use Rattle.model.specs.Intern.{Sym, noSym, symAt}
 use Rattle.key.specs.declared.Symbol.{Symbol}
 use Rattle.key.specs.Key.{partsOf, symbolAt, storeSymbol}
 use Rattle.key.proofs.Runs.{Agree, sets-before, sets-after}
 use Rattle.key.proofs.Laws.{symbol-agree, load-store, store-length, store-before, store-after}
 use Rattle.symbols.specs.Words.{wordsFrom, slotsFrom, pendingFrom}
-use Rattle.symbols.specs.Symbols.{recOf, nodeOf, depsOf, symOf, symFrom, symsOf, kidsAt}
+use Rattle.symbols.specs.Symbols.{recOf, symOf, symFrom, symsOf, kidsAt}
 use Rattle.symbols.specs.Symbols.{made, Room, Sound, AllSound}
 use Rattle.symbols.proofs.Words.{words-length, words-at, words-agree, words-stored}
 
@@ -63,14 +62,17 @@ module _ (bs ws : List ℕ) where
 -- ---- the words that symbols hang on: their own, and the slots in use
 
 module _ (bs ws ws′ : List ℕ) (used : ℕ) (slots : Agree ws ws′ 2560 (2560 + used)) where
+  -- children, read by the symbol as it was
+  pub kids-agree : (i : ℕ) → Sound bs ws used i →
+      slotsFrom ws′ (symbolAt ws i .kids) (symbolAt ws i .count) ≡ kidsAt ws i
+  kids-agree i sound =
+      words-agree ws ws′ (2560 + symbolAt ws i .kids) (symbolAt ws i .count)
+      (λ k l r. slots k (omega arith) (omega (arith, sound .slots)))
+
   sym-agree : (lower : List Sym) (i : ℕ) → Agree ws ws′ (5 * i) (5 * i + 5) → Sound bs ws used i →
       symFrom bs lower ws′ i ≡ symFrom bs lower ws i
   sym-agree lower i own sound =
-      let e : symbolAt ws′ i ≡ symbolAt ws i = symbol-agree ws ws′ i own in
-      let f : slotsFrom ws′ (symbolAt ws i .kids) (symbolAt ws i .count) ≡ kidsAt ws i =
-      words-agree ws ws′ (2560 + symbolAt ws i .kids) (symbolAt ws i .count)
-      (λ k l r. slots k (omega arith) (omega (arith, sound .slots))) in
-      rw (e, f)
+      let e : symbolAt ws′ i ≡ symbolAt ws i = symbol-agree ws ws′ i own in rw (e, kids-agree i sound)
 
   pub syms-agree : (n : ℕ) → Agree ws ws′ 0 (5 * n) → AllSound bs ws used n → symsOf bs ws′ n ≡ symsOf bs ws n
   unfolding symsOf
@@ -169,15 +171,6 @@ module _ (ws : List ℕ) (n held : ℕ) (y : Symbol) (room : Room ws n held y) w
         let e : symsOf bs (made ws n held y) n ≡ symsOf bs ws n =
         syms-agree bs ws (made ws n held y) used slots-kept n (made-before ws n held y (room .few)) sound in
         rw (e, made-symbol, slots-made)
-
-    -- the syms of model's `push`, where the new symbol is placed in its scope
-    pub push-made : (cur : ℕ) (shared : Bool) (st : State) → st .syms ≡ symsOf bs ws n →
-        placement st cur (depsOf bs (symsOf bs ws n) n (y .node) (pendingFrom ws held (y .count))) ≡ y .scope →
-        push cur (recOf bs (y .node)) (pendingFrom ws held (y .count))
-        (depsOf bs (symsOf bs ws n) n (y .node) (pendingFrom ws held (y .count))) shared (nodeOf bs (y .node)) st .syms
-        ≡ symsOf bs (made ws n held y) (suc n)
-    unfolding push symOf
-    push-made cur shared st e p = rw (p, e) (sym syms-made)
 
     pub sound-made : partsOf (y .node) .source < recordCount bs →
         ((k : ℕ) → k < y .count → getD ws (8200 + held + k) 0 < n) →

@@ -3,36 +3,21 @@
 -- Assumes nothing.
 use Prim.Native.Nat.{ℕ, _<_}
 use mathlib.Core.Path.{_≡_, refl, sym, ap, _∙_}
-use mathlib.Core.Bool.{Bool, true, false, _&&_}
+use mathlib.Core.Bool.{Bool, true, false, and-true}
 use mathlib.Core.List.{List, [], _∷_}
 use native.Mathlib.Omega.{arith}
-use borrow.Author.Tests.{eq-eqb, ne-eqb, eqb-true}
+use borrow.Author.Tests.{eq-eqb, ne-eqb}
 use lib.Dec.{eqb}
 use lib.ListN.{length, getD}
 use lib.Seq.{ext-getD}
 use Rattle.model.specs.Lists.{same}
 use Rattle.model.specs.Tree.{Rec, rec, sameRec}
 use Rattle.laws.proofs.Apart.{true-false}
+use Rattle.laws.proofs.Members.{same-refl, same-true}
 use Rattle.record.specs.Record.{rowAt}
 use Rattle.symbols.specs.Symbols.{keyRec}
 
 -- ---- lists
-
-pub same-refl : (a : List ℕ) → same a a ≡ true
-unfolding same
-same-refl [] = refl
-same-refl (x ∷ a) = rw (eq-eqb x x refl) (same-refl a)
-
-pub same-true : (a b : List ℕ) → same a b ≡ true → a ≡ b
-unfolding same
-same-true [] [] e = refl
-same-true [] (y ∷ b) e = true-false (sym e)
-same-true (x ∷ a) [] e = true-false (sym e)
-same-true (x ∷ a) (y ∷ b) e = go (eqb x y) refl e (λ f. same-true a b f)
-  where
-    go : (t : Bool) → eqb x y ≡ t → (t && same a b) ≡ true → (same a b ≡ true → a ≡ b) → x ∷ a ≡ y ∷ b
-    go true f g rest = let h : x ≡ y = eqb-true x y f in let i : a ≡ b = rest g in cc
-    go false f g rest = true-false (sym g)
 
 -- lists that agree everywhere, and lists that differ
 pub same-all : (a b : List ℕ) → length a ≡ length b → ((k : ℕ) → k < length a → getD a k 0 ≡ getD b k 0) →
@@ -49,11 +34,7 @@ same-differ a b h = go (same a b) refl
 pub same-one : (a : List ℕ) (b : ℕ) → length a ≡ 1 → same a (b ∷ []) ≡ eqb (getD a 0 0) b
 unfolding same
 same-one [] b e = absurd (omega arith)
-same-one (x ∷ []) b e = go (eqb x b)
-  where
-    go : (t : Bool) → (t && true) ≡ t
-    go true = refl
-    go false = refl
+same-one (x ∷ []) b e = and-true (eqb x b)
 same-one (x ∷ y ∷ a) b e = absurd (omega arith)
 
 pub same-sym : (a b : List ℕ) → same a b ≡ same b a
@@ -129,17 +110,14 @@ pub same-of : (t : Bool) (a b a′ b′ : List ℕ) → t ≡ same a b → a ≡
 same-of t a b a′ b′ e p q = cc
 
 -- what `same_rec` reads of two records, and what it says of them as keys
+told : {s t x y a b : ℕ} → s ≡ x → t ≡ y → a ≡ x → b ≡ y → (s ≡ t → a ≡ b) × (a ≡ b → s ≡ t)
+told p q k l = (λ e. k ∙ (sym p ∙ (e ∙ (q ∙ sym l))), λ e. p ∙ (sym k ∙ (e ∙ (l ∙ sym q))))
+
 module _ (bs : List ℕ) (i f j g : ℕ) (s t : ℕ) where
   pub shapes-read : s ≡ rowAt bs i .rec .shape → t ≡ rowAt bs j .rec .shape →
       (s ≡ t → keyRec bs i f .shape ≡ keyRec bs j g .shape) × (keyRec bs i f .shape ≡ keyRec bs j g .shape → s ≡ t)
-  shapes-read p q =
-      let k = key-shape bs i f in
-      let l = key-shape bs j g in
-      (λ e. k ∙ (sym p ∙ (e ∙ (q ∙ sym l))), λ e. p ∙ (sym k ∙ (e ∙ (l ∙ sym q))))
+  shapes-read p q = told p q (key-shape bs i f) (key-shape bs j g)
 
   pub opcodes-read : s ≡ rowAt bs i .rec .opcode → t ≡ rowAt bs j .rec .opcode →
       (s ≡ t → keyRec bs i f .opcode ≡ keyRec bs j g .opcode) × (keyRec bs i f .opcode ≡ keyRec bs j g .opcode → s ≡ t)
-  opcodes-read p q =
-      let k = key-opcode bs i f in
-      let l = key-opcode bs j g in
-      (λ e. k ∙ (sym p ∙ (e ∙ (q ∙ sym l))), λ e. p ∙ (sym k ∙ (e ∙ (l ∙ sym q))))
+  opcodes-read p q = told p q (key-opcode bs i f) (key-opcode bs j g)

@@ -1,5 +1,5 @@
-// Symbols as model has them, over the work memory (key.rs, interner.rs): records as keys have them, compared; one
-// symbol more.
+// Symbols as model has them, over the work memory (key.rs, interner.rs). In order: where their words stand; a byte as a
+// number; records as keys have them, compared; one symbol more.
 use key::Symbol;
 ghost use mathlib.Core.Path.{_≡_};
 ghost use mathlib.Core.List.{[], _∷_};
@@ -18,8 +18,9 @@ pub const SLOTS: usize = 2560;
 
 pub const PENDING: usize = 8200;
 
-fn wide(x: u8) -> u32
-    ensures { λ r. ⌜ r ≡ x ⌝ }
+// A byte as a number. Rules out: its low bits alone; one more.
+pub fn wide(x: u8) -> u32
+    ensures { λ r. ⌜ (r ≡ x) × (r < 256) ⌝ }
 {
     x as u32
 }

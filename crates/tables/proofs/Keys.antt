@@ -2,7 +2,7 @@
 -- Assumes nothing.
 use Prim.Native.Nat.{ℕ, zero, suc, _+_, _*_, _<_, _≤_}
 use mathlib.Core.Path.{_≡_, refl, sym, ap, _∙_}
-use mathlib.Core.Bool.{Bool, true, false, _&&_}
+use mathlib.Core.Bool.{Bool, true, false, and-true, and-false}
 use mathlib.Core.List.{List}
 use native.Mathlib.Omega.{arith}
 use lib.ListN.{length, getD}
@@ -40,14 +40,6 @@ module _ (ws : List ℕ) (a b m n : ℕ) where
       same-all (wordsFrom ws a m) (wordsFrom ws b n) (words-length ws a m ∙ (e ∙ sym (words-length ws b n)))
       (λ k lt. let l : k < m = omega (arith, words-length ws a m) in
       words-at ws a m k l ∙ (h k l ∙ sym (words-at ws b n k (omega arith))))
-
-and-false : (t : Bool) → (t && false) ≡ false
-and-false true = refl
-and-false false = refl
-
-and-true : (t : Bool) → (t && true) ≡ t
-and-true true = refl
-and-true false = refl
 
 -- ---- keys: what `same_key` loads, and what it says by it
 

@@ -1,5 +1,5 @@
--- What callers cite of the open tables. In order: how many; the words that they hang on; the words that marks hang on;
--- the first table; opening one and dropping it; one entry more; entries that are sound.
+-- What callers cite of the open tables. In order: the words that they hang on; the words that marks hang on; the first
+-- table; opening one and dropping it; one entry more; entries that are sound.
 -- Assumes nothing.
 use Prim.Native.Nat.{ℕ, zero, suc, _+_, _*_, _-_, _<_, _≤_}
 use mathlib.Core.Path.{_≡_, refl, sym, ap, _∙_}
@@ -14,22 +14,11 @@ use Rattle.model.specs.Intern.{enter, dropFirst}
 use Rattle.key.specs.Key.{symbolAt}
 use Rattle.key.proofs.Runs.{Agree, agree-before}
 use Rattle.key.proofs.Laws.{symbol-agree}
-use Rattle.symbols.specs.Words.{slotsFrom}
-use Rattle.symbols.specs.Symbols.{kidsAt, AllSound}
-use Rattle.symbols.proofs.Words.{words-agree}
+use Rattle.symbols.specs.Symbols.{AllSound}
+use Rattle.symbols.proofs.Laws.{kids-agree}
 use Rattle.tables.specs.declared.Tables.{Tables}
 use Rattle.tables.specs.Tables.{entrySymbol, entryMark, markOf, entries, tables, tablesOf, first, opened}
 use Rattle.tables.specs.Tables.{Open, Entries, Below, Marked}
-
--- ---- how many
-
-runs-length : (ws base : List ℕ) (d end : ℕ) → length (tables ws base d end) ≡ d
-unfolding tables
-runs-length ws base zero end = refl
-runs-length ws base (suc d) end = ap suc (runs-length ws base d (getD base d 0))
-
-pub tables-length : (ws : List ℕ) (t : Tables) (top : ℕ) → length (tablesOf ws t top) ≡ t .depth
-tables-length ws t top = runs-length ws (t .base) (t .depth) top
 
 -- ---- the words that tables hang on: their entries; and the starts below d
 
@@ -66,10 +55,7 @@ module _ (bs ws ws′ : List ℕ) (used n : ℕ) where
   mark-agree sound own slots s lt =
       let e : symbolAt ws′ s ≡ symbolAt ws s =
       symbol-agree ws ws′ s (λ k l r. own k (omega arith) (omega arith)) in
-      let f : slotsFrom ws′ (symbolAt ws s .kids) (symbolAt ws s .count) ≡ kidsAt ws s =
-      words-agree ws ws′ (2560 + symbolAt ws s .kids) (symbolAt ws s .count)
-      (λ k l r. slots k (omega arith) (omega (arith, sound s lt .slots))) in
-      rw (e, f)
+      rw (e, kids-agree bs ws ws′ used slots s (sound s lt))
 
   pub marked-agree : (top : ℕ) → AllSound bs ws used n → Below ws top n → Agree ws ws′ 0 (5 * n) →
       Agree ws ws′ 2560 (2560 + used) → Agree ws ws′ 7176 (7176 + top) → Marked bs ws top → Marked bs ws′ top

@@ -1,5 +1,6 @@
 // The stack of open tables (interner.rs), and the search through it. Entry k of the tables is word 7,176 + k: a symbol,
 // and above it a mark of its key, so that most entries are passed over by one comparison.
+// In order: the stack; one entry more; marks; keys compared; the search.
 use symbols::PENDING;
 use symbols::SLOTS;
 ghost use mathlib.Core.Path.{_≡_};
@@ -60,12 +61,6 @@ pub fn enter(work: &mut [u32], top: usize, symbol: u32, mark: u32)
     work[ENTRIES + top] = symbol + 512 * mark;
 }
 
-fn wide(x: u8) -> u32
-    ensures { λ r. ⌜ (r ≡ x) × (r < 256) ⌝ }
-{
-    x as u32
-}
-
 // The mark of the key of record i, or of a projection that it makes, over the pending children from `held` on.
 // Rules out: the opcode alone where there are children; a mark by the last child.
 pub fn mark_of(forest: &[u8], work: &[u32], i: usize, held: usize, count: usize) -> u32
@@ -77,7 +72,7 @@ pub fn mark_of(forest: &[u8], work: &[u32], i: usize, held: usize, count: usize)
         ⌜ (r ≡ mark (rowAt (now (forest .entry)) i .rec .opcode) (pendingFrom (now (work .entry)) held count))
         × (r < 131072) ⌝ }
 {
-    let opcode = wide(record::opcode(forest, i));
+    let opcode = symbols::wide(record::opcode(forest, i));
     if count == 0 {
         return opcode;
     }

@@ -97,7 +97,7 @@ module _ (p : Ctx → Rec → Bool) where
     faults-length : (t : Tree) (c : Ctx) → length (faults p t c) ≡ size t
     faults-length (node r ts) c = ap suc (faultsIn-length ts (inner r c))
 
-    faultsIn-length : (ts : Trees) (c : Ctx) → length (faultsIn p ts c) ≡ sizes ts
+    pub faultsIn-length : (ts : Trees) (c : Ctx) → length (faultsIn p ts c) ≡ sizes ts
     faultsIn-length nil c = refl
     faultsIn-length (cons t ts) c =
         omega (

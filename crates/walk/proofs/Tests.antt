@@ -3,11 +3,11 @@
 -- Assumes nothing.
 use Prim.Native.Nat.{ℕ, zero, suc, _+_, _-_, _<_, _≤_}
 use mathlib.Core.Path.{_≡_, refl, sym, ap, _∙_}
-use mathlib.Core.Bool.{Bool, true, false, not, _&&_, Bool·beq, _||_}
+use mathlib.Core.Bool.{Bool, true, false, not, Bool·beq, _||_, and-true, and-false}
 use mathlib.Core.List.{List, _∷_, _++_, []}
 use native.Mathlib.Omega.{arith}
 use borrow.Author.Tests.{eq-eqb, ne-eqb, lt-ltb, le-ltb}
-use lib.Dec.{eqb, ltb}
+use lib.Dec.{eqb}
 use lib.ListN.{length, getD, drop, length-append}
 use Rattle.model.specs.Lists.{isIn, anyIn, twice}
 use Rattle.model.specs.Bytes.{u32}
@@ -15,6 +15,7 @@ use Rattle.model.specs.Tree.{Rec, Tree, node, nil, top}
 use Rattle.model.specs.Binding.{Kind, valUse, valDef, block, lambda, field, other, kind, idOf, argIds, inside}
 use Rattle.model.specs.Binding.{after}
 use Rattle.laws.proofs.Apart.{true-false}
+use Rattle.laws.proofs.Members.{isIn-append}
 use Rattle.walk.specs.Faults.{Ctx, deepAt, misplacedAt, reboundAt, unboundAt, anyAt, test}
 use Rattle.walk.specs.declared.Context.{Context}
 use Rattle.walk.specs.Words.{idsOf, argIdsAt, clash, childOf}
@@ -75,15 +76,6 @@ lambda-ids n lit r e f g = rw (e, f) (sym (inside-lambda r g))
 
 -- ---- a clash
 
-is-in-append : (x : ℕ) (a b : List ℕ) → isIn x (a ++ b) ≡ (isIn x a || isIn x b)
-unfolding isIn
-is-in-append x [] b = refl
-is-in-append x (y ∷ a) b = ap (_||_ (eqb x y)) (is-in-append x a b) ∙ sym (or-assoc (eqb x y) (isIn x a) (isIn x b))
-  where
-    or-assoc : (p q r : Bool) → ((p || q) || r) ≡ (p || (q || r))
-    or-assoc true q r = refl
-    or-assoc false q r = refl
-
 clash-own : (ws : List ℕ) (top m : ℕ) (more : List ℕ) → idsOf ws (top + m) ≡ more ++ idsOf ws top →
     clash ws top m ≡ (anyIn more (idsOf ws top) || twice more)
 unfolding idsOf clash anyIn twice
@@ -97,7 +89,7 @@ clash-own ws top (suc m) (x ∷ more) e =
     let f : getD ws (top + m) 0 ∷ idsOf ws (top + m) ≡ x ∷ (more ++ idsOf ws top) = ap (idsOf ws) z ∙ e in
     let g : getD ws (top + m) 0 ≡ x = cc in
     let h : idsOf ws (top + m) ≡ more ++ idsOf ws top = cc in
-    rw (clash-own ws top m more h, g, h, is-in-append x more (idsOf ws top))
+    rw (clash-own ws top m more h, g, h, isIn-append x more (idsOf ws top))
     (swap (isIn x more) (isIn x (idsOf ws top)) _ _)
   where
     swap : (p q r s : Bool) → ((p || q) || (r || s)) ≡ ((q || r) || (p || s))
@@ -200,22 +192,15 @@ module _ (r : Rec) (ids : List ℕ) where
 pub child-last : (c : Context) (left top : ℕ) → left ≡ 0 →
     record { depth = c .depth; def = false; top = top } ≡ childOf c left top
 child-last c left top e =
-    rw (le-ltb 0 left (omega arith)) (ap (λ (b : Bool). record { depth = c .depth; def = b; top = top }) (go (c .def)))
-  where
-    go : (b : Bool) → false ≡ (b && false)
-    go true = refl
-    go false = refl
+    rw (le-ltb 0 left (omega arith))
+    (ap (λ (b : Bool). record { depth = c .depth; def = b; top = top }) (sym (and-false (c .def))))
 
 pub child-inner : (c : Context) (left top : ℕ) → (left ≡ 0 → ⊥) →
     record { depth = c .depth; def = c .def; top = top } ≡ childOf c left top
 child-inner c left top h =
     let l : 0 < left = go left h in
-    rw (lt-ltb 0 left l) (ap (λ (b : Bool). record { depth = c .depth; def = b; top = top }) (and-true (c .def)))
+    rw (lt-ltb 0 left l) (ap (λ (b : Bool). record { depth = c .depth; def = b; top = top }) (sym (and-true (c .def))))
   where
     go : (n : ℕ) → (n ≡ 0 → ⊥) → 0 < n
     go zero h = absurd (h refl)
     go (suc n) h = omega arith
-
-    and-true : (b : Bool) → b ≡ (b && true)
-    and-true true = refl
-    and-true false = refl

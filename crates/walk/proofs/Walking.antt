@@ -8,9 +8,10 @@ use mathlib.Core.List.{List, _++_}
 use native.Mathlib.Omega.{arith}
 use lib.Dec.{eqb}
 use Rattle.model.specs.Lists.{first}
-use Rattle.model.specs.Tree.{Tree, Trees, node, nil, cons, many, takeT, dropT, size, sizes}
+use Rattle.model.specs.Tree.{Trees, nil, cons, many, takeT, dropT, size, sizes}
 use Rattle.model.specs.Forest.{recordCount, treeCount, treesOf}
 use Rattle.model.specs.Binding.{inside, after}
+use Rattle.laws.proofs.Trees.{size-some}
 use Rattle.record.specs.Record.{rowAt}
 use Rattle.walk.specs.declared.Context.{Context}
 use Rattle.walk.specs.declared.Place.the-variants.{At, Nowhere}
@@ -88,10 +89,6 @@ pub below-stands : (i : ℕ) (at : Context) (d : Bool) (end : ℕ) → Stands i 
 below-stands i at d end h l = record { shallow = omega (arith, h .shallow); few = omega (arith, h .few) }
 
 -- ---- subtrees in a row
-
-size-some : (t : Tree) → 1 ≤ size t
-unfolding size
-size-some (node r ts) = omega arith
 
 -- the walk of `count` trees from record i on has come to record j, with `left` trees left
 pub record Walking (bs : List ℕ) (n i count : ℕ) (at : Context) (ws₀ ws : List ℕ) (j left top : ℕ) : Type 0 where

@@ -43,7 +43,7 @@ pub struct Context {
 
 // ---- ids in force
 
-// Whether an id is in force. Rules out: true of an id at or above top; false of the oldest id.
+// Whether an id is in force. Rules out: true of an id that stands from top on only; false of the oldest id.
 pub fn in_force(work: &[u32], top: usize, id: u32) -> bool
     requires { ⌜ top ≤ length (now work) ⌝ }
     ensures { λ r. ⌜ r ≡ isIn id (idsOf (now (work .entry)) top) ⌝ }
@@ -76,12 +76,6 @@ fn clashes(work: &[u32], top: usize, end: usize) -> bool
 
 // ---- what a record binds
 
-fn wide(x: u8) -> usize
-    ensures { λ r. ⌜ (r ≡ x) × (r < 256) ⌝ }
-{
-    x as usize
-}
-
 // Puts the ids of n arguments on top, the first newest.
 fn push_args(lit: &[u8], work: &mut [u32], n: usize, top: usize)
     requires { ⌜ Left n (now lit) 0 ⌝ }
@@ -107,7 +101,7 @@ fn enter(forest: &[u8], work: &mut [u32], i: usize, top: usize) -> usize
     if record::shape(forest, i) != 12 {
         return top;
     }
-    let n = wide(record::aux(forest, i));
+    let n = record::wide(record::aux(forest, i));
     let lit = record::literal(forest, i);
     push_args(lit, work, n, top);
     top + n

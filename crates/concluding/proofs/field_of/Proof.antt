@@ -21,7 +21,7 @@ shared-slice-read-wide c =
     )
 
 returns : tie.Need-returns
-returns c = c .wide .ensures ∙ ap (λ (l : List ℕ). getD l 0 0) (c .before .before .literal .ensures)
+returns c = c .wide .ensures .0 ∙ ap (λ (l : List ℕ). getD l 0 0) (c .before .before .literal .ensures)
 
 pub field-of-spec : {M : Type 1} → statement M
 field-of-spec =

@@ -11,7 +11,8 @@ put-args-requires : tie.Need-put-args-requires
 put-args-requires c κs =
     let m = c .before .before in
     let s = m .before .before .before in
-    (s .pre .0, subst (λ (n : ℕ). Left n (now (s .args .lit)) 0) (sym (c .wide .ensures)) (s .pre .1 (m .match .keys4)))
+    let left = s .pre .1 (m .match .keys4) in
+    (s .pre .0, subst (λ (n : ℕ). Left n (now (s .args .lit)) 0) (sym (c .wide .ensures .0)) left)
 
 pub put-own-spec : {M : Type 1} → statement M
 put-own-spec =

@@ -18,7 +18,8 @@ returns c =
 returns-2 : tie.Need-returns-2
 returns-2 c =
     let a = c .before .before .before .before .args in
-    ap (λ (z : ℕ). eqb z (a .b)) (c .wide .ensures) ∙ sym (same-one (now (a .a)) (a .b) (c .before .before .if1 .left))
+    ap (λ (z : ℕ). eqb z (a .b)) (c .wide .ensures .0)
+    ∙ sym (same-one (now (a .a)) (a .b) (c .before .before .if1 .left))
 
 pub is-byte-spec : {M : Type 1} → statement M
 is-byte-spec = tie.close (tie.spec returns (λ c. search needs) (λ c κs. search needs) returns-2)

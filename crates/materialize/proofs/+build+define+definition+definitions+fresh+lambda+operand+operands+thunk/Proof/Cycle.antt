@@ -33,7 +33,6 @@ use Rattle.materialize.proofs.thunk.Kinds as thunk-kinds
 use Rattle.materialize.proofs.+build+define+definition+definitions+fresh+lambda+operand+operands+thunk.Lts-thunk as thunk-lts
 use Rattle.key.proofs.load.Reads as load-reads
 use Rattle.schedule.proofs.zeros16.Reads as zeros16-reads
-use Rattle.materialize.proofs.wide8.Reads as wide8-reads
 use Rattle.planner.proofs.copied.Reads as copied-reads
 use Rattle.planner.proofs.member.Reads as member-reads
 use Rattle.planner.proofs.members.Reads as members-reads
@@ -43,6 +42,7 @@ use Rattle.planner.proofs.put.Reads as put-reads
 use Rattle.planner.proofs.row_of.Reads as row-of-reads
 use Rattle.planner.proofs.wide.Reads as wide-reads
 use Rattle.outsiders.proofs.wide.Reads as entry-reads
+use Rattle.symbols.proofs.wide.Reads as byte-reads
 use Rattle.record.proofs.aux.Reads as aux-reads
 use Rattle.record.proofs.opcode.Reads as opcode-reads
 use Rattle.schedule.proofs.schedule.Reads as schedule-reads
@@ -185,8 +185,8 @@ lambda-claims t = (
   wide-reads.Learnt,
   aux-reads.Asked,
   aux-reads.Learnt,
-  wide8-reads.Asked,
-  wide8-reads.Learnt,
+  byte-reads.Asked,
+  byte-reads.Learnt,
   load-reads.Asked,
   load-reads.Learnt,
   put-reads.Asked,

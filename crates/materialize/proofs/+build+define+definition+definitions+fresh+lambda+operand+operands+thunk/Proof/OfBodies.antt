@@ -39,16 +39,16 @@ thunk-returns t c =
 -- ---- lambda
 
 -- how many arguments it has, as read
-module _ (t : ℕ) (c : lambda-lts.After-wide8 (cycle.lambda-claims t) (cycle.lambda-at t) lambda.Post) where
+module _ (t : ℕ) (c : lambda-lts.After-wide2 (cycle.lambda-claims t) (cycle.lambda-at t) lambda.Post) where
   abbrev from : lambda-lts.Start (cycle.lambda-claims t) (cycle.lambda-at t) lambda.Post
   from = c .before .before .before .before .before .before
 
-  count-is : c .wide8 .result ≡ rowAt (from .args .forest .now) (from .args .f .source) .rec .aux
+  count-is : c .wide2 .result ≡ rowAt (from .args .forest .now) (from .args .f .source) .rec .aux
   count-is =
-      c .wide8 .ensures ∙ (c .before .aux .ensures
+      c .wide2 .ensures .0 ∙ (c .before .aux .ensures
       ∙ ap (λ (i : ℕ). rowAt (from .args .forest .now) i .rec .aux) (c .before .before .wide .ensures))
 
-  count-few : c .wide8 .result ≤ 15
+  count-few : c .wide2 .result ≤ 15
   count-few =
       let q = from .pre .1 .1 in
       omega (arith, count-is, lambda-fits (q .0) _ (q .1 .0 .low) _ (q .1 .1) .few)
@@ -74,7 +74,7 @@ lambda-slice-read-wide t c =
     let b = z .pre .1 .1 .0 in
     let at = z .pre .1 .1 .1 .0 in
     let slots = slots-loaded b _ (at .low) (c .before .before .load .ensures) in
-    omega (arith, c .before .wide2 .ensures, slots, b .arena .words)
+    omega (arith, c .before .wide3 .ensures, slots, b .arena .words)
 
 pub lambda-put-requires : (t : ℕ) → lambda-lts.Need-put-requires (cycle.lambda-claims t) (cycle.lambda-at t) lambda.Post
 lambda-put-requires t c κs =
@@ -100,16 +100,16 @@ lambda-number-requires t c κs =
     let fit = lambda-fits b _ (at .low) _ e in (
       λ some. omega (
         arith,
-        c .before .wide4 .ensures,
-        c .wide5 .ensures,
+        c .before .wide5 .ensures,
+        c .wide6 .ensures,
         ec,
-        fit .first (omega (arith, some, c .wide5 .ensures, ec)),
+        fit .first (omega (arith, some, c .wide6 .ensures, ec)),
         at .low,
         b .arena .few,
         ap length (c3 .copied .ensures),
         at .long,
       ),
-      omega (arith, c .wide5 .ensures, count-few t c13, at .room),
+      omega (arith, c .wide6 .ensures, count-few t c13, at .room),
     )
 
 pub lambda-add-define : (t : ℕ) → lambda-lts.Need-add-define (cycle.lambda-claims t) (cycle.lambda-at t) lambda.Post
@@ -146,8 +146,8 @@ lambda-define-requires t c κs =
     let e = z .pre .1 .1 .1 .1 in
     let fit = lambda-fits b _ (at .low) _ e in
     let h = c11 .put .ensures (z .args .forest .now) (lambda-writable b _ (at .low) _ e _ (omega (arith, at .room))) in
-    let er = c13 .wide3 .ensures
-    ∙ ap (λ (k : ℕ). getD (z .args .work .now) (2560 + k) 0) (c15 .wide2 .ensures ∙ ap (λ (y : Symbol). y .kids)
+    let er = c13 .wide4 .ensures
+    ∙ ap (λ (k : ℕ). getD (z .args .work .now) (2560 + k) 0) (c15 .wide3 .ensures ∙ ap (λ (y : Symbol). y .kids)
     (c16 .load .ensures)) in
     let low = body-low b _ (at .low) _ e in (
       omega (arith, z .pre .0, er, low),
@@ -162,7 +162,7 @@ lambda-define-requires t c κs =
               room = omega (arith, er, low, count-few t c18, at .room);
               count = grew-few h;
             },
-            omega (arith, c .before .wide6 .ensures, fit .body),
+            omega (arith, c .before .wide7 .ensures, fit .body),
           ),
         ),
       ),
@@ -186,8 +186,8 @@ lambda-returns t c =
     let at = z .pre .1 .1 .1 .0 in
     let e = z .pre .1 .1 .1 .1 in
     let h = c15 .put .ensures (z .args .forest .now) (lambda-writable b _ (at .low) _ e _ (omega (arith, at .room))) in
-    let er = c17 .wide3 .ensures
-    ∙ ap (λ (k : ℕ). getD (z .args .work .now) (2560 + k) 0) (c19 .wide2 .ensures ∙ ap (λ (y : Symbol). y .kids)
+    let er = c17 .wide4 .ensures
+    ∙ ap (λ (k : ℕ). getD (z .args .work .now) (2560 + k) 0) (c19 .wide3 .ensures ∙ ap (λ (y : Symbol). y .kids)
     (c20 .load .ensures)) in
-    plans-lambda b _ (at .low) _ _ e (at .long) (count-is t c22) er (c12 .copied .ensures) (c10 .wide4 .ensures)
-    (c9 .wide5 .ensures) (c5 .wide6 .ensures) (c8 .number .ensures) h (c3 .define .ensures)
+    plans-lambda b _ (at .low) _ _ e (at .long) (count-is t c22) er (c12 .copied .ensures) (c10 .wide5 .ensures)
+    (c9 .wide6 .ensures) (c5 .wide7 .ensures) (c8 .number .ensures) h (c3 .define .ensures)

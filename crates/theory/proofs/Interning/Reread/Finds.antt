@@ -19,7 +19,7 @@ use Rattle.model.specs.Intern.{Node, Sym, State, Out, symAt, noSym, isKey, look
 use Rattle.model.specs.Intern.{alloc, finish}
 use Rattle.laws.proofs.Apart.{none-some}
 use Rattle.laws.proofs.Holds.{Holds, holds-guard}
-use Rattle.laws.proofs.Members.{In, both-and}
+use Rattle.laws.proofs.Members.{In, both-and, same-refl}
 use Rattle.theory.proofs.Interning.Good.{symCount}
 use Rattle.theory.proofs.Interning.Inv.{InAny}
 use Rattle.theory.proofs.Interning.Push.{newSym, one-more}
@@ -59,23 +59,18 @@ module _ (ss : List Sym) (y : Sym) (r : Rec) (ks : List ℕ) where
 
 -- ---- a new symbol
 
-same-self : (xs : List ℕ) → same xs xs ≡ true
-unfolding same
-same-self [] = refl
-same-self (x ∷ xs) = rw (eq-eqb x x refl) (same-self xs)
-
 sameRec-self : (r : Rec) → sameRec r r ≡ true
 unfolding sameRec
 sameRec-self r =
     rw (eq-eqb (r .shape) (r .shape) refl, eq-eqb (r .opcode) (r .opcode) refl, eq-eqb (r .aux) (r .aux) refl)
-    (same-self (r .lit))
+    (same-refl (r .lit))
 
 -- the last symbol has its own key
 isKey-own : (ss : List Sym) (y : Sym) → isKey (ss ++ (y ∷ [])) (y .rec) (y .kids) (length ss) ≡ true
 unfolding isKey
 isKey-own ss y =
     ap (λ (z : Sym). sameRec (z .rec) (y .rec) && same (z .kids) (y .kids)) (getD-append-seam ss y [] noSym)
-    ∙ both-and _ _ (sameRec-self (y .rec)) (same-self (y .kids))
+    ∙ both-and _ _ (sameRec-self (y .rec)) (same-refl (y .kids))
 
 -- entered in the newest table it is found
 own-found : (ss : List Sym) (y : Sym) (ts : List (List ℕ)) → 0 < length ts →
