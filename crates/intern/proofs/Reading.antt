@@ -13,6 +13,7 @@ use Rattle.model.specs.Tree.{Tree, Trees, cons, isNil, many, takeT, dropT, size
 use Rattle.model.specs.Forest.{recordCount}
 use Rattle.model.specs.Intern.{bindDef, thunked, internScoped, branch, intern, internAll}
 use Rattle.model.specs.Intern as intern
+use Rattle.laws.proofs.Trees.{size-some}
 use Rattle.walk.specs.Walk.{treesFrom, restAt, treeAt}
 use Rattle.walk.proofs.Bridge.{trees-at, trees-left}
 use Rattle.symbols.specs.Words.{wordsFrom, pendingFrom}
@@ -36,7 +37,7 @@ use Rattle.intern.specs.declared.Kids.{Kids}
 use Rattle.intern.specs.Steps.{childAt, noted, unread, withChild, failed}
 use Rattle.intern.specs.Words.{Kept}
 use Rattle.intern.specs.Intern.{Stands, Reads, Child, trees, Operands, kidsAnswer, ReadsAll}
-use Rattle.intern.proofs.Remains.{size-some, well-moved, Remains, Reading}
+use Rattle.intern.proofs.Remains.{well-moved, Remains, Reading}
 use Rattle.intern.proofs.Kept.{kept-none, kept-then, Stored, stored}
 use Rattle.intern.proofs.After.{out-good, out-refused, kids-good, kids-refused, after, after-none, after-end}
 use Rattle.intern.proofs.After.{after-turn, after-refused, after-same, Thunks}

@@ -1,12 +1,12 @@
 -- What is left of the operands of a record, once some are read: the loop's invariant.
--- In order: a tree has a record; operands that may be read, seen otherwise; what is left.
+-- In order: operands that may be read, seen otherwise; what is left.
 -- Assumes nothing.
 use Prim.Native.Nat.{ℕ, _+_, _-_, _*_, _≤_}
 use mathlib.Core.Path.{_≡_, sym, subst}
 use mathlib.Core.Bool.{Bool}
 use mathlib.Core.List.{List}
 use native.Mathlib.Omega.{arith}
-use Rattle.model.specs.Tree.{Tree, Trees, node, many, dropT, size, sizes, depths}
+use Rattle.model.specs.Tree.{Trees, many, dropT, sizes, depths}
 use Rattle.model.specs.Intern.{Env, intern, internAll}
 use Rattle.model.specs.Intern as intern
 use Rattle.walk.specs.Walk.{treesFrom}
@@ -22,12 +22,7 @@ use Rattle.intern.specs.declared.Here.{Here}
 use Rattle.intern.specs.declared.Kids.{Kids}
 use Rattle.intern.specs.Words.{Kept}
 use Rattle.intern.specs.Intern.{trees}
-use Rattle.intern.proofs.After.{after}
-use Rattle.intern.proofs.After.{Thunks}
-
-pub size-some : (t : Tree) → 1 ≤ size t
-unfolding size
-size-some (node r ts) = omega arith
+use Rattle.intern.proofs.After.{after, Thunks}
 
 -- the same operands, seen otherwise
 pub well-moved : {ts us : Trees} {b : Bool} {op j m cur : ℕ} {env env′ : Env} {s s′ : intern.State} {k : ℕ} → us ≡ ts →
