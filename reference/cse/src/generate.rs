@@ -9,6 +9,7 @@ mod plants;
 mod profile;
 pub mod records;
 mod rng;
+mod room;
 
 pub use rng::Rng;
 

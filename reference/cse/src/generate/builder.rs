@@ -4,39 +4,9 @@ use super::literals::{long_bytes, Literals};
 use super::plants::{names, Plants};
 use super::profile::{Form, Profile};
 use super::records::*;
+use super::room::Room;
 use super::{Kind, Rng};
 use crate::forest::{Forest, Tree};
-
-/// How much a subtree may take up: at least one record and one level.
-#[derive(Clone, Copy)]
-struct Room {
-    records: usize,
-    depth: usize,
-    scopes: usize,
-}
-
-impl Room {
-    /// What is left for all children of a record.
-    fn inside(self) -> Room {
-        Room {
-            records: self.records - 1,
-            depth: self.depth - 1,
-            ..self
-        }
-    }
-
-    /// The room of a body or a thunk.
-    fn scope(self) -> Room {
-        Room {
-            scopes: self.scopes - 1,
-            ..self
-        }
-    }
-
-    fn records(self, records: usize) -> Room {
-        Room { records, ..self }
-    }
-}
 
 struct Builder {
     rng: Rng,
