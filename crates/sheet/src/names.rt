@@ -40,7 +40,7 @@ fn put_name(out: &mut [u8], at: usize, names: &[u8], k: u8) -> usize
     end
 }
 
-// A shape's name, as far as there is room. Rules out: an end past the buffer; a longer buffer asked for.
+// A shape's name, as far as there is room. Rules out: an end past the buffer; the end of a name that is cut off.
 pub fn put_shape(out: &mut [u8], at: usize, shape: u8) -> usize
     requires { ⌜ at ≤ length (now out) ⌝ }
     ensures { λ r. ⌜ r ≤ length (now (out .entry)) ⌝ }
@@ -74,7 +74,8 @@ pub fn put_shape(out: &mut [u8], at: usize, shape: u8) -> usize
     }
 }
 
-// A constant's class, by its aux, as far as there is room. Rules out: an end past the buffer; a longer buffer asked for.
+// A constant's class, by its aux, as far as there is room. Rules out: an end past the buffer; the end of a name that is
+// cut off.
 pub fn put_class(out: &mut [u8], at: usize, aux: u8) -> usize
     requires { ⌜ at ≤ length (now out) ⌝ }
     ensures { λ r. ⌜ r ≤ length (now (out .entry)) ⌝ }
@@ -88,7 +89,7 @@ pub fn put_class(out: &mut [u8], at: usize, aux: u8) -> usize
 }
 
 // An opcode in hex, and its name, as far as there is room. Opcodes that stand with one shape of their own have none
-// here: the shape says it. Rules out: an end past the buffer; a longer buffer asked for.
+// here: the shape says it. Rules out: an end past the buffer; the end of a name that is cut off.
 pub fn put_opcode(out: &mut [u8], at: usize, opcode: u8) -> usize
     requires { ⌜ at ≤ length (now out) ⌝ }
     ensures { λ r. ⌜ r ≤ length (now (out .entry)) ⌝ }

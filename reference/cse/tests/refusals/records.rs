@@ -31,6 +31,17 @@ fn a_literal(shape: u8) -> &'static [u8] {
     }
 }
 
+/// The fewest children of each shape.
+fn least_children(shape: u8) -> u16 {
+    match shape {
+        3 | 10..=13 | 17 | 18 | 25 | 26 => 1,
+        4 | 24 => 2,
+        5 => 3,
+        6 => 4,
+        _ => 0,
+    }
+}
+
 #[test]
 fn four_shapes_and_child_counts() {
     let counts: [(u8, std::ops::RangeInclusive<u16>); 27] = [
@@ -80,13 +91,7 @@ fn four_shapes_and_child_counts() {
 #[test]
 fn four_aux() {
     for shape in 0..=26 {
-        let children = match shape {
-            3 | 10..=13 | 17 | 18 | 25 | 26 => 1,
-            4 | 24 => 2,
-            5 => 3,
-            6 => 4,
-            _ => 0,
-        };
+        let children = least_children(shape);
         for aux in 0..=255u8 {
             let arguments = [1, 0, 0, 0, 0].repeat(usize::from(aux));
             let (literal, most) = match shape {
@@ -218,13 +223,7 @@ fn five_opcodes() {
         ),
     ];
     for shape in 0..=26u8 {
-        let children = match shape {
-            3 | 10..=13 | 17 | 18 | 25 | 26 => 1,
-            4 | 24 => 2,
-            5 => 3,
-            6 => 4,
-            _ => 0,
-        };
+        let children = least_children(shape);
         for opcode in 0..=255u8 {
             let bytes = raw(1, &[(shape, opcode, children, 0, a_literal(shape))]);
             let refused = accept(&bytes)
