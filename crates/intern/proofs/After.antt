@@ -1,5 +1,5 @@
 -- The definition's reading of operands, one after the other.
--- In order: answers taken apart; symbols and thunks before what is left; thunks noted.
+-- In order: an answer taken apart; symbols and thunks before what is left; thunks noted.
 -- Assumes nothing.
 use Prim.Native.Nat.{ℕ, zero, suc, _+_, _≤_}
 use mathlib.Core.Path.{_≡_, refl, sym, ap, _∙_}
@@ -13,25 +13,13 @@ use Rattle.model.specs.Answer.{refused, good, _>>=_}
 use Rattle.model.specs.Tree.{Tree, Trees, nil, cons, size}
 use Rattle.model.specs.Intern.{State, Env, Out, Outs, bindDef, thunked, internScoped, branch, intern, internAll}
 use Rattle.tables.specs.declared.Tables.{Tables}
-use Rattle.interner.specs.declared.Step.{Step}
-use Rattle.interner.specs.State.{absOf}
-use Rattle.interner.specs.Step.{outOf}
 use Rattle.concluding.specs.declared.Branches.{Branches}
 use Rattle.concluding.specs.Concluding.{branchesOf, Branched}
 use Rattle.intern.specs.declared.Kids.{Kids}
 use Rattle.intern.specs.Steps.{oneMore, noted}
 use Rattle.intern.specs.Intern.{kidsAnswer, kidsOf}
 
--- ---- answers taken apart
-
-module _ (bs ws : List ℕ) (t : Tables) (r : Step) where
-  pub out-good : r .number ≡ 0 → outOf bs ws t r ≡ good (r .symbol, absOf bs ws t (r .st))
-  unfolding outOf
-  out-good e = rw (eq-eqb (r .number) 0 e, outOf)
-
-  pub out-refused : (r .number ≡ 0 → ⊥) → outOf bs ws t r ≡ refused (r .number) (r .place)
-  unfolding outOf
-  out-refused h = rw (ne-eqb (r .number) 0 h, outOf)
+-- ---- an answer taken apart
 
 module _ (bs ws : List ℕ) (t : Tables) (held count : ℕ) (k : Kids) where
   pub kids-good : k .number ≡ 0 → kidsOf bs ws t held count k ≡ kidsAnswer bs ws t held count k
@@ -117,32 +105,6 @@ thunked-place op j h = go (eqb j 1) (eqb j 2) refl refl
         never true false h = let z : _≡_ {A = ℕ} 0 1 = cc in omega arith
         never false true h = let z : _≡_ {A = ℕ} 0 1 = cc in omega arith
         never false false h = let z : _≡_ {A = ℕ} 0 1 = cc in omega arith
-
--- by opcode and operand
-or-false : (b : Bool) → b ≡ b || false
-or-false true = refl
-or-false false = refl
-
-module _ (op j : ℕ) where
-  pub thunk-if-1 : op ≡ 0x95 → j ≡ 1 → true ≡ thunked op j
-  unfolding thunked
-  thunk-if-1 e f = rw (e, f)
-
-  pub thunk-if : op ≡ 0x95 → (j ≡ 1 → ⊥) → eqb j 2 ≡ thunked op j
-  unfolding thunked
-  thunk-if e n = rw (e, ne-eqb j 1 n, thunked) (or-false (eqb j 2))
-
-  pub thunk-or : op ≡ 0xED → eqb j 1 ≡ thunked op j
-  unfolding thunked
-  thunk-or e = rw e
-
-  pub thunk-and : op ≡ 0xEC → eqb j 1 ≡ thunked op j
-  unfolding thunked
-  thunk-and e = rw e
-
-  pub thunk-none : (op ≡ 0x95 → ⊥) → (op ≡ 0xED → ⊥) → (op ≡ 0xEC → ⊥) → false ≡ thunked op j
-  unfolding thunked
-  thunk-none a b c = rw (ne-eqb op 0x95 a, ne-eqb op 0xED b, ne-eqb op 0xEC c, thunked)
 
 pub noted-some : (t : Bool) (b z : Branches) (scope : ℕ) → t ≡ true → z ≡ noted true b scope → z ≡ noted t b scope
 noted-some t b z scope e h = rw e h

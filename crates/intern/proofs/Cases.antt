@@ -29,6 +29,7 @@ use Rattle.interner.specs.declared.State.{State}
 use Rattle.interner.specs.declared.Step.{Step}
 use Rattle.interner.specs.State.{absOf}
 use Rattle.interner.specs.Step.{outOf, given}
+use Rattle.interner.proofs.Sharing.{out-good}
 use Rattle.opening.specs.Opening.{withReading}
 use Rattle.opening.proofs.Counts.{reading-abs, reading-rep}
 use Rattle.concluding.specs.Concluding.{Uses}
@@ -45,7 +46,6 @@ use Rattle.intern.specs.Words.{Kept}
 use Rattle.intern.specs.Intern.{Stands, Past, Reads, Legible, Counted, kidsRead, concluded, WellKids}
 use Rattle.intern.specs.Intern.{Incomplete, ReadsOn}
 use Rattle.intern.proofs.Kept.{kept-none}
-use Rattle.intern.proofs.After.{out-good}
 use Rattle.intern.proofs.Bodies.{lambda-kind}
 use Rattle.intern.proofs.Records.{reads-refused, concluded-10, concluded-11, concluded-other}
 

@@ -26,6 +26,7 @@ use Rattle.tables.specs.declared.Tables.{Tables}
 use Rattle.interner.specs.declared.State.{State}
 use Rattle.interner.specs.State.{absOf}
 use Rattle.interner.specs.Step.{outOf}
+use Rattle.interner.proofs.Sharing.{out-good, out-number}
 use Rattle.opening.proofs.Counts.{scopes-count}
 use Rattle.concluding.specs.Concluding.{branchesOf}
 use Rattle.standing.specs.Standing.{Well, WellAll}
@@ -39,7 +40,7 @@ use Rattle.intern.specs.Words.{Kept}
 use Rattle.intern.specs.Intern.{Stands, Reads, Child, trees, Operands, kidsAnswer, ReadsAll}
 use Rattle.intern.proofs.Remains.{well-moved, Remains, Reading}
 use Rattle.intern.proofs.Kept.{kept-none, kept-then, Stored, stored}
-use Rattle.intern.proofs.After.{out-good, out-refused, kids-good, kids-refused, after, after-none, after-end}
+use Rattle.intern.proofs.After.{kids-good, kids-refused, after, after-none, after-end}
 use Rattle.intern.proofs.After.{after-turn, after-refused, after-same, Thunks}
 use Rattle.intern.proofs.After.{noted-list, noted-branched, noted-thunks}
 use Rattle.intern.proofs.After.{thunk-few}
@@ -186,7 +187,7 @@ module _ (bs : List ℕ) (t : Tables) (i count op : ℕ) (at : Here) (ws₀ : Li
             is =
                 kids-refused bs ws₁ t (at .held) count (failed k r) n
                 ∙ sym (after-refused _ _ op j (k .next) (at .scope) (envOf ws top) (absOf bs ws t (k .st)) u us
-                (r .step .number) (r .step .place) (scoped-is ∙ out-refused bs ws₁ t (r .step) n))
+                (r .step .number) (r .step .place) (scoped-is ∙ out-number bs ws₁ t (r .step) n))
                 ∙ left-whole;
             past = λ e. absurd (n e);
             pending = λ e. absurd (n e);

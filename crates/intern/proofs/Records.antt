@@ -35,6 +35,7 @@ use Rattle.interner.specs.declared.State.{State}
 use Rattle.interner.specs.declared.Step.{Step}
 use Rattle.interner.specs.State.{absOf, Rep}
 use Rattle.interner.specs.Step.{given, Answers}
+use Rattle.interner.proofs.Sharing.{out-number}
 use Rattle.opening.proofs.Counts.{symbols-count}
 use Rattle.concluding.specs.Concluding.{branchesOf, Concludes}
 use Rattle.concluding.proofs.Children.{last-low, given-answers}
@@ -48,7 +49,7 @@ use Rattle.intern.specs.Words.{Kept}
 use Rattle.intern.specs.Intern.{Stands, Past, Reads, kidsRead, concluded, trees, Operands, kidsAnswer}
 use Rattle.intern.specs.Intern.{kidsOf, ReadsAll}
 use Rattle.intern.proofs.Kept.{kept-then, leaves-kept}
-use Rattle.intern.proofs.After.{out-refused, kids-good, kids-refused}
+use Rattle.intern.proofs.After.{kids-good, kids-refused}
 
 -- ---- a step's answer
 
@@ -59,7 +60,7 @@ module _ {bs ws ws₁ : List ℕ} {t : Tables} {st st₁ : State} (i : ℕ) (at 
   reads-refused n p next h e = record {
     rep = rep;
     opened = open′;
-    is = out-refused bs ws₁ t (refusedRead st₁ n p next .step) h ∙ sym e;
+    is = out-number bs ws₁ t (refusedRead st₁ n p next .step) h ∙ sym e;
     past = λ z. absurd (h z);
     kept = kept;
   }

@@ -32,6 +32,7 @@ use Rattle.interner.specs.declared.State.{State}
 use Rattle.interner.specs.declared.Step.{Step}
 use Rattle.interner.specs.State.{absOf, Rep, Started}
 use Rattle.interner.specs.Step.{given}
+use Rattle.interner.proofs.Sharing.{out-good, out-number}
 use Rattle.opening.proofs.Counts.{symbols-count}
 use Rattle.standing.specs.Standing.{WellAll}
 use Rattle.standing.proofs.Enter.{forest-well}
@@ -39,7 +40,7 @@ use Rattle.standing.proofs.Next.{last-result}
 use Rattle.intern.specs.declared.Here.{Here}
 use Rattle.intern.specs.declared.Kids.{Kids}
 use Rattle.intern.specs.Intern.{trees, Operands, ReadsAll, Interned}
-use Rattle.intern.proofs.After.{out-good, out-refused, kids-good, kids-refused}
+use Rattle.intern.proofs.After.{kids-good, kids-refused}
 
 -- ---- how deep an accepted forest is
 
@@ -154,7 +155,7 @@ module _ (bs ws : List ℕ) (accepted : accept bs ≡ good (treesOf bs)) where
         forest-refused h = record {
           rep = v .rep;
           is =
-              out-refused bs ws₂ first (record { st = k .st; symbol = 0; number = k .number; place = k .place }) h
+              out-number bs ws₂ first (record { st = k .st; symbol = 0; number = k .number; place = k .place }) h
               ∙ sym (interned-is (refused (k .number) (k .place))
               (sym (v .is ∙ all-read) ∙ kids-refused bs ws₂ first 0 count k h));
           low = λ e. absurd (h e);

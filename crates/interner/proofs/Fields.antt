@@ -33,7 +33,7 @@ use Rattle.interner.specs.declared.Step.{Step}
 use Rattle.interner.specs.Levels.{InForce}
 use Rattle.interner.specs.State.{absOf, Rep}
 use Rattle.interner.specs.Step.{outOf, given, Answers, Ready, finishOf, Projects, fieldRec, fieldOf, withPair}
-use Rattle.interner.proofs.Sharing.{leaves-none, leaves-then, out-given}
+use Rattle.interner.proofs.Sharing.{leaves-none, leaves-then, out-given, out-good, out-number}
 use Rattle.interner.proofs.Keeps.{Keeps, finish-keeps}
 use Rattle.interner.proofs.Memos.{recall-low, memo-room, abs-remembered, rep-remembered, leaves-remembered}
 
@@ -103,18 +103,10 @@ module _ (bs ws : List ℕ) (t : Tables) (st : State) (cur at i held : ℕ) wher
 -- ---- answers
 
 module _ (bs ws : List ℕ) (t : Tables) (r : Step) where
-  pub out-good : r .number ≡ 0 → outOf bs ws t r ≡ good (r .symbol, absOf bs ws t (r .st))
-  unfolding outOf
-  out-good e = rw (eq-eqb (r .number) 0 e, outOf)
-
-  out-number : (r .number ≡ 0 → ⊥) → outOf bs ws t r ≡ refused (r .number) (r .place)
-  unfolding outOf
-  out-number n = rw (ne-eqb (r .number) 0 n, outOf)
-
   -- a refusal is handed on
   out-refused : (r .number ≡ 0 → ⊥) → (f : ℕ × intern.State → Out) → (outOf bs ws t r >>= f) ≡ outOf bs ws t r
   unfolding _>>=_
-  out-refused n f = rw (out-number n)
+  out-refused n f = rw (out-number bs ws t r n)
 
 -- ---- the state between them
 

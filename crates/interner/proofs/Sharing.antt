@@ -6,7 +6,7 @@ use mathlib.Core.Path.{_≡_, refl, sym, ap, _∙_, subst}
 use mathlib.Core.Bool.{Bool, true, false}
 use mathlib.Core.List.{List}
 use native.Mathlib.Omega.{arith}
-use borrow.Author.Tests.{lt-ltb, le-ltb}
+use borrow.Author.Tests.{lt-ltb, le-ltb, eq-eqb, ne-eqb}
 use lib.ListN.{length, getD, set, length-set}
 use lib.Seq.{getD-set-other}
 use Rattle.model.specs.Answer.{refused, good, guard}
@@ -140,6 +140,15 @@ pub out-full : (bs ws : List ℕ) (t : Tables) (st : State) (node : Node) →
     outOf bs ws t (overFull st node) ≡ refused 12 (partsOf node .source)
 unfolding outOf
 out-full bs ws t st node = refl
+
+module _ (bs ws : List ℕ) (t : Tables) (r : Step) where
+  pub out-good : r .number ≡ 0 → outOf bs ws t r ≡ good (r .symbol, absOf bs ws t (r .st))
+  unfolding outOf
+  out-good e = rw (eq-eqb (r .number) 0 e, outOf)
+
+  pub out-number : (r .number ≡ 0 → ⊥) → outOf bs ws t r ≡ refused (r .number) (r .place)
+  unfolding outOf
+  out-number n = rw (ne-eqb (r .number) 0 n, outOf)
 
 module _ (bs ws : List ℕ) (t : Tables) (st : State) (cur : ℕ) (node : Node) (held count : ℕ) where
   abbrev pushOf : Bool → intern.State

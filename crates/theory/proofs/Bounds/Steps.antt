@@ -52,14 +52,14 @@ climb-low scs deps (s ∷ l) m z h = go (getD scs s rootScope .args) (climb-low 
     go none r = h s (inl refl)
     go (some xs) r = turn (anyIn xs deps) r
 
-enter-low : (n m : ℕ) (ts : List (List ℕ)) → m < n → ((i : ℕ) → InAny i ts → i < n) → (i : ℕ) → InAny i (enter m ts) →
+pub enter-low : (n m : ℕ) (ts : List (List ℕ)) → m < n → ((i : ℕ) → InAny i ts → i < n) → (i : ℕ) → InAny i (enter m ts) →
     i < n
 enter-low n m [] l h i k = absurd k
 enter-low n m (t ∷ ts) l h i (inl (inl e)) = omega arith
 enter-low n m (t ∷ ts) l h i (inl (inr k)) = h i (inl k)
 enter-low n m (t ∷ ts) l h i (inr k) = h i (inr k)
 
-enter-length : (n : ℕ) (ts : List (List ℕ)) → length (enter n ts) ≡ length ts
+pub enter-length : (n : ℕ) (ts : List (List ℕ)) → length (enter n ts) ≡ length ts
 enter-length n [] = refl
 enter-length n (t ∷ ts) = refl
 
@@ -237,7 +237,7 @@ no-thunks j (k ∷ ks) = no-thunks (suc j) ks
 pub field-thunks : (op : ℕ) → op ≡ 0x8C → (ks : List ℕ) → thunks op 0 ks ≡ 0
 field-thunks op e ks = ap (λ (o : ℕ). thunks o 0 ks) e ∙ no-thunks 0 ks
 
-pick-low : (i n : ℕ) (ab : ℕ × ℕ) → ab .0 < n → ab .1 < n → pick i ab < n
+pub pick-low : (i n : ℕ) (ab : ℕ × ℕ) → ab .0 < n → ab .1 < n → pick i ab < n
 pick-low i n ab la lb = go (eqb i 1)
   where
     go : (t : Bool) → elim t [ true ↦ ab .0 | false ↦ ab .1 ] < n

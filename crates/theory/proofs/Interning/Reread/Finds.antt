@@ -21,6 +21,7 @@ use Rattle.laws.proofs.Apart.{none-some}
 use Rattle.laws.proofs.Holds.{Holds, holds-guard}
 use Rattle.laws.proofs.Members.{In, both-and, same-refl}
 use Rattle.theory.proofs.Interning.Good.{symCount}
+use Rattle.theory.proofs.Bounds.Steps.{enter-low, enter-length}
 use Rattle.theory.proofs.Interning.Inv.{InAny}
 use Rattle.theory.proofs.Interning.Push.{newSym, one-more}
 use Rattle.theory.proofs.Interning.Finish.{lookup-found, isKey-true}
@@ -110,18 +111,6 @@ old-found ss y ts low new r ks i e =
         let p : y .rec ≡ r = sym (ap (λ (z : Sym). z .rec) last) ∙ w .0 in
         let q : y .kids ≡ ks = sym (ap (λ (z : Sym). z .kids) last) ∙ w .1 in
         none-some {a = i} (sym new ∙ rw (p, q) e)
-
--- the entries and the number of the tables with the new symbol
-enter-low : (n m : ℕ) (ts : List (List ℕ)) → m < n → ((i : ℕ) → InAny i ts → i < n) → (i : ℕ) → InAny i (enter m ts) →
-    i < n
-enter-low n m [] l h i k = absurd k
-enter-low n m (t ∷ ts) l h i (inl (inl e)) = omega arith
-enter-low n m (t ∷ ts) l h i (inl (inr k)) = h i (inl k)
-enter-low n m (t ∷ ts) l h i (inr k) = h i (inr k)
-
-enter-length : (n : ℕ) (ts : List (List ℕ)) → length (enter n ts) ≡ length ts
-enter-length n [] = refl
-enter-length n (t ∷ ts) = refl
 
 -- ---- the symbol of a key
 

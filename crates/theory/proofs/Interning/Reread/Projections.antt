@@ -16,6 +16,7 @@ use Rattle.model.specs.Intern.{operation, Sym, State, Out, symAt, recall, remem
 use Rattle.model.specs.Intern.{pairProjection}
 use Rattle.laws.proofs.Apart.{none-some}
 use Rattle.laws.proofs.Holds.{Holds, holds-bind}
+use Rattle.theory.proofs.Bounds.Steps.{pick-low}
 use Rattle.theory.proofs.Interning.Good.{symCount}
 use Rattle.theory.proofs.Interning.Finish.{lookup-found, isKey-true}
 use Rattle.theory.proofs.Interning.Reread.Later.{Tabled, Low, Later, later-none, later-then, Calm, calm-still}
@@ -81,13 +82,6 @@ pub record Paired (at cur : ℕ) (r : Rec) (i p : ℕ) (s : State) (o : ℕ × S
   pub there : Tabled s → Low (symCount s) p → p < symCount (o .1)
   pub shape : Tabled s → Low (symCount s) p → eqb (r .shape) 16 ≡ false → isTuple s p ≡ false →
       isTuple (o .1) p ≡ false
-
-pick-low : (i n : ℕ) (ab : ℕ × ℕ) → ab .0 < n → ab .1 < n → pick i ab < n
-pick-low i n ab la lb = go (eqb i 1)
-  where
-    go : (t : Bool) → elim t [ true ↦ ab .0 | false ↦ ab .1 ] < n
-    go true = la
-    go false = lb
 
 module _ (at cur : ℕ) (r : Rec) (i p : ℕ) where
   abbrev fieldRec : ℕ → Rec
