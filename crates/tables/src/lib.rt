@@ -147,12 +147,14 @@ pub fn find(
         (tablesOf (now (work .entry)) t top)) ⌝ }
 {
     let mark = mark_of(forest, work, i, held, count);
+    // the starts alone: they are copied without a call
+    let base = t.base;
     let mut found = Found::Nothing;
     let mut end = top;
     let mut d = t.depth;
     'tables: while 0 < d {
         d -= 1;
-        let start = t.base[d] as usize;
+        let start = base[d] as usize;
         let mut k = end;
         while start < k {
             k -= 1;
