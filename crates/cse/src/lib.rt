@@ -86,11 +86,11 @@ fn planned(forest: &[u8], work: &mut [u32], st: State, root: usize) -> Plan
     ensures { λ r. ⌜ Planned (now (forest .entry)) (now (work .entry)) (now (work .exit))
         (root, absOf (now (forest .entry)) (now (work .entry)) first st) r ⌝ }
 {
-    let symbols = st.symbols;
+    let symbols = st.symbols as usize;
     gate::reach_and_count(work, symbols, root);
     let g = Graph {
         symbols,
-        scopes: st.scopes,
+        scopes: st.scopes as usize,
     };
     materialize::materialize(forest, work, g, root)
 }
@@ -110,7 +110,7 @@ fn accepted(forest: &[u8], out: &mut [u8], work: &mut [u32]) -> Answer
     }
     let st = step.st;
     let p = planned(forest, work, st, step.symbol as usize);
-    write(forest, work, p, out, st.symbols as u32, st.readings)
+    write(forest, work, p, out, st.symbols, st.readings)
 }
 
 // Any forest, once the work words suffice. Rules out: a forest interned that a check refuses; another place.

@@ -94,7 +94,7 @@ fn enter_lambda(
         };
     }
     let first = small::first_of(made.symbol, count);
-    let body = after.scopes;
+    let body = after.scopes as usize;
     let inside = opening::open_body(work, after, cur, first, count as u32);
     let end = bindings::bind_args(forest, work, i, top, first);
     let inner = Here {
@@ -312,7 +312,7 @@ fn child(
     if !thunk {
         return subtree(forest, work, t, i, at, st);
     }
-    let scope = st.scopes;
+    let scope = st.scopes as usize;
     let cur = at.scope;
     let inside = opening::open_thunk(work, st, cur);
     let own = Here {
@@ -321,7 +321,7 @@ fn child(
         top: at.top,
     };
     let top = st.entries;
-    let inner = t.push(top);
+    let inner = t.push(top as usize);
     let r = subtree(forest, work, inner, i, own, inside);
     let step = r.step;
     let last = step.st;

@@ -94,7 +94,7 @@ pub fn with_child(k: Kids, thunk: bool, r: Read) -> Kids
 {
     let before = k.st;
     let b = k.branches;
-    let branches = note(thunk, b, before.scopes);
+    let branches = note(thunk, b, before.scopes as usize);
     let step = r.step;
     let st = step.st;
     Kids {

@@ -28,8 +28,8 @@ use Rattle.tables.proofs.Stack.{entries-sound}
 use Rattle.interner.specs.declared.State.{State}
 use Rattle.interner.specs.declared.Step.{Step}
 use Rattle.interner.specs.State.{absOf, Rep}
-use Rattle.interner.specs.Step.{given, Answers, allocOf, finishOf, newDeps, Keyed}
-use Rattle.interner.proofs.Sharing.{leaves-none, out-given}
+use Rattle.interner.specs.Step.{stepTo, Answers, allocOf, finishOf, newDeps, Keyed}
+use Rattle.interner.proofs.Sharing.{leaves-none, step-found, out-given}
 
 -- ---- what is found is below what all entries are
 
@@ -96,17 +96,22 @@ module _ (bs ws : List ℕ) (t : Tables) (st : State) (cur : ℕ) (node : Node) 
   sought = lookup (symsOf bs ws (st .symbols)) (recOf bs node) (pendingFrom ws held count)
       (tablesOf ws t (st .entries))
 
-  pub found-answers : (s : ℕ) (r : Step) → some s ≡ sought → r ≡ given st s →
-      Answers bs ws t st (finishOf bs ws t st cur node held count) ws r
-  found-answers s r f e =
-      subst (Answers bs ws t st (finishOf bs ws t st cur node held count) ws) (sym e) (record {
+  found-low : (s : ℕ) → some s ≡ sought → s < st .symbols
+  found-low s f =
+      lookup-low (symsOf bs ws (st .symbols)) (recOf bs node) (pendingFrom ws held count) (st .symbols)
+      (tablesOf ws t (st .entries)) s
+      (tables-low ws (st .entries) (st .symbols) (rep .below) (t .base) (t .depth) (st .entries) (opened .starts)
+      (omega arith))
+      (sym f)
+
+  pub found-answers : (s : ℕ) → some s ≡ sought →
+      Answers bs ws t st (finishOf bs ws t st cur node held count) ws (stepTo st node count s)
+  found-answers s f =
+      subst (Answers bs ws t st (finishOf bs ws t st cur node held count) ws)
+      (sym (step-found st node count s (found-low s f))) (record {
         rep = rep;
         leaves = leaves-none ws st;
-        low = lookup-low (symsOf bs ws (st .symbols)) (recOf bs node) (pendingFrom ws held count) (st .symbols)
-            (tablesOf ws t (st .entries)) s
-            (tables-low ws (st .entries) (st .symbols) (rep .below) (t .base) (t .depth) (st .entries)
-            (opened .starts) (omega arith))
-            (sym f);
+        low = found-low s f;
         is = out-given bs ws t st s
             ∙ sym (finish-some (partsOf node .source) cur (recOf bs node) (pendingFrom ws held count) (ownOf bs node)
             (nodeOf bs node) (absOf bs ws t st) s (sym f));

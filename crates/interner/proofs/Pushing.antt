@@ -38,7 +38,7 @@ use Rattle.memo.proofs.Laws as memo
 use Rattle.interner.specs.declared.State.{State}
 use Rattle.interner.specs.Levels.{depsAt, Levelled, ArgLevels}
 use Rattle.interner.specs.State.{absOf, MemoBelow, Sourced, Rep}
-use Rattle.interner.specs.Step.{Fresh, Stored, Levels, Pushed, newDeps}
+use Rattle.interner.specs.Step.{Fresh, Stored, Levels, Pushed, newDeps, withSymbol}
 use Rattle.interner.proofs.Tracks.{climb-low}
 use Rattle.interner.proofs.Same.{Same, symbol-same, rep-same}
 
@@ -49,17 +49,6 @@ memo-more n m (t ∷ ts) le b =
 
 pub records-few : (bs : List ℕ) → Laid bs → recordCount bs ≤ 256
 records-few bs laid = header-of bs (laid .header) .records-most
-
--- the state after it
-abbrev pub pushedState : State → ℕ → State
-pushedState st count = record {
-  entries = st .entries;
-  symbols = st .symbols + 1;
-  slots = st .slots + count;
-  scopes = st .scopes;
-  memo = st .memo;
-  readings = st .readings;
-}
 
 -- the symbol
 abbrev pub newSymbol : State → Node → ℕ → ℕ → ℕ → Symbol
@@ -135,7 +124,7 @@ module _ (bs ws : List ℕ) (st : State) (cur : ℕ) (node : Node) (held count l
     syms-new = syms-made ws (st .symbols) held y room bs (st .slots) (omega arith) (rep .sound)
 
     abbrev st₁ : State
-    st₁ = pushedState st count
+    st₁ = withSymbol st count
 
     abs-pushed : (t : Tables) → Open t (st .entries) → absOf bs ws₁ t st₁
         ≡ push cur (recOf bs node) (pendingFrom ws held count) deps false (nodeOf bs node) (absOf bs ws t st)
@@ -230,6 +219,7 @@ module _ (bs ws : List ℕ) (st : State) (cur : ℕ) (node : Node) (held count l
 
     pub pushed : Pushed bs ws st cur node held count levels ws₁ st₁
     pushed = record {
+      state = refl;
       rep = rep-pushed;
       leaves = record {
         long = same .long;

@@ -1,5 +1,5 @@
--- A new symbol in the newest table, and the answers of model's `alloc`. In order: entering; answers; the steps of
--- `alloc`.
+-- A new symbol in the newest table, and the answers of model's `alloc`. In order: entering; the step to a symbol;
+-- answers; the steps of `alloc`.
 -- Assumes nothing.
 use Prim.Native.Nat.{ℕ, _+_, _*_, _<_, _≤_}
 use mathlib.Core.Path.{_≡_, refl, sym, ap, _∙_, subst}
@@ -26,7 +26,8 @@ use Rattle.tables.proofs.Stack.{entered-tables, entered-below, entered-marked}
 use Rattle.interner.specs.declared.State.{State}
 use Rattle.interner.specs.declared.Step.{Step}
 use Rattle.interner.specs.State.{absOf, Rep}
-use Rattle.interner.specs.Step.{outOf, given, overFull, entered, Leaves, newDeps, Pushed, allocOf, Answers}
+use Rattle.interner.specs.Step.{outOf, given, overFull, withSymbol, entered, stepTo, Leaves, newDeps}
+use Rattle.interner.specs.Step.{Pushed, allocOf, Answers}
 use Rattle.interner.proofs.Same.{Same, abs-same, rep-same}
 
 -- ---- entering
@@ -129,6 +130,21 @@ leaves-none ws st = record {
   more = omega arith;
 }
 
+-- ---- the step to a symbol
+
+module _ (st : State) (node : Node) (count s : ℕ) where
+  pub step-found : s < st .symbols → stepTo st node count s ≡ given st s
+  unfolding stepTo
+  step-found lt = rw (lt-ltb s (st .symbols) lt)
+
+  pub step-new : st .symbols ≤ s → s < 512 → stepTo st node count s ≡ given (entered (withSymbol st count)) s
+  unfolding stepTo
+  step-new le lt = rw (le-ltb s (st .symbols) le, lt-ltb s 512 lt)
+
+  pub step-full : st .symbols ≤ s → 512 ≤ s → stepTo st node count s ≡ overFull st node
+  unfolding stepTo
+  step-full le full = rw (le-ltb s (st .symbols) le, le-ltb s 512 full)
+
 -- ---- answers
 
 pub out-given : (bs ws : List ℕ) (t : Tables) (st : State) (s : ℕ) →
@@ -167,10 +183,11 @@ module _ (bs ws : List ℕ) (t : Tables) (st : State) (cur : ℕ) (node : Node) 
   unfolding alloc guard
   alloc-full shared full = rw (syms-length bs ws (st .symbols), le-ltb (st .symbols) 512 full)
 
-  pub full-answers : (shared : Bool) (r : Step) → Rep bs ws st → 512 ≤ st .symbols → r ≡ overFull st node →
-      Answers bs ws t st (allocOf bs ws t st cur node held count shared) ws r
-  full-answers shared r rep full e =
-      subst (Answers bs ws t st (allocOf bs ws t st cur node held count shared) ws) (sym e) (record {
+  pub full-answers : (shared : Bool) → Rep bs ws st → 512 ≤ st .symbols →
+      Answers bs ws t st (allocOf bs ws t st cur node held count shared) ws (stepTo st node count 512)
+  full-answers shared rep full =
+      subst (Answers bs ws t st (allocOf bs ws t st cur node held count shared) ws)
+      (sym (step-full st node count 512 (rep .few-symbols) (omega arith))) (record {
         rep = rep;
         leaves = leaves-none ws st;
         low = omega arith;
@@ -216,13 +233,19 @@ module _ (bs ws : List ℕ) (t : Tables) (st : State) (cur : ℕ) (node : Node) 
         (sym (key-opcode bs (partsOf node .source) (partsOf node .field)))
         ∙ sym (done .marked)
 
+    step-shared : stepTo st node count (st .symbols) ≡ given (entered st₁) (st .symbols)
+    step-shared =
+        step-new st node count (st .symbols) (omega arith) few
+        ∙ ap (λ (z : State). given (entered z) (st .symbols)) (sym (done .state))
+
     pub shared-answers : (p : Parts) → p ≡ partsOf node →
         m ≡ mark (rowAt bs (p .source) .rec .opcode) (pendingFrom ws held count) →
-        (ws′ : List ℕ) (r : Step) → ws′ ≡ ws₂ → r ≡ given (entered st₁) (st .symbols) →
-        Answers bs ws t st (allocOf bs ws t st cur node held count true) ws′ r
-    shared-answers p is h ws′ r d e =
-        subst (λ (z : List ℕ). Answers bs ws t st (allocOf bs ws t st cur node held count true) z r) (sym d)
-        (subst (Answers bs ws t st (allocOf bs ws t st cur node held count true) ws₂) (sym e) (record {
+        (ws′ : List ℕ) → ws′ ≡ ws₂ →
+        Answers bs ws t st (allocOf bs ws t st cur node held count true) ws′ (stepTo st node count (st .symbols))
+    shared-answers p is h ws′ d =
+        subst (λ (z : List ℕ). Answers bs ws t st (allocOf bs ws t st cur node held count true) z
+        (stepTo st node count (st .symbols))) (sym d)
+        (subst (Answers bs ws t st (allocOf bs ws t st cur node held count true) ws₂) (sym step-shared) (record {
           rep = rep-entered bs ws₁ t st₁ (st .symbols) m (done .rep) still-open room-entry newest
               (omega (arith, done .symbols, done .entries, rep .few-entries)) (own-mark p is h);
           leaves = leaves-then ws ws₁ ws₂ st st₁ (entered st₁) (done .leaves)

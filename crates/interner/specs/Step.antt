@@ -6,7 +6,7 @@ use mathlib.Core.Path.{_≡_}
 use mathlib.Core.Bool.{Bool, true, false, not, _&&_}
 use mathlib.Core.Option.{some}
 use mathlib.Core.List.{List, [], _∷_}
-use lib.Dec.{eqb}
+use lib.Dec.{eqb, ltb}
 use lib.ListN.{length, getD}
 use Rattle.model.specs.Answer.{refused, good}
 use Rattle.model.specs.Forest.{recordCount}
@@ -49,6 +49,17 @@ given st s = record { st = st; symbol = s; number = 0; place = 0 }
 abbrev pub overFull : State → Node → Step
 overFull st node = record { st = st; symbol = 0; number = 12; place = partsOf node .source }
 
+-- one symbol more, with `count` child slots
+abbrev pub withSymbol : State → ℕ → State
+withSymbol st count = record {
+  entries = st .entries;
+  symbols = st .symbols + 1;
+  slots = st .slots + count;
+  scopes = st .scopes;
+  memo = st .memo;
+  readings = st .readings;
+}
+
 -- one entry more
 abbrev pub entered : State → State
 entered st = record {
@@ -59,6 +70,19 @@ entered st = record {
   memo = st .memo;
   readings = st .readings;
 }
+
+-- the step to symbol s, for a node over `count` children: it stands already, or it is new, or, from 512 on, there is no
+-- room for it
+abbrev pub newStep : State → Node → ℕ → ℕ → Bool → Step
+newStep st node count s true = given (entered (withSymbol st count)) s
+newStep st node count s false = overFull st node
+
+abbrev pub stepOf : State → Node → ℕ → ℕ → Bool → Step
+stepOf st node count s true = given st s
+stepOf st node count s false = newStep st node count s (ltb s 512)
+
+unfoldable pub stepTo : State → Node → ℕ → ℕ → Step
+stepTo st node count s = stepOf st node count s (ltb s (st .symbols))
 
 -- what a step from words ws and state st to words ws′ leaves: pending symbols and bindings, and all words after them;
 -- scopes and readings; entries are only added
@@ -106,6 +130,7 @@ pub record Pushed (bs ws : List ℕ) (st : State) (cur : ℕ) (node : Node) (hel
     (r : State) : Type 0 where
   pub rep : Rep bs ws′ r
   pub leaves : Leaves ws ws′ st r
+  pub state : r ≡ withSymbol st count
   pub entries : r .entries ≡ st .entries
   pub symbols : r .symbols ≡ st .symbols + 1
   pub memo : r .memo ≡ st .memo

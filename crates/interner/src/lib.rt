@@ -1,5 +1,7 @@
 // Interning's state, and its symbols, new or found (interner.rs). In order: the state; a new symbol; the symbol of a
 // key; a lambda's arguments; projections, the steps of which are in projections.rt.
+// A symbol that is found or made is given as a number alone, from which the state after it follows: a number comes back
+// in a register, a state through memory.
 mod projections;
 
 use key::Leaf;
@@ -13,7 +15,7 @@ ghost use mathlib.Core.Path.{_≡_};
 ghost use mathlib.Core.Bool.{true};
 ghost use Prim.Native.Nat.{ℕ, _+_, _*_, _<_, _≤_};
 ghost use lib.Dec.{eqb};
-ghost use lib.ListN.{length, getD, set};
+ghost use lib.ListN.{length, getD};
 ghost use Rattle.levels.specs.Levels.{has};
 ghost use Rattle.scopes.specs.Scopes.{scopeWord, levelOf};
 ghost use Rattle.symbols.specs.Words.{pendingFrom};
@@ -25,18 +27,19 @@ ghost use Rattle.key.specs.Key.{partsOf};
 ghost use Rattle.interner.specs.State.{absOf, Rep, Started};
 ghost use Rattle.interner.specs.Step.{Fresh, Levels, Pushed, Answers, Ready, Binds, Bindings};
 ghost use Rattle.interner.specs.Step.{Projects};
-ghost use Rattle.interner.specs.Step.{newDeps, given, overFull, entered, allocOf, keyLevels, finishOf};
+ghost use Rattle.interner.specs.Step.{newDeps, given, overFull, stepTo, allocOf, keyLevels, finishOf};
 ghost use Rattle.interner.specs.Levels.{anyHas};
 
 // How many entries the open tables have; how many symbols, child slots, scopes and projections there are; the readings
 // so far. The stack of open tables goes beside it, and is handed down only: a thunk's table is dropped at its end.
+// The order of the fields matters for speed: those that are stored one by one are not loaded two at a time.
 pub struct State {
-    pub entries: usize,
-    pub symbols: usize,
-    pub slots: usize,
-    pub scopes: usize,
-    pub memo: usize,
     pub readings: u32,
+    pub entries: u32,
+    pub symbols: u32,
+    pub slots: u32,
+    pub scopes: u32,
+    pub memo: u32,
 }
 
 // A symbol and the state after it; or, where `number` is not 0, a refusal with that number, at record `place`.
@@ -87,16 +90,16 @@ fn push(
     let scope = scopes::placement(work, cur, levels);
     let y = Symbol {
         node,
-        kids: slots as u32,
+        kids: slots,
         count: count as u32,
         scope: scope as u32,
         levels,
     };
-    symbols::make(work, n, held, y);
+    symbols::make(work, n as usize, held, y);
     State {
         entries: st.entries,
         symbols: n + 1,
-        slots: slots + count,
+        slots: slots + count as u32,
         scopes: st.scopes,
         memo: st.memo,
         readings: st.readings,
@@ -128,27 +131,8 @@ fn over_full(st: State, node: Node) -> Step
     }
 }
 
-// The newest symbol, entered in the newest table with its mark.
-fn enter(work: &mut [u32], st: State, symbol: u32, mark: u32) -> Step
-    requires { ⌜ (st .entries < 512) × (symbol < 512) × (mark < 131072) × (7688 ≤ length (now work)) ⌝ }
-    ensures { λ r.
-        ⌜ (now (work .exit) ≡ set (now (work .entry)) (7176 + st .entries) (symbol + 512 * mark))
-        × (r ≡ given (entered st) symbol) ⌝ }
-{
-    let top = st.entries;
-    tables::enter(work, top, symbol, mark);
-    let next = State {
-        entries: top + 1,
-        symbols: st.symbols,
-        slots: st.slots,
-        scopes: st.scopes,
-        memo: st.memo,
-        readings: st.readings,
-    };
-    given(next, symbol)
-}
-
-// A new symbol that can be found again. Rules out: one that is in no table, or in the oldest; a 513th symbol.
+// A new symbol that can be found again; 512 where there is no room for one. Rules out: one that is in no table, or in
+// the oldest; a 513th symbol.
 pub fn alloc(
     forest: &[u8],
     work: &mut [u32],
@@ -158,23 +142,26 @@ pub fn alloc(
     held: usize,
     count: usize,
     levels: u64,
-) -> Step
+) -> u32
     requires { ⌜ Laid (now forest) ⌝ }
     requires { ⌜ Rep (now forest) (now work) st ⌝ }
     requires { ⌜ Fresh (now forest) (now work) st cur node held count ⌝ }
     requires { ⌜ Levels (now work) st cur (newDeps (now forest) (now work) st node held count) levels ⌝ }
-    ensures { λ r.
+    ensures { λ s.
         ⌜ ((t : Tables) → Open t (st .entries) → Answers (now (forest .entry)) (now (work .entry)) t st
-        (allocOf (now (forest .entry)) (now (work .entry)) t st cur node held count true) (now (work .exit)) r) ⌝ }
+        (allocOf (now (forest .entry)) (now (work .entry)) t st cur node held count true) (now (work .exit))
+        (stepTo st node count s)) ⌝ }
 {
     let n = st.symbols;
     if n < 512 {
         let p = key::parts_of(node);
         let mark = tables::mark_of(forest, work, p.source as usize, held, count);
         let next = push(forest, work, st, cur, node, held, count, levels);
-        return enter(work, next, n as u32, mark);
+        let top = next.entries as usize;
+        tables::enter(work, top, n, mark);
+        return n;
     }
-    over_full(st, node)
+    512
 }
 
 // The levels of the pending children from `held` on.
@@ -212,8 +199,72 @@ fn key_levels(work: &[u32], node: Node, held: usize, count: usize) -> u64
     levels::without(all, w / 67108864)
 }
 
-// The symbol of a node over the pending children from `held` on: the one that has its key, or a new one. Rules out: a
-// second symbol for a key that an open table has; a symbol placed inside a lambda that it does not depend on.
+// The symbol of a node over the pending children from `held` on: the one that has its key, or a new one, or 512. Rules
+// out: a second symbol for a key that an open table has; a symbol placed inside a lambda that it does not depend on.
+pub fn find_or_make(
+    forest: &[u8],
+    work: &mut [u32],
+    t: Tables,
+    st: State,
+    cur: usize,
+    node: Node,
+    held: usize,
+    count: usize,
+) -> u32
+    requires { ⌜ Laid (now forest) ⌝ }
+    requires { ⌜ Rep (now forest) (now work) st ⌝ }
+    requires { ⌜ Open t (st .entries) ⌝ }
+    requires { ⌜ Ready (now forest) (now work) st cur node held count ⌝ }
+    ensures { λ s.
+        ⌜ Answers (now (forest .entry)) (now (work .entry)) t st
+        (finishOf (now (forest .entry)) (now (work .entry)) t st cur node held count) (now (work .exit))
+        (stepTo st node count s) ⌝ }
+{
+    let p = key::parts_of(node);
+    let top = st.entries as usize;
+    match tables::find(
+        forest,
+        work,
+        t,
+        top,
+        p.source as usize,
+        p.field,
+        held,
+        count,
+    ) {
+        Found::At(s) => s,
+        Found::Nothing => {
+            let levels = key_levels(work, node, held, count);
+            alloc(forest, work, st, cur, node, held, count, levels)
+        }
+    }
+}
+
+// The step to symbol s, which was found or made for a node over `count` children. Rules out: a symbol that is found
+// counted as a new one; a symbol where there was no room for one.
+pub fn step_to(st: State, node: Node, count: usize, s: u32) -> Step
+    requires { ⌜ (st .entries ≤ 512) × (st .symbols ≤ 512) × (st .slots + count ≤ 2560) ⌝ }
+    ensures { λ r. ⌜ r ≡ stepTo st node count s ⌝ }
+{
+    if s < st.symbols {
+        return given(st, s);
+    }
+    if s < 512 {
+        let next = State {
+            readings: st.readings,
+            entries: st.entries + 1,
+            symbols: st.symbols + 1,
+            slots: st.slots + count as u32,
+            scopes: st.scopes,
+            memo: st.memo,
+        };
+        return given(next, s);
+    }
+    over_full(st, node)
+}
+
+// The symbol of a node over the pending children from `held` on, and the state after it. Rules out: a new symbol's
+// state for one that is found; a refusal where the key is found and there are 512 symbols.
 pub fn finish(
     forest: &[u8],
     work: &mut [u32],
@@ -232,24 +283,8 @@ pub fn finish(
         ⌜ Answers (now (forest .entry)) (now (work .entry)) t st
         (finishOf (now (forest .entry)) (now (work .entry)) t st cur node held count) (now (work .exit)) r ⌝ }
 {
-    let p = key::parts_of(node);
-    let top = st.entries;
-    match tables::find(
-        forest,
-        work,
-        t,
-        top,
-        p.source as usize,
-        p.field,
-        held,
-        count,
-    ) {
-        Found::At(s) => given(st, s),
-        Found::Nothing => {
-            let levels = key_levels(work, node, held, count);
-            alloc(forest, work, st, cur, node, held, count, levels)
-        }
-    }
+    let s = find_or_make(forest, work, t, st, cur, node, held, count);
+    step_to(st, node, count, s)
 }
 
 // The level of the arguments of a lambda in scope `cur`, alone.
@@ -280,7 +315,7 @@ pub fn alloc_args(
 {
     let n = st.symbols;
     let node = Node::Arg(Leaf { source: at });
-    if 512 < n + count {
+    if 512 < n as usize + count {
         return over_full(st, node);
     }
     let levels = level_inside(work, cur);
@@ -290,7 +325,7 @@ pub fn alloc_args(
         s = push(forest, work, s, cur, node, 0, 0, levels);
         k += 1;
     }
-    given(s, n as u32)
+    given(s, n)
 }
 
 // Field `field` of the pending symbol at `held`, for record `at`. Rules out: the other field; a projection that is not
@@ -315,7 +350,7 @@ pub fn pair_projection(
         (absOf (now (forest .entry)) (now (work .entry)) t st)) (now (work .exit)) r ⌝ }
 {
     let p = work[PENDING + held];
-    match memo::recall(work, st.memo, p) {
+    match memo::recall(work, st.memo as usize, p) {
         Projections::Pair(a, b) => projections::picked(st, field, a, b),
         Projections::Nothing => projections::new_projections(
             forest,

@@ -45,7 +45,8 @@ pub fn projection(
         first: 0,
         second: 0,
     });
-    crate::finish(forest, work, t, st, cur, node, held, 1)
+    let s = crate::find_or_make(forest, work, t, st, cur, node, held, 1);
+    crate::step_to(st, node, 1, s)
 }
 
 // Field 1 or 2, of which the symbols are a and b. Rules out: the other one; a refusal.
@@ -68,7 +69,7 @@ pub fn remember(work: &mut [u32], st: State, p: u32, a: u32, b: u32, field: u32)
         × (r ≡ given (withPair st) (pick field (a, b))) ⌝ }
 {
     let k = st.memo;
-    memo::remember(work, k, p, a, b);
+    memo::remember(work, k as usize, p, a, b);
     let next = State {
         entries: st.entries,
         symbols: st.symbols,

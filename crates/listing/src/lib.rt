@@ -34,7 +34,7 @@ fn list_symbols(forest: &[u8], out: &mut [u8], work: &mut [u32]) -> usize
 {
     let step = intern::forest(forest, work);
     let st = step.st;
-    let n = st.symbols;
+    let n = st.symbols as usize;
     count_uses(work, n);
     lines::put_symbols(forest, work, n, out)
 }

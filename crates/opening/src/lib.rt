@@ -54,13 +54,13 @@ pub fn open_thunk(work: &mut [u32], st: State, cur: usize) -> State
         ⌜ (now (work .exit) ≡ withThunk (now (work .entry)) (st .scopes) cur) × (r ≡ withScope st) ⌝ }
 {
     let m = st.scopes;
-    scopes::open_thunk(work, m, cur);
+    scopes::open_thunk(work, m as usize, cur);
     with_scope(st)
 }
 
 // A thunk's table is dropped: of the entries the first `top` are left, those from before it. Rules out: its symbols
 // found after it; entries around it dropped too.
-pub fn close_thunk(st: State, top: usize) -> State
+pub fn close_thunk(st: State, top: u32) -> State
     ensures { λ r. ⌜ r ≡ thunkClosed st top ⌝ }
 {
     State {
@@ -84,6 +84,6 @@ pub fn open_body(work: &mut [u32], st: State, cur: usize, first: u32, count: u32
         ⌜ (now (work .exit) ≡ withLambda (now (work .entry)) (st .scopes) cur first count) × (r ≡ withScope st) ⌝ }
 {
     let m = st.scopes;
-    scopes::open_lambda(work, m, cur, first, count);
+    scopes::open_lambda(work, m as usize, cur, first, count);
     with_scope(st)
 }

@@ -45,14 +45,14 @@ planned-requires c κs =
 
 write-requires : tie.Need-write-requires
 write-requires c κs =
-    let p = c .before .before .before .before .before in
+    let p = c .before .before .before .before in
     let b = p .before .before .before .before .before .before .before .before .before .before .before .before .before in
     let bs = now (b .args .forest) in
     (accept-passed bs (treesOf bs) (b .pre .0) .shaped .sound .laid, p .planned .ensures .ready)
 
 returns-2 : tie.Need-returns-2
 returns-2 c =
-    let p = c .before .before .before .before .before .before .before .before in
+    let p = c .before .before .before .before .before .before .before in
     let s = p .before .before .before .before in
     let f = s .before .before .before .before in
     let b = f .before .before .before .before .before in
@@ -72,4 +72,4 @@ returns-2 c =
 pub accepted-spec : {M : Type 1} → statement M
 accepted-spec =
     tie.close (tie.spec (λ c κs. search needs) (λ c. search needs) returns (λ c. search needs) planned-requires
-    (λ c. search needs) write-requires (λ c. search needs) (λ c. search needs) returns-2)
+    write-requires (λ c. search needs) (λ c. search needs) returns-2)

@@ -13,7 +13,7 @@ use Rattle.cse.proofs.planned.Tie as tie
 
 reach-and-count-requires : tie.Need-reach-and-count-requires
 reach-and-count-requires c κs =
-    let b = c .before .before .before in
+    let b = c .before .before .before .before in
     let bs = now (b .args .forest) in
     let ws = now (b .args .work) in
     let st = b .args .st in (
@@ -23,8 +23,8 @@ reach-and-count-requires c κs =
 
 materialize-requires : tie.Need-materialize-requires
 materialize-requires c κs =
-    let u = c .before .before .before in
-    let b = u .before .before .before .before in
+    let u = c .before .before .before .before in
+    let b = u .before .before .before .before .before in
     let bs = now (b .args .forest) in
     let ws = now (b .args .work) in
     let st = b .args .st in
@@ -43,8 +43,8 @@ materialize-requires c κs =
 returns : tie.Need-returns
 returns c =
     let m = c .before .before in
-    let u = m .before .before .before .before in
-    let b = u .before .before .before .before in
+    let u = m .before .before .before .before .before in
+    let b = u .before .before .before .before .before in
     let rep = b .pre .1 .0 in
     planned-tree (now (b .args .forest)) (now (b .args .work)) (b .args .st) rep (b .args .root)
     (u .reach-and-count .last .0) (u .reach-and-count .ensures) (m .materialize .last .1 .0) (m .materialize .result)
@@ -52,4 +52,5 @@ returns c =
 
 pub planned-spec : {M : Type 1} → statement M
 planned-spec =
-    tie.close (tie.spec reach-and-count-requires materialize-requires (λ c. search needs) returns)
+    tie.close (tie.spec (λ c. search needs) reach-and-count-requires (λ c. search needs) materialize-requires
+    (λ c. search needs) returns)

@@ -62,7 +62,7 @@ first-of-requires c κs =
 
 open-body-requires : tie.Need-open-body-requires
 open-body-requires c κs =
-    let c1 = c .before in
+    let c1 = c .before .before in
     let c2 = c1 .before in
     let c7 = c2 .before .before .before .before .before in
     let c9 = c7 .before .before in
@@ -81,7 +81,7 @@ open-body-requires c κs =
 bind-args-requires : tie.Need-bind-args-requires
 bind-args-requires c κs =
     let c3 = c .before .before .before in
-    let c5 = c3 .before .before in
+    let c5 = c3 .before .before .before in
     let c6 = c5 .before in
     let c11 = c6 .before .before .before .before .before in
     let c13 = c11 .before .before in
@@ -103,7 +103,7 @@ returns-2 : tie.Need-returns-2
 returns-2 c =
     let c2 = c .before .before in
     let c6 = c2 .before .before .before .before in
-    let c8 = c6 .before .before in
+    let c8 = c6 .before .before .before in
     let c9 = c8 .before in
     let c14 = c9 .before .before .before .before .before in
     let c16 = c14 .before .before in
@@ -124,4 +124,5 @@ returns-2 c =
 pub enter-lambda-spec : {M : Type 1} → statement M
 enter-lambda-spec =
     tie.close (tie.spec aux-requires (λ c κs. search needs) cast-alloc-args alloc-args-requires (λ c. search needs)
-    returns first-of-requires (λ c. search needs) open-body-requires bind-args-requires (λ c. search needs) returns-2)
+    returns first-of-requires (λ c. search needs) (λ c. search needs) open-body-requires bind-args-requires
+    (λ c. search needs) returns-2)

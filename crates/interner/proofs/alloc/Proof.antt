@@ -34,7 +34,7 @@ push-requires c κs =
 
 enter-requires : tie.Need-enter-requires
 enter-requires c κs =
-    let q = c .before .before .before in
+    let q = c .before .before .before .before in
     let m = q .before .before in
     let t = m .before .before .before .before in
     let rep = t .before .before .before .pre .1 .0 in (
@@ -47,24 +47,23 @@ enter-requires c κs =
 returns : tie.Need-returns
 returns c =
     let e = c .before .before in
-    let q = e .before .before .before .before in
+    let q = e .before .before .before .before .before in
     let m = q .before .before in
     let p = m .before .before .before in
     let s = p .before .before .before .before in
     let a = s .args in
     λ t opened. shared-answers (now (a .forest)) (now (a .work)) t (a .st) (a .cur) (a .node) (a .held) (a .count) _
     (q .push .result) (a .levels) (m .mark-of .result) (p .before .if1 .taken) (s .pre .1 .0) opened (q .push .ensures)
-    (p .parts-of .result) (p .parts-of .ensures) (m .mark-of .ensures .0) _
-    (e .enter .result) (e .enter .ensures .0) (e .enter .ensures .1)
+    (p .parts-of .result) (p .parts-of .ensures) (m .mark-of .ensures .0) _ (e .enter .ensures)
 
 returns-2 : tie.Need-returns-2
 returns-2 c =
-    let s = c .before .before .before .before in
+    let s = c .before .before .before in
     let a = s .args in
     λ t opened. full-answers (now (a .forest)) (now (a .work)) t (a .st) (a .cur) (a .node) (a .held) (a .count) true
-    (c .over-full .result) (s .pre .1 .0) (c .before .if1 .left) (c .over-full .ensures)
+    (s .pre .1 .0) (c .if1 .left)
 
 pub alloc-spec : {M : Type 1} → statement M
 alloc-spec =
     tie.close (tie.spec (λ c κs. search needs) (λ c. search needs) mark-of-requires push-requires (λ c. search needs)
-    enter-requires (λ c. search needs) returns (λ c κs. search needs) returns-2)
+    enter-requires (λ c. search needs) returns returns-2)

@@ -11,7 +11,7 @@ new-projections-requires : tie.Need-new-projections-requires
 new-projections-requires c κs =
     let t = c .before in
     let r = t .before .before in
-    let s = r .before .before .before .before .before in (
+    let s = r .before .before .before .before .before .before in (
       s .pre .0,
       (
         s .pre .1 .0,
@@ -26,7 +26,7 @@ returns : tie.Need-returns
 returns c =
     let w = c .before .before in
     let r = w .before .before in
-    let s = r .before .before .before .before .before in
+    let s = r .before .before .before .before .before .before in
     let a = s .args in
     recalled (now (a .forest)) (now (a .work)) (a .t) (a .st) (a .cur) (a .at) (a .held) (a .field) _ _
     (c .picked .result) (s .pre .1 .0) (sym (r .recall .ensures) ∙ ap projectionsOf (w .a .given .1))
@@ -37,7 +37,7 @@ returns-2 c =
     let m = c .before .before in
     let t = m .before .before in
     let r = t .before .before in
-    let s = r .before .before .before .before .before in
+    let s = r .before .before .before .before .before .before in
     let a = s .args in
     not-recalled (now (a .forest)) (now (a .work)) (a .t) (a .st) (a .cur) (a .at) (a .held) (a .field) _
     (m .new-projections .result) (sym (r .recall .ensures) ∙ ap projectionsOf (t .enum-told .given .1))
@@ -45,6 +45,6 @@ returns-2 c =
 
 pub pair-projection-spec : {M : Type 1} → statement M
 pair-projection-spec =
-    tie.close (tie.spec (λ c. search needs) (λ c. search needs) (λ c. search needs) (λ c κs. search needs)
+    tie.close (tie.spec (λ c. search needs) (λ c. search needs) (λ c. search needs) (λ c. search needs) (λ c κs. search needs)
     (λ c. search needs) (λ c κs. search needs) (λ c. search needs) new-projections-requires (λ c. search needs) returns
     (λ c. search needs) returns-2)

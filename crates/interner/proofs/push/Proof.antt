@@ -17,7 +17,7 @@ placement-requires c κs =
       nested-less _ (s .args .st .scopes) (s .args .cur + 1) (omega (arith, fresh .current)) (rep .nested),
     )
 
-cast-scope : tie.Need-cast-t17
+cast-scope : tie.Need-cast-t16
 cast-scope c =
     let s = c .before .before .before .before in
     let p = s .pre .1 in
@@ -47,5 +47,5 @@ returns c =
 pub push-spec : {M : Type 1} → statement M
 push-spec =
     tie.close
-    (tie.spec placement-requires (λ c. search needs) (λ c. search needs) cast-scope make-requires
+    (tie.spec placement-requires (λ c. search needs) cast-scope (λ c. search needs) make-requires (λ c. search needs)
     (λ c. search needs) (λ c. search needs) (λ c. search needs) returns)

@@ -12,14 +12,14 @@ use Rattle.listing.proofs.list_symbols.Tie as tie
 
 count-uses-requires : tie.Need-count-uses-requires
 count-uses-requires c κs =
-    let f = c .before .before .before .before in
+    let f = c .before .before .before .before .before in
     let b = f .before .before .before .before .before in
     symbols-stored (now (b .args .forest)) (f .forest .last .1 .0) (f .forest .result .st) (f .forest .ensures .rep)
 
 put-symbols-requires : tie.Need-put-symbols-requires
 put-symbols-requires c κs =
     let a = c .before .before .before .before in
-    let f = a .before .before .before .before .before in
+    let f = a .before .before .before .before .before .before in
     let b = f .before .before .before .before .before in (
       listable (now (b .args .forest)) (f .forest .last .1 .0) (f .forest .result) (f .forest .ensures .rep)
           (a .count-uses .last .0) (a .count-uses .ensures) (b .pre .0) (a .count-uses .kept .0),
@@ -30,7 +30,7 @@ returns : tie.Need-returns
 returns c =
     let u = c .before .before in
     let a = u .before .before .before .before .before in
-    let f = a .before .before .before .before .before in
+    let f = a .before .before .before .before .before .before in
     let b = f .before .before .before .before .before in
     let wrote = u .put-symbols .ensures in (
       λ o e.
@@ -42,5 +42,5 @@ returns c =
 
 pub list-symbols-spec : {M : Type 1} → statement M
 list-symbols-spec =
-    tie.close (tie.spec (λ c κs. search needs) count-uses-requires put-symbols-requires (λ c. search needs)
+    tie.close (tie.spec (λ c κs. search needs) (λ c. search needs) count-uses-requires put-symbols-requires (λ c. search needs)
     (λ c. search needs) returns)

@@ -50,14 +50,16 @@ child-part t =
     child-plainly (now (a .forest)) (now (a .work)) (a .t) (a .st) (a .i) (a .thunk) (a .at) (c7 .pre .1 .1 .1)
     (not-true _ (c4 .if1 .taken)) _ _
     (c2 .subtree .ensures))
-    (λ c κs. let c1 = c .before in
+    (λ c. search needs)
+    (λ c κs. let c1 = c .before .before in
     let c4 = c1 .before .before .before in
     let a = c4 .args in
     let p = c4 .pre .1 in
     let room = child-room (now (a .forest)) (now (a .work)) (a .t) (a .st) (a .i) (a .thunk) (a .at) (p .1 .1)
     (not-false _ (c1 .if1 .left)) in
     (room .0, (room .1, room .2)))
-    (λ c κs. let c4 = c .before .before .before .before in
+    (λ c. search needs)
+    (λ c κs. let c4 = c .before .before .before .before .before in
     let c7 = c4 .before .before .before in
     let a = c7 .args in
     let room = child-room (now (a .forest)) (now (a .work)) (a .t) (a .st) (a .i) (a .thunk) (a .at) (c7 .pre .1 .1 .1)
@@ -65,7 +67,7 @@ child-part t =
     (room .3, room .4))
     (λ c κs. let c1 = c .before in
     let c4 = c1 .before .before .before in
-    let c6 = c4 .before .before in
+    let c6 = c4 .before .before .before in
     let c9 = c6 .before .before .before in
     let a = c9 .args in
     let p = c9 .pre .1 in
@@ -82,7 +84,7 @@ child-part t =
     (λ c. let c5 = c .before .before .before .before .before in
     let c7 = c5 .before .before in
     let c10 = c7 .before .before .before in
-    let c12 = c10 .before .before in
+    let c12 = c10 .before .before .before in
     let c15 = c12 .before .before .before in
     let a = c15 .args in
     let o = c10 .open-thunk in

@@ -5,8 +5,8 @@ use Rattle.interner.proofs.Fields.{field-ready, field-answers}
 use Rattle.interner.proofs.projections.projection.Statement.{statement}
 use Rattle.interner.proofs.projections.projection.Tie as tie
 
-finish-requires : tie.Need-finish-requires
-finish-requires c κs =
+find-or-make-requires : tie.Need-find-or-make-requires
+find-or-make-requires c κs =
     let s = c .before .before .before in
     let a = s .args in
     let p = s .pre .1 in (
@@ -23,11 +23,12 @@ finish-requires c κs =
 
 returns : tie.Need-returns
 returns c =
-    let f = c .before .before in
+    let f = c .before .before .before in
     let s = f .before .before .before .before in
     let a = s .args in
     field-answers (now (a .forest)) (now (a .work)) (a .t) (a .st) (a .cur) (a .at) (a .field) (a .held) _
-    (f .finish .result) (s .pre .1 .1 .1 .1 .0) (f .finish .ensures)
+    (c .step-to .result) (s .pre .1 .1 .1 .1 .0) (rw (c .step-to .ensures) (f .find-or-make .ensures))
 
 pub projection-spec : {M : Type 1} → statement M
-projection-spec = tie.close (tie.spec finish-requires (λ c. search needs) returns)
+projection-spec =
+    tie.close (tie.spec find-or-make-requires (λ c κs. search needs) (λ c. search needs) returns)
