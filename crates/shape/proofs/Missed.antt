@@ -16,7 +16,7 @@ abbrev pub Absent : ℕ → List ℕ → Type 0
 Absent n [] = Unit
 Absent n (x ∷ xs) = (n ≡ x → ⊥) × Absent n xs
 
-before : (n : ℕ) (xs : List ℕ) (seen : Type 0) → Missed n seen xs → seen × Absent n xs
+pub before : (n : ℕ) (xs : List ℕ) (seen : Type 0) → Missed n seen xs → seen × Absent n xs
 before n [] seen m = (m, tt)
 before n (x ∷ xs) seen m = let r = before n xs (seen × (n ≡ x → ⊥)) m in (r .0 .0, (r .0 .1, r .1))
 

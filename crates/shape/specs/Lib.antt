@@ -1,5 +1,4 @@
 -- What the contracts cite, in reading order. Assumes nothing.
 pub mod Part
 pub mod Table
-pub mod Opcode
 pub mod Args

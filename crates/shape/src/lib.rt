@@ -14,6 +14,7 @@ use parts::method_part;
 use parts::opt_part;
 use parts::type_part;
 ghost use mathlib.Core.Path.{_≡_};
+ghost use mathlib.Core.Bool.{false};
 ghost use mathlib.Core.Option.{none};
 ghost use Prim.Native.Nat.{ℕ, _+_, _<_, _≤_};
 ghost use mathlib.Core.List.{List, map};
@@ -21,10 +22,9 @@ ghost use lib.ListN.{length, drop};
 ghost use Rattle.model.specs.Lists.{isIn};
 ghost use Rattle.model.specs.Bytes.{u32};
 ghost use Rattle.model.specs.Tree.{rec};
-ghost use Rattle.model.specs.Shape.{aArg, shapeOf, bothWays, oneWay};
+ghost use Rattle.model.specs.Shape.{aArg, bothWays};
 ghost use Rattle.model.specs.Shape as model;
 ghost use Rattle.shape.specs.Table.{rightAt, LimitsOf};
-ghost use Rattle.shape.specs.Opcode.{bound, zeroAgrees, bothAgree, oneAgrees};
 ghost use Rattle.shape.specs.Args.{ArgEnd};
 
 // ---- the table of shapes
@@ -109,83 +109,29 @@ pub fn fits(shape: u8, kids: usize, aux: u8, lit: &[u8]) -> bool
 
 // ---- opcodes
 
-// The one shape that an opcode stands with, if it is bound to one.
-enum Bound {
-    To(u8),
-    Free,
-}
-
-// The shape that the opcode stands with, and that stands with no other opcode.
-fn both_ways(opcode: u8) -> Bound
-    ensures { λ r. ⌜ bound r ≡ shapeOf bothWays opcode ⌝ }
+// Check 5 of a shape with no opcode of its own. First the opcodes that are other shapes' own, then those that stand
+// with one shape only.
+fn free_agrees(shape: u8, opcode: u8) -> bool
+    requires { ⌜ (1 < shape) × (isIn shape (map (λ p. p .1) bothWays) ≡ false) ⌝ }
+    ensures { λ r. ⌜ ((aux : ℕ) (lit : List ℕ) → r ≡ model.agrees (rec shape opcode aux lit)) ⌝ }
 {
     match opcode {
-        0x72 => Bound::To(7),
-        0xD6 => Bound::To(10),
-        0xD8 => Bound::To(11),
-        0xD9 => Bound::To(12),
-        0x8C => Bound::To(17),
-        0x86 => Bound::To(16),
-        _ => Bound::Free,
-    }
-}
-
-// The shape that the opcode stands with, and that stands with other opcodes too.
-fn one_way(opcode: u8) -> Bound
-    ensures { λ r. ⌜ bound r ≡ shapeOf oneWay opcode ⌝ }
-{
-    match opcode {
-        0x95 => Bound::To(5),
-        0xED => Bound::To(4),
-        0xEC => Bound::To(4),
-        0xA3 => Bound::To(2),
-        0xA4 => Bound::To(2),
-        0xA5 => Bound::To(2),
-        0xA7 => Bound::To(2),
-        0xDD => Bound::To(2),
-        _ => Bound::Free,
-    }
-}
-
-// Whether a shape has an opcode of its own.
-fn is_bound(shape: u8) -> bool
-    ensures { λ r. ⌜ r ≡ isIn shape (map (λ p. p .1) bothWays) ⌝ }
-{
-    match shape {
-        7 => true,
-        10 => true,
-        11 => true,
-        12 => true,
-        17 => true,
-        16 => true,
-        _ => false,
-    }
-}
-
-// Opcode 00 is for shapes 0 and 1 and no other.
-fn zero_agrees(shape: u8, opcode: u8) -> bool
-    ensures { λ r. ⌜ r ≡ zeroAgrees shape opcode ⌝ }
-{
-    if opcode == 0 { shape <= 1 } else { 1 < shape }
-}
-
-// Opcodes and shapes that stand only together.
-fn both_agree(shape: u8, opcode: u8) -> bool
-    ensures { λ r. ⌜ r ≡ bothAgree shape opcode ⌝ }
-{
-    match both_ways(opcode) {
-        Bound::To(s) => s == shape,
-        Bound::Free => !is_bound(shape),
-    }
-}
-
-// Opcodes that stand with one shape only.
-fn one_agrees(shape: u8, opcode: u8) -> bool
-    ensures { λ r. ⌜ r ≡ oneAgrees shape opcode ⌝ }
-{
-    match one_way(opcode) {
-        Bound::To(s) => s == shape,
-        Bound::Free => true,
+        0 => false,
+        0x72 => false,
+        0xD6 => false,
+        0xD8 => false,
+        0xD9 => false,
+        0x8C => false,
+        0x86 => false,
+        0x95 => shape == 5,
+        0xED => shape == 4,
+        0xEC => shape == 4,
+        0xA3 => shape == 2,
+        0xA4 => shape == 2,
+        0xA5 => shape == 2,
+        0xA7 => shape == 2,
+        0xDD => shape == 2,
+        _ => true,
     }
 }
 
@@ -194,13 +140,17 @@ fn one_agrees(shape: u8, opcode: u8) -> bool
 pub fn agrees(shape: u8, opcode: u8) -> bool
     ensures { λ r. ⌜ ((aux : ℕ) (lit : List ℕ) → r ≡ model.agrees (rec shape opcode aux lit)) ⌝ }
 {
-    if !zero_agrees(shape, opcode) {
-        return false;
+    match shape {
+        0 => opcode == 0, // Const
+        1 => opcode == 0, // Unparsed
+        7 => opcode == 0x72, // ValUse
+        10 => opcode == 0xD6, // ValDef
+        11 => opcode == 0xD8, // BlockValue
+        12 => opcode == 0xD9, // FuncValue
+        17 => opcode == 0x8C, // SelectField
+        16 => opcode == 0x86, // Tuple
+        _ => free_agrees(shape, opcode),
     }
-    if !both_agree(shape, opcode) {
-        return false;
-    }
-    one_agrees(shape, opcode)
 }
 
 // ---- ids and arguments

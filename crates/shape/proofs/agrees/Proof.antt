@@ -1,31 +1,25 @@
--- `shape::agrees` meets its contract: by the three parts of the model's.
+-- `shape::agrees` meets its contract.
 -- Assumes nothing.
 use borrow.Author.Needs.{needs}
-use borrow.Author.Tests.{not-true, not-false}
-use Rattle.shape.proofs.Opcodes.{agrees-zero, agrees-both, agrees-one}
+use mathlib.Core.Path.{refl}
+use Rattle.model.specs.Lists.{isIn}
+use Rattle.model.specs.Shape.{shapeOf, bothWays, oneWay}
+use Rattle.shape.proofs.Opcodes.{own-zero, own-opcode, is-free}
 use Rattle.shape.proofs.agrees.Statement.{statement}
 use Rattle.shape.proofs.agrees.Tie as tie
 
-returns-2 : tie.Need-returns-2
-returns-2 c =
-    let zero = not-false _ (c .before .before .if1 .left) in
-    let both = not-true _ (c .if2 .taken) in
-    agrees-both _ _ (c .before .before .before .zero-agrees .ensures) zero (c .before .both-agree .ensures) both
-
-returns-3 : tie.Need-returns-3
-returns-3 c =
-    let zero = not-false _ (c .before .before .before .if1 .left) in
-    let both = not-false _ (c .before .if2 .left) in
-    let z = c .before .before .before .before .zero-agrees .ensures in
-    agrees-one _ _ z zero (c .before .before .both-agree .ensures) both (c .one-agrees .ensures)
-
 pub agrees-spec : {M : Type 1} → statement M
+unfolding isIn shapeOf bothWays oneWay
 agrees-spec =
     tie.close
     (tie.spec
-    (λ c κs. search needs)
-    (λ c. agrees-zero _ _ (c .before .zero-agrees .ensures) (not-true _ (c .if1 .taken)))
-    (λ c κs. search needs)
-    returns-2
-    (λ c κs. search needs)
-    returns-3)
+    (λ c κs. is-free _ (c .match .rest))
+    (λ c. own-zero 0 refl refl _ _ (c .match .keys1))
+    (λ c. own-zero 1 refl refl _ _ (c .match .keys2))
+    (λ c. own-opcode 7 0x72 refl refl refl _ _ (c .match .keys3))
+    (λ c. own-opcode 10 0xD6 refl refl refl _ _ (c .match .keys4))
+    (λ c. own-opcode 11 0xD8 refl refl refl _ _ (c .match .keys5))
+    (λ c. own-opcode 12 0xD9 refl refl refl _ _ (c .match .keys6))
+    (λ c. own-opcode 17 0x8C refl refl refl _ _ (c .match .keys7))
+    (λ c. own-opcode 16 0x86 refl refl refl _ _ (c .match .keys8))
+    (λ c. search needs))
