@@ -35,6 +35,10 @@ stands-kept ws ws′ c h =
 
 -- ---- one subtree
 
+walked-none : (bs : List ℕ) (n i : ℕ) (at : Context) (ws : List ℕ) → WalkedIn bs n i 0 at ws ws (Next i)
+unfolding takeT dropT sizes faultsIn first
+walked-none bs n i at ws = record { fault = refl; comes = (omega arith, refl); kept = kept-refl (at .top) ws }
+
 module _ (bs : List ℕ) (n i : ℕ) (at : Context) (ws : List ℕ) where
   pub subtree-offends : (ws′ : List ℕ) (b : Bool) → b ≡ test n (ctxOf ws′ at) (rowAt bs i .rec) → b ≡ true →
       Kept (at .top) ws ws′ → Walked bs n i at ws ws′ (Fault i)
@@ -83,6 +87,13 @@ module _ (bs : List ℕ) (n i : ℕ) (at : Context) (ws : List ℕ) where
         c .1 ∙ ap (λ (z : ℕ). dropT z (treesFrom bs (i + 1))) h,
       )
       came (Fault p) c = tt
+
+  -- a record with no children
+  pub subtree-leaf : (ws₁ : List ℕ) (b : Bool) (kids end : ℕ) →
+      Bound ws (at .top) (inside (rowAt bs i .rec)) ws₁ end → b ≡ test n (ctxOf ws₁ at) (rowAt bs i .rec) → b ≡ false →
+      kids ≡ rowAt bs i .kids → kids ≡ 0 → Walked bs n i at ws ws₁ (Next (i + 1))
+  subtree-leaf ws₁ b kids end bound e f h z =
+      subtree-passes ws₁ ws₁ b _ 0 end _ bound e f refl (sym z ∙ h) (walked-none bs n (i + 1) _ ws₁)
 
 pub below-stands : (i : ℕ) (at : Context) (d : Bool) (end : ℕ) → Stands i at → end ≤ at .top + 15 →
     Stands (i + 1) (record { depth = at .depth + 1; def = d; top = end })

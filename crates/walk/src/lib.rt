@@ -246,12 +246,16 @@ pub fn subtree(forest: &[u8], work: &mut [u32], number: u32, i: usize, at: Conte
     if offends(forest, work, number, i, at, end) {
         return Walk::Fault(i);
     }
+    let count = record::kids(forest, i);
+    if count == 0 {
+        return Walk::Next(i + 1);
+    }
     let inner = Context {
         depth: depth + 1,
         def: record::shape(forest, i) == 11,
         top: end,
     };
-    subtrees(forest, work, number, i + 1, record::kids(forest, i), inner)
+    subtrees(forest, work, number, i + 1, count, inner)
 }
 
 // The walk of `count` trees from record i on.

@@ -11,7 +11,7 @@ use Rattle.record.proofs.kids.Reads as kids-reads
 use Rattle.record.proofs.shape.Reads as shape-reads
 use Rattle.walk.proofs.Words.{bound-own}
 use Rattle.walk.proofs.Bridge.{kids-there, records-few, ids-room}
-use Rattle.walk.proofs.Walking.{Walking, subtree-offends, subtree-passes, below-stands}
+use Rattle.walk.proofs.Walking.{Walking, subtree-offends, subtree-passes, subtree-leaf, below-stands}
 use Rattle.walk.proofs.Walking.{walking-start, walking-end, walking-there, walking-stands}
 use Rattle.walk.proofs.Walking.{walking-offends, walking-turn}
 use Rattle.walk.proofs.subtree.Reads as subtree
@@ -58,10 +58,10 @@ pub +subtree+subtrees-spec : {M : Type 1} → statement M
   enter-reads.Learnt,
   offends-reads.Asked,
   offends-reads.Learnt,
-  shape-reads.Asked,
-  shape-reads.Learnt,
   kids-reads.Asked,
   kids-reads.Learnt,
+  shape-reads.Asked,
+  shape-reads.Learnt,
   subtrees-below t,
   subtrees.Post,
 )
@@ -80,30 +80,42 @@ pub +subtree+subtrees-spec : {M : Type 1} → statement M
     let a = c .before .before .before .before .before .before .before .before .before .args in
     subtree-offends (now (a .forest)) (a .number) (a .i) (a .at) (now (a .work)) _ _ (c .before .offends .ensures)
     (c .if1 .taken) (e .ensures .kept))
-    (λ c. let p = c .before .before .before .before .before .before .before .before .before .pre .1 in
-    omega (arith, p .1 .2 .shallow, p .1 .0, records-few _ (p .0)))
     (λ c κs. let p = c .before .before .before .before .before .before .before .before .before .pre .1 in
     (p .0 .laid, p .1 .0))
     (λ c. let p = c .before .before .before .before .before .before .before .before .before .before .before .pre .1 in
     omega (arith, p .1 .0, records-few _ (p .0)))
+    (λ c. c .before .before .before .before .before .before .before .enter .kept .1 .0)
+    (λ c. let k = c .before .kids in
+    let passes = c .before .before .if1 .left in
+    let o = c .before .before .before .offends in
+    let x = c .before .before .before .before .before .before .before in
+    let a = x .before .before .before .before .args in
+    subtree-leaf (now (a .forest)) (a .number) (a .i) (a .at) (now (a .work)) _ _ (k .result) (x .enter .result)
+    (x .enter .ensures) (o .ensures) passes (k .ensures .0) (c .if2 .taken))
+    (λ c. let p = c .before .before .before .before .before .before .before .before .before .before .before .pre .1 in
+    omega (arith, p .1 .2 .shallow, p .1 .0, records-few _ (p .0)))
     (λ c κs. let b = c .before .before .before .before .before .before .before .before .before .before .before in
     (b .pre .1 .0 .laid, b .pre .1 .1 .0))
-    (λ c κs. let e = c .before .before .before .before .before .before .before .before .enter in
-    let b = c .before .before .before .before .before .before .before .before .before .before .before .before in
+    (λ c. let x = c .before .before .before .before .before .before .before .before .before .before .before in
+    let p = x .before .before .pre .1 in
+    omega (arith, p .1 .0, records-few _ (p .0)))
+    (λ c κs. let k = c .before .before .before .kids .ensures .0 in
+    let x = c .before .before .before .before .before .before .before .before .before in
+    let e = x .enter in
+    let b = x .before .before .before .before in
     let p = b .pre .1 in
-    let k = c .kids .ensures .0 in
     let there = kids-there (now (b .args .forest)) (b .args .i) (p .0 .closed) (p .1 .0) in
     let stands = below-stands _ _ _ _ (p .1 .2) (e .ensures .most) in
     let few = records-few _ (p .0) in
     (omega (arith, b .pre .0, few), (p .0, (omega (arith, k, there), omega (arith, e .kept .1 .0, p .1 .1), stands))))
-    (λ c. c .before .before .subtrees .kept .1 .0
-    ∙ c .before .before .before .before .before .before .before .before .before .before .before .enter .kept .1 .0)
+    (λ c. let x = c .before .before .before .before .before .before .before .before .before .before .before .before in
+    c .before .before .subtrees .kept .1 .0 ∙ x .enter .kept .1 .0)
     (λ c. let w = c .before .before .subtrees .ensures in
-    let k = c .before .before .before .kids in
-    let s = c .before .before .before .before .before .shape in
-    let passes = c .before .before .before .before .before .before .if1 .left in
-    let o = c .before .before .before .before .before .before .before .offends in
-    let x = c .before .before .before .before .before .before .before .before .before .before .before in
+    let s = c .before .before .before .before .shape in
+    let k = c .before .before .before .before .before .before .kids in
+    let passes = c .before .before .before .before .before .before .before .if1 .left in
+    let o = c .before .before .before .before .before .before .before .before .offends in
+    let x = c .before .before .before .before .before .before .before .before .before .before .before .before in
     let e = x .enter in
     let a = x .before .before .before .before .args in
     subtree-passes (now (a .forest)) (a .number) (a .i) (a .at) (now (a .work)) _ _ _ (s .result) (k .result)
