@@ -91,6 +91,21 @@ pub record Thunks (j count : ℕ) : Type 0 where
   pub none-first : j ≤ 1 → count ≡ 0
   pub one-then : j ≤ 2 → count ≤ 1
 
+-- an opcode that has thunks has one at operand 1
+pub thunked-first : (op j : ℕ) → thunked op j ≡ true → thunked op 1 ≡ true
+unfolding thunked
+thunked-first op j h = go (eqb op 0x95) (eqb op 0xED || eqb op 0xEC) (eqb j 1) (eqb j 2) h
+  where
+    go : (a b c d : Bool) → (a && (c || d)) || (b && c) ≡ true → (a && true) || (b && true) ≡ true
+    go true b c d e = refl
+    go false true c d e = refl
+    go false false c d e = e
+
+-- opcode 00 has none
+pub none-thunked : (j : ℕ) → thunked 0 j ≡ true → ⊥
+unfolding thunked
+none-thunked j h = let z : _≡_ {A = ℕ} 0 1 = cc in omega arith
+
 pub thunked-place : (op j : ℕ) → thunked op j ≡ true → (1 ≤ j) × (j ≤ 2)
 unfolding thunked
 thunked-place op j h = go (eqb j 1) (eqb j 2) refl refl

@@ -1,10 +1,10 @@
 -- Record i by its kind, as the definitions have it.
--- In order: the definitions unfolded; a record that is not counted; a record that is: a lambda, a SelectField, any
--- other record, a use.
+-- In order: the definitions unfolded; a block has no thunks; a record that is not counted; a record that is: a lambda,
+-- a SelectField, any other record, a use.
 -- Assumes nothing.
 use Prim.Native.Nat.{ℕ, _+_, _-_, _<_, _≤_}
 use mathlib.Core.Path.{_≡_, refl, sym, ap, _∙_, subst}
-use mathlib.Core.Bool.{Bool, true, false}
+use mathlib.Core.Bool.{Bool, true, false, _&&_, _||_}
 use mathlib.Core.Option.{some}
 use mathlib.Core.List.{List}
 use native.Mathlib.Omega.{arith}
@@ -12,13 +12,16 @@ use borrow.Author.Tests.{eqb-true, eqb-false, ne-eqb, lt-ltb, le-ltb}
 use lib.Dec.{eqb}
 use lib.ListN.{length}
 use Rattle.model.specs.Answer.{refused, good, _>>=_, guard}
-use Rattle.model.specs.Shape.{shapes}
-use Rattle.model.specs.Tree.{Rec, Tree, nil, takeT, dropT, size, sizes, depth}
+use Rattle.model.specs.Lists.{isIn}
+use Rattle.model.specs.Shape.{shapes, shapeOf, bothWays, oneWay, agrees}
+use Rattle.model.specs.Tree.{Rec, rec, Tree, nil, takeT, dropT, size, sizes, depth}
 use Rattle.model.specs.Forest.{recordCount}
 use Rattle.model.specs.Binding.{Kind, kind, valUse, valDef, block, lambda, field, other, isBlock, idOf, argsOf}
 use Rattle.model.specs.Intern.{Out, Outs, Env, resolve, finish, func, withOpts, allocArgs, bindArgs, openScope, read}
-use Rattle.model.specs.Intern.{internField, internFunc, internKind, intern}
+use Rattle.model.specs.Intern.{thunked, internField, internFunc, internKind, intern}
 use Rattle.model.specs.Intern as intern
+use Rattle.laws.proofs.Apart.{false-true}
+use Rattle.laws.proofs.Members.{clash}
 use Rattle.record.specs.Record.{rowAt}
 use Rattle.shape.proofs.Fitting.{fitting}
 use Rattle.walk.specs.Walk.{treesFrom, recAt, kidsAt, restAt, treeAt, Sound}
@@ -44,8 +47,9 @@ use Rattle.intern.specs.declared.Selected.the-variants.{Done, Children}
 use Rattle.intern.specs.Steps.{refusedRead}
 use Rattle.intern.specs.Words.{Kept}
 use Rattle.intern.specs.Intern.{Stands, Past, Reads, Legible, Counted, kidsRead, concluded, WellKids}
-use Rattle.intern.specs.Intern.{Incomplete, ReadsOn}
+use Rattle.intern.specs.Intern.{Incomplete, ReadsOn, Plain}
 use Rattle.intern.proofs.Kept.{kept-none}
+use Rattle.intern.proofs.After.{thunked-first}
 use Rattle.intern.proofs.Bodies.{lambda-kind}
 use Rattle.intern.proofs.Records.{reads-refused, concluded-10, concluded-11, concluded-other}
 
@@ -145,6 +149,32 @@ module _ (bs : List ℕ) (i cur : ℕ) (env : Env) (s : intern.State) where
         intern u i cur env s ≡ concluded i cur (recAt bs i) (kidsRead bs i cur env (read s))
     intern-other a b c = intern-read ∙ kind-other i cur (recAt bs i) env (kidsRead bs i) (read s) a b c
 
+-- ---- a block has no thunks
+
+block-opcode : (o aux : ℕ) (lit : List ℕ) → agrees (rec 11 o aux lit) ≡ true → thunked o 1 ≡ false
+unfolding agrees shapeOf bothWays oneWay isIn thunked
+block-opcode o aux lit h = go (eqb o 0x95) (eqb o 0xED) (eqb o 0xEC) refl refl refl
+  where
+    is : (n : ℕ) → eqb o n ≡ true → agrees (rec 11 n aux lit) ≡ true
+    is n e = subst (λ (z : ℕ). agrees (rec 11 z aux lit) ≡ true) (eqb-true o n e) h
+
+    go : (a b c : Bool) → eqb o 0x95 ≡ a → eqb o 0xED ≡ b → eqb o 0xEC ≡ c →
+        (a && true) || ((b || c) && true) ≡ false
+    go true b c e f g = false-true (is 0x95 e)
+    go false true c e f g = false-true (is 0xED f)
+    go false false true e f g = false-true (is 0xEC g)
+    go false false false e f g = refl
+
+block-plain : (r : Rec) → agrees r ≡ true → Plain (r .opcode) (isBlock r)
+block-plain r h j e = go (isBlock r) refl
+  where
+    go : (b : Bool) → isBlock r ≡ b → b ≡ false
+    go false f = refl
+    go true f =
+        absurd (clash (thunked (r .opcode) 1) (thunked-first (r .opcode) j e)
+        (block-opcode (r .opcode) (r .aux) (r .lit)
+        (subst (λ (z : ℕ). agrees (rec z (r .opcode) (r .aux) (r .lit)) ≡ true) (eqb-true (r .shape) 11 f) h)))
+
 -- ---- a record of any kind
 
 module _ (bs ws : List ℕ) (t : Tables) (st : State) (i : ℕ) (at : Here) (sound : Sound bs) (lt : i < recordCount bs)
@@ -196,6 +226,9 @@ module _ (bs ws : List ℕ) (t : Tables) (st : State) (i : ℕ) (at : Here) (sou
 
       pub counted-opcode : recAt bs i .shape ≡ 17 → recAt bs i .opcode ≡ 0x8C
       counted-opcode e = op-field (recAt bs i) e (legible .well .checked .fine .1)
+
+      pub counted-plain : Plain (recAt bs i .opcode) (isBlock (recAt bs i))
+      counted-plain = block-plain (recAt bs i) (legible .well .checked .fine .1)
 
       -- the answer of its kind is the record's
       counted-kept : (ws′ : List ℕ) (last : State) → Kept at ws ws′ counted last → Kept at ws ws′ st last

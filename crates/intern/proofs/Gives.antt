@@ -14,7 +14,7 @@ use Rattle.model.specs.Intern.{Out, Env, internGeneral, internField, internKind
 use Rattle.record.specs.Record.{rowAt}
 use Rattle.shape.proofs.Fitting.{fits-field}
 use Rattle.walk.specs.Walk.{recAt, treeAt, Sound}
-use Rattle.walk.proofs.Bridge.{row-fits}
+use Rattle.walk.proofs.Bridge.{row-fits, records-few}
 use Rattle.symbols.specs.Words.{pendingFrom}
 use Rattle.bindings.specs.Bindings.{envOf}
 use Rattle.bindings.proofs.Laws.{env-words}
@@ -28,13 +28,15 @@ use Rattle.concluding.proofs.Selecting.{selects-input, field-again}
 use Rattle.intern.specs.declared.Here.{Here}
 use Rattle.intern.specs.declared.Read.{Read}
 use Rattle.intern.specs.declared.Kids.{Kids}
-use Rattle.intern.specs.Steps.{refusedRead, repeats, repeated}
-use Rattle.intern.specs.Intern.{Stands, Reads, kidsRead, concluded, WellKids, Operands, ReadsAll, kidsAnswer}
-use Rattle.intern.specs.Intern.{kidsOf, Concluding, Concluded, Ready, completes, Completed, Incomplete}
+use Rattle.intern.specs.Steps.{refusedRead, unread, repeats, repeated}
+use Rattle.intern.specs.Intern.{Stands, Reads, kidsRead, concluded, WellKids, Plain, Operands, ReadsAll}
+use Rattle.intern.specs.Intern.{kidsAnswer, kidsOf, Concluding, Concluded, Ready, completes, Completed}
+use Rattle.intern.specs.Intern.{Incomplete}
 use Rattle.intern.proofs.Kept.{kept-none, kept-then}
 use Rattle.intern.proofs.Records.{reads-refused, reads-answers, concluded-other, concluded-refused, Below, Gave}
 use Rattle.intern.proofs.After.{kids-good, kids-refused}
 use Rattle.intern.proofs.Records.{stands-below, stands-later, kids-operands, all-is, kids-fail, kids-gave}
+use Rattle.intern.proofs.Loop.{loop-none}
 use Rattle.intern.proofs.Repeats.{repeats-few, repeated-more, repeated-is, repeated-rep}
 use Rattle.intern.proofs.Cases.{field-refused, field-good}
 
@@ -85,7 +87,7 @@ module _ (bs ws : List ℕ) (t : Tables) (st : State) (i : ℕ) (at : Here) (sou
   below = stands-below bs ws t st i at stands
 
   module _ (n op : ℕ) (en : n ≡ rowAt bs i .kids) (eo : op ≡ recAt bs i .opcode) where
-    pub children-operands : Operands bs ws t st (i + 1) n op at
+    pub children-operands : Plain (recAt bs i .opcode) (isBlock (recAt bs i)) → Operands bs ws t st (i + 1) n op at
     children-operands =
         kids-operands bs i sound lt ws t st at (isBlock (recAt bs i)) below well n op en eo
 
@@ -117,6 +119,16 @@ module _ (bs ws : List ℕ) (t : Tables) (st : State) (i : ℕ) (at : Here) (sou
         kept = v .kept;
       }
 
+  -- a record with no children
+  pub children-none : (n : ℕ) → n ≡ rowAt bs i .kids → Plain (recAt bs i .opcode) (isBlock (recAt bs i)) → n ≡ 0 →
+      (k : Kids) → k ≡ unread st (i + 1) →
+      Incomplete bs ws t st i at
+      (concluded i (at .scope) (recAt bs i) (kidsRead bs i (at .scope) (envOf ws (at .top)) (absOf bs ws t st))) ws k
+  children-none n en plain none k is =
+      children-read n (recAt bs i .opcode) en refl ws k
+      (loop-none bs t (i + 1) n (recAt bs i .opcode) at ws st (records-few bs sound)
+      (children-operands n (recAt bs i .opcode) en refl plain) k is none)
+
 -- ---- a SelectField
 
 module _ (bs ws : List ℕ) (t : Tables) (st : State) (i : ℕ) (at : Here) (sound : Sound bs) (lt : i < recordCount bs)
@@ -133,6 +145,10 @@ module _ (bs ws : List ℕ) (t : Tables) (st : State) (i : ℕ) (at : Here) (sou
   module _ (shape : recAt bs i .shape ≡ 17) where
     pub field-one : _≡_ {A = ℕ} 1 (rowAt bs i .kids)
     field-one = sym (fits-field (rowAt bs i) (row-fits bs i (sound .fit) lt) shape .0)
+
+    -- a SelectField is no block
+    pub field-plain : Plain (r .opcode) (isBlock r)
+    field-plain j e = rw shape
 
     module _ (code : recAt bs i .opcode ≡ 0x8C) (op : ℕ) (eo : op ≡ recAt bs i .opcode) (ws₁ : List ℕ) (k : Kids)
         (v : ReadsAll bs ws t st (i + 1) 1 op at ws₁ k) where
@@ -226,6 +242,7 @@ module _ (bs ws : List ℕ) (t : Tables) (st : State) (i : ℕ) (at : Here) (sou
         pub again-operands : Operands bs ws₁ t (k .st) (i + 1) 1 op at
         again-operands =
             children-operands bs ws₁ t (k .st) i at sound lt again-stands (gave₁ .again) 1 op field-one eo
+            field-plain
 
         module _ (b : Bool)
             (told : (n : ℕ) → getD ws₁ (8200 + at .held) 0 < n → b ≡ readsAgain bs ws₁ n i (at .held)) where

@@ -1,7 +1,7 @@
 -- A lambda: its arguments refused, its body read or refused, and its symbol.
 -- Assumes nothing.
 use Prim.Native.Nat.{ℕ, _+_, _-_, _<_}
-use mathlib.Core.Path.{_≡_, sym, ap, _∙_, subst}
+use mathlib.Core.Path.{_≡_, refl, sym, ap, _∙_, subst}
 use mathlib.Core.Bool.{false}
 use mathlib.Core.Option.{some}
 use mathlib.Core.List.{List, []}
@@ -103,7 +103,8 @@ module _ (bs ws : List ℕ) (t : Tables) (st : State) (i : ℕ) (at : Here) (sou
 
     module _ (op : ℕ) (eo : op ≡ recAt bs i .opcode) where
       pub lambda-operands : Operands bs ws₁ t (e .st) (i + 1) 1 op (e .at)
-      lambda-operands = kids-operands bs i sound lt ws₁ t (e .st) (e .at) false below well 1 op lambda-one eo
+      lambda-operands =
+          kids-operands bs i sound lt ws₁ t (e .st) (e .at) false below well 1 op lambda-one eo (λ j z. refl)
 
       module _ (ws₂ : List ℕ) (k : Kids) (v : ReadsAll bs ws₁ t (e .st) (i + 1) 1 op (e .at) ws₂ k) where
         kept₂ : Kept at ws ws₂ st (k .st)

@@ -1,9 +1,9 @@
 -- The loop over operands: what is read and what is left give the whole.
--- In order: the start; the next child; a child that is refused; a child read; the end; from the loop's first state.
+-- In order: the start; the next child; a child that is refused; a child read; the end.
 -- Assumes nothing.
 use Prim.Native.Nat.{ℕ, zero, suc, _+_, _-_, _<_, _≤_, max}
 use mathlib.Core.Path.{_≡_, refl, sym, ap, _∙_, subst}
-use mathlib.Core.Bool.{Bool, not, _&&_}
+use mathlib.Core.Bool.{Bool, true, false, not, _&&_}
 use mathlib.Core.List.{List, [], _∷_, _++_}
 use native.Mathlib.Omega.{arith}
 use native.Mathlib.Numerals.{add-one}
@@ -37,7 +37,8 @@ use Rattle.intern.specs.declared.Read.{Read}
 use Rattle.intern.specs.declared.Kids.{Kids}
 use Rattle.intern.specs.Steps.{childAt, noted, unread, withChild, failed}
 use Rattle.intern.specs.Words.{Kept}
-use Rattle.intern.specs.Intern.{Stands, Reads, Child, trees, Operands, kidsAnswer, ReadsAll}
+use Rattle.intern.specs.Intern.{Stands, StandsAt, Reads, LegibleAt, Legible, InThunk, trees, Operands}
+use Rattle.intern.specs.Intern.{kidsAnswer, ReadsAll}
 use Rattle.intern.proofs.Remains.{well-moved, Remains, Reading}
 use Rattle.intern.proofs.Kept.{kept-none, kept-then, Stored, stored}
 use Rattle.intern.proofs.After.{kids-good, kids-refused, after, after-none, after-end}
@@ -67,6 +68,7 @@ module _ (bs : List ℕ) (t : Tables) (i count op : ℕ) (at : Here) (ws₀ : Li
       rest = refl;
       shallow = omega arith;
       block = h₀ .block;
+      plain = h₀ .plain;
       paid = h₀ .paid;
       well = h₀ .well;
       onward = omega arith;
@@ -136,17 +138,20 @@ module _ (bs : List ℕ) (t : Tables) (i count op : ℕ) (at : Here) (ws₀ : Li
         tables = omega (arith, h₀ .stands .tables, left-deep);
       }
 
-      next-child : (thunk : Bool) → thunk ≡ thunked op j → Child bs ws t (k .st) (k .next) thunk (childAt at j top)
-      next-child thunk e = record {
+      next-legible : thunked op j ≡ false → Legible u (at .scope) (envOf ws top) (absOf bs ws t (k .st))
+      next-legible e = record { def = h .block && not (isNil us); well = child-plain left-well e }
+
+      next-thunk : thunked op j ≡ true → InThunk bs ws t (k .st) (k .next) (childAt at j top)
+      next-thunk e = record {
         stands = next-stands;
-        def = h .block && not (isNil us);
-        plain = λ f. child-plain left-well (sym e ∙ f);
-        room = λ f. omega (arith, h₀ .room j (sym e ∙ f), left-deep);
-        few = λ f. omega (arith, child-thunk left-well (sym e ∙ f) .0, scopes-count bs ws t (k .st));
-        inside = λ f.
-            subst (λ (z : ℕ). Well u (h .block && not (isNil us)) z (envOf ws top)
+        room = omega (arith, h₀ .room j e, left-deep);
+        few = omega (arith, child-thunk left-well e .0, scopes-count bs ws t (k .st));
+        well =
+            subst (λ (b : Bool). Well u (b && not (isNil us)) (k .st .scopes) (envOf ws top)
+            (intern.openThunk (at .scope) (absOf bs ws t (k .st)))) (h .plain j e)
+            (subst (λ (z : ℕ). Well u (h .block && not (isNil us)) z (envOf ws top)
             (intern.openThunk (at .scope) (absOf bs ws t (k .st)))) (scopes-count bs ws t (k .st))
-            (child-thunk left-well (sym e ∙ f) .1);
+            (child-thunk left-well e .1));
       }
 
       pub next-there : k .next < recordCount bs
@@ -279,6 +284,7 @@ module _ (bs : List ℕ) (t : Tables) (i count op : ℕ) (at : Here) (ws₀ : Li
                   rest = ap (dropT m) rest-is ∙ sym left-rest ∙ h .rest;
                   shallow = omega (arith, ap depths us-is, left-depths, h .shallow);
                   block = h .block;
+                  plain = h .plain;
                   paid = suc (h .paid);
                   well =
                       well-moved us-is (add-one j) env₂ abs₂
@@ -335,10 +341,17 @@ module _ (bs : List ℕ) (t : Tables) (i count op : ℕ) (at : Here) (ws₀ : Li
         pub reading-room : (at .held + j < 256) × (top < 1200)
         reading-room = next-room (g .left - 1) some
 
-        pub reading-child : (thunk : Bool) → thunk ≡ thunked op j → (c : Here) → c ≡ childAt at j top →
-            Child bs ws t (k .st) (k .next) thunk c
-        reading-child thunk e c f =
-            subst (Child bs ws t (k .st) (k .next) thunk) (sym f) (next-child (g .left - 1) some thunk e)
+        -- the next child, in the scope of its parent or in a thunk
+        pub reading-plain : thunked op j ≡ false → (c : Here) → c ≡ childAt at j top →
+            StandsAt bs ws t (k .st) (k .next) c × LegibleAt bs ws t (k .st) (k .next) c
+        reading-plain e c f =
+            subst (λ (z : Here). StandsAt bs ws t (k .st) (k .next) z × LegibleAt bs ws t (k .st) (k .next) z) (sym f)
+            (next-stands (g .left - 1) some, next-legible (g .left - 1) some e)
+
+        pub reading-thunk : thunked op j ≡ true → (c : Here) → c ≡ childAt at j top →
+            InThunk bs ws t (k .st) (k .next) c
+        reading-thunk e c f =
+            subst (InThunk bs ws t (k .st) (k .next)) (sym f) (next-thunk (g .left - 1) some e)
 
         module _ (thunk : Bool) (et : thunk ≡ thunked op j) (ws₁ : List ℕ) (r : Read) (c : Here)
             (ec : c ≡ childAt at j top)
@@ -364,23 +377,3 @@ module _ (bs : List ℕ) (t : Tables) (i count op : ℕ) (at : Here) (ws₀ : Li
           reading-turn ok ws₂ top′ d z e =
               subst (λ (y : Kids). Reading bs t i count op at ws₀ st₀ ws₂ y top′ (j + 1)) (sym e)
               (turned (g .left - 1) some thunk et ws₁ r v ok ws₂ top′ d)
-
--- ---- the loop begins with no child read
-
-module _ (bs : List ℕ) (t : Tables) (i count op : ℕ) (at : Here) (ws₀ : List ℕ) (st : State)
-    (few-records : recordCount bs ≤ 256) (h : Operands bs ws₀ t st i count op at) (k₀ : Kids) (e : k₀ ≡ unread st i)
-  where
-    first-state : k₀ .st ≡ st
-    first-state = ap (λ (z : Kids). z .st) e
-
-    pub loop-operands : Operands bs ws₀ t (k₀ .st) i count op at
-    loop-operands = subst (λ (z : State). Operands bs ws₀ t z i count op at) (sym first-state) h
-
-    pub loop-start : Reading bs t i count op at ws₀ (k₀ .st) ws₀ k₀ (at .top) 0
-    loop-start =
-        reading-start bs t i count op at ws₀ (k₀ .st) few-records loop-operands k₀
-        (e ∙ ap (λ (z : State). unread z i) (sym first-state))
-
-    pub loop-reads : (ws′ : List ℕ) (k : Kids) → ReadsAll bs ws₀ t (k₀ .st) i count op at ws′ k →
-        ReadsAll bs ws₀ t st i count op at ws′ k
-    loop-reads ws′ k v = subst (λ (z : State). ReadsAll bs ws₀ t z i count op at ws′ k) first-state v

@@ -46,7 +46,7 @@ use Rattle.intern.specs.declared.Here.{Here}
 use Rattle.intern.specs.declared.Kids.{Kids}
 use Rattle.intern.specs.Steps.{refusedRead}
 use Rattle.intern.specs.Words.{Kept}
-use Rattle.intern.specs.Intern.{Stands, Past, Reads, kidsRead, concluded, trees, Operands, kidsAnswer}
+use Rattle.intern.specs.Intern.{Stands, Past, Reads, kidsRead, concluded, trees, Plain, Operands, kidsAnswer}
 use Rattle.intern.specs.Intern.{kidsOf, ReadsAll}
 use Rattle.intern.proofs.Kept.{kept-then, leaves-kept}
 use Rattle.intern.proofs.After.{kids-good, kids-refused}
@@ -224,8 +224,8 @@ module _ (bs : List ℕ) (i : ℕ) (sound : Sound bs) (lt : i < recordCount bs) 
   trees-are = rw en
 
   -- that they may be read
-  pub kids-operands : Operands bs ws t st (i + 1) n op at
-  kids-operands =
+  pub kids-operands : Plain (recAt bs i .opcode) b → Operands bs ws t st (i + 1) n op at
+  kids-operands plain =
       let d : depths (trees bs (i + 1) n) ≡ depths (kidsAt bs i) = ap depths trees-are in
       record {
         there = omega (arith, en, kids-there bs i (sound .closed) lt);
@@ -241,6 +241,7 @@ module _ (bs : List ℕ) (i : ℕ) (sound : Sound bs) (lt : i < recordCount bs) 
         };
         room = λ j e. omega (arith, below .tables, d);
         block = b;
+        plain = rw eo plain;
         paid = 1;
         well = rw (trees-are, eo) well;
       }

@@ -21,7 +21,7 @@ use Rattle.standing.specs.Standing.{WellAll}
 use Rattle.intern.specs.declared.Here.{Here}
 use Rattle.intern.specs.declared.Kids.{Kids}
 use Rattle.intern.specs.Words.{Kept}
-use Rattle.intern.specs.Intern.{trees}
+use Rattle.intern.specs.Intern.{trees, Plain}
 use Rattle.intern.proofs.After.{after, Thunks}
 
 -- the same operands, seen otherwise
@@ -48,6 +48,7 @@ pub record Remains (bs : List ℕ) (t : Tables) (i count op : ℕ) (at : Here) (
   pub rest : dropT left (treesFrom bs (k .next)) ≡ dropT count (treesFrom bs i)
   pub shallow : depths (trees bs (k .next) left) ≤ depths (trees bs i count)
   pub block : Bool
+  pub plain : Plain op block
   pub paid : ℕ
   pub well : WellAll (trees bs (k .next) left) block op j (at .scope) (envOf ws top) (absOf bs ws t (k .st)) paid
   pub onward : i ≤ k .next

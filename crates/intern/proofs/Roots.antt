@@ -3,7 +3,7 @@
 -- Assumes nothing.
 use Prim.Native.Nat.{ℕ, suc, _+_, _-_, _<_, _≤_}
 use mathlib.Core.Path.{_≡_, refl, sym, ap, _∙_, subst}
-use mathlib.Core.Bool.{true, false}
+use mathlib.Core.Bool.{false}
 use mathlib.Core.Option.{none}
 use mathlib.Core.List.{List, []}
 use native.Mathlib.Omega.{arith}
@@ -14,7 +14,7 @@ use Rattle.model.specs.Lists.{last}
 use Rattle.model.specs.Tree.{Tree, Trees, node, nil, cons, many, depth, depths}
 use Rattle.model.specs.Forest.{treeCount, treesOf, deep, deeps, check7}
 use Rattle.model.specs.Accept.{accept}
-use Rattle.model.specs.Intern.{Outs, Env, start, thunked, internLast, internAll, internForest}
+use Rattle.model.specs.Intern.{Outs, Env, start, internLast, internAll, internForest}
 use Rattle.model.specs.Intern as intern
 use Rattle.model.specs.Call.{interned}
 use Rattle.laws.proofs.Clear.{Clear, clear-left, clear-right, first-clear}
@@ -40,7 +40,7 @@ use Rattle.standing.proofs.Next.{last-result}
 use Rattle.intern.specs.declared.Here.{Here}
 use Rattle.intern.specs.declared.Kids.{Kids}
 use Rattle.intern.specs.Intern.{trees, Operands, ReadsAll, Interned}
-use Rattle.intern.proofs.After.{kids-good, kids-refused}
+use Rattle.intern.proofs.After.{kids-good, kids-refused, none-thunked}
 
 -- ---- how deep an accepted forest is
 
@@ -65,11 +65,6 @@ unfolding check7
 forest-flat bs e = omega (arith, trees-flat (treesOf bs) 1 (omega arith) (first-clear (deeps (treesOf bs) 1) e))
 
 -- ---- before its trees are read
-
--- no opcode 00 has thunks
-none-thunked : (j : ℕ) → thunked 0 j ≡ true → ⊥
-unfolding thunked
-none-thunked j h = let z : _≡_ {A = ℕ} 0 1 = cc in omega arith
 
 module _ (bs ws : List ℕ) (accepted : accept bs ≡ good (treesOf bs)) where
   passed : Passed bs (treesOf bs)
@@ -116,6 +111,7 @@ module _ (bs ws : List ℕ) (accepted : accept bs ≡ good (treesOf bs)) where
       };
       room = λ j e. absurd (none-thunked j e);
       block = false;
+      plain = λ j e. refl;
       paid = 0;
       well =
           subst (λ (z : intern.State). WellAll (trees bs 0 count) false 0 0 0 (envOf ws₁ 0) z 0) (sym (started .is bs))

@@ -1,5 +1,5 @@
 -- A child in a thunk of its own.
--- In order: an answer whose state is closed; the thunk opened; what a child gives.
+-- In order: an answer whose state is closed; a child, in a thunk or not; the thunk opened; what the child gives.
 -- Assumes nothing.
 use Prim.Native.Nat.{ℕ, _+_, _<_, _≤_}
 use mathlib.Core.Path.{_≡_, refl, sym, ap, _∙_, subst}
@@ -11,6 +11,7 @@ use lib.Seq.{getD-set-other}
 use lib.Dec.{eqb}
 use Rattle.model.specs.Answer.{refused, good, _>>=_}
 use Rattle.model.specs.Tree.{depth}
+use Rattle.model.specs.Forest.{recordCount}
 use Rattle.model.specs.Intern.{Out, Env, openThunk, closeThunk, internScoped, intern}
 use Rattle.model.specs.Intern as intern
 use Rattle.walk.specs.Walk.{treeAt}
@@ -26,12 +27,15 @@ use Rattle.interner.specs.Step.{outOf}
 use Rattle.opening.specs.Opening.{withScope, thunkClosed}
 use Rattle.opening.proofs.Counts.{scopes-count}
 use Rattle.opening.proofs.Thunks.{thunk-level, thunk-abs, thunk-rep, closed-abs, closed-rep}
+use Rattle.standing.specs.Standing.{Well}
 use Rattle.intern.specs.declared.Here.{Here}
 use Rattle.intern.specs.declared.Read.{Read}
+use Rattle.intern.specs.declared.Kids.{Kids}
 use Rattle.intern.specs.Steps.{closedRead}
 use Rattle.intern.specs.Words.{Words}
-use Rattle.intern.specs.Intern.{Stands, Reads, Legible, Child}
+use Rattle.intern.specs.Intern.{Stands, Reads, RecordRead, InThunk, ThunkRead, Operands, ReadsAll}
 use Rattle.intern.proofs.Kept.{words-then}
+use Rattle.intern.proofs.Single.{one-operands, oneRead, one-reads}
 
 -- ---- an answer whose state is closed
 
@@ -55,23 +59,16 @@ out-closed bs ws t top r is room = go (eqb (r .step .number) 0)
         ap (λ (z : intern.State). good (r .step .symbol, z)) (closed-abs bs ws t (r .step .st) top is room)
     go false = refl
 
--- ---- the thunk opened
+-- ---- a child, in a thunk or not
 
-module _ (bs ws : List ℕ) (t : Tables) (st : State) (i : ℕ) (thunk : Bool) (at : Here)
-    (h : Child bs ws t st i thunk at) where
+module _ (bs ws : List ℕ) (t : Tables) (st : State) (i : ℕ) (thunk : Bool) (at : Here) (ws′ : List ℕ) (r : Read) where
   abbrev childOut : Out
   childOut =
       internScoped thunk (at .scope) (λ c s. intern (treeAt bs i) i c (envOf ws (at .top)) s) (absOf bs ws t st)
 
-  pub child-legible : thunk ≡ false →
-      Legible (treeAt bs i) (at .scope) (envOf ws (at .top)) (absOf bs ws t st)
-  child-legible e = record { def = h .def; well = h .plain e }
-
-  pub child-plainly : thunk ≡ false → (ws′ : List ℕ) (r : Read) →
-      Reads bs ws t st i at (intern (treeAt bs i) i (at .scope) (envOf ws (at .top)) (absOf bs ws t st)) ws′ r →
-      Reads bs ws t st i at childOut ws′ r
+  pub child-plainly : thunk ≡ false → RecordRead bs ws t st i at ws′ r → Reads bs ws t st i at childOut ws′ r
   unfolding internScoped
-  child-plainly e ws′ r v = record {
+  child-plainly e v = record {
     rep = v .rep;
     opened = v .opened;
     is = v .is ∙ sym (rw e);
@@ -79,123 +76,135 @@ module _ (bs ws : List ℕ) (t : Tables) (st : State) (i : ℕ) (thunk : Bool) (
     kept = v .kept;
   }
 
-  module _ (is : thunk ≡ true) where
-    tables-room : t .depth < 64
-    unfolding depth
-    tables-room = omega (arith, h .room is)
+  pub child-thunked : thunk ≡ true → ThunkRead bs ws t st i at ws′ r → Reads bs ws t st i at childOut ws′ r
+  child-thunked e v = rw e v
 
-    pub child-room : (10856 ≤ length ws) × (at .scope < st .scopes) × (st .scopes ≤ 2048) × (t .depth < 64)
-        × (st .entries ≤ 512)
-    child-room = (
-      h .stands .rep .words,
-      h .stands .scope,
-      h .few is,
-      tables-room,
-      omega (arith, h .stands .rep .few-entries, h .stands .rep .few-symbols),
-    )
+-- ---- the thunk opened
 
-    module _ (ws₁ : List ℕ) (inside : State) (wrote : ws₁ ≡ withThunk ws (st .scopes) (at .scope))
-        (isOpen : inside ≡ withScope st) (inner : Tables) (pushed : inner ≡ opened t (st .entries)) where
-      abbrev own : Here
-      own = record { scope = st .scopes; held = at .held; top = at .top }
+module _ (bs ws : List ℕ) (t : Tables) (st : State) (i : ℕ) (at : Here) (lt : i < recordCount bs)
+    (h : InThunk bs ws t st i at) where
+  abbrev thunkOut : Out
+  thunkOut = internScoped true (at .scope) (λ c s. intern (treeAt bs i) i c (envOf ws (at .top)) s) (absOf bs ws t st)
 
-      other : (k : ℕ) → (k ≡ 5120 + st .scopes → ⊥) → getD ws₁ k 0 ≡ getD ws k 0
-      other k n = rw wrote (getD-set-other ws (5120 + st .scopes) k (thunkWord ws (at .scope)) 0 n)
+  tables-room : t .depth < 64
+  unfolding depth
+  tables-room = omega (arith, h .room)
 
-      words₁ : Words (st .scopes) (at .held) (at .top) ws ws₁
-      words₁ = record {
-        long = ap length wrote ∙ length-set ws (5120 + st .scopes) (thunkWord ws (at .scope));
-        scopes = λ k l r. other k (λ e. omega arith);
-        pending = λ k l r. other k (λ e. omega (arith, h .few is));
-        bound = λ k l r. other k (λ e. omega (arith, h .few is));
-        later = λ k l. other k (λ e. omega (arith, h .few is));
+  pub thunk-room : (10856 ≤ length ws) × (at .scope < st .scopes) × (st .scopes ≤ 2048) × (t .depth < 64)
+      × (st .entries ≤ 512)
+  thunk-room = (
+    h .stands .rep .words,
+    h .stands .scope,
+    h .few,
+    tables-room,
+    omega (arith, h .stands .rep .few-entries, h .stands .rep .few-symbols),
+  )
+
+  module _ (ws₁ : List ℕ) (inside : State) (wrote : ws₁ ≡ withThunk ws (st .scopes) (at .scope))
+      (isOpen : inside ≡ withScope st) (inner : Tables) (pushed : inner ≡ opened t (st .entries)) where
+    abbrev own : Here
+    own = record { scope = st .scopes; held = at .held; top = at .top }
+
+    other : (k : ℕ) → (k ≡ 5120 + st .scopes → ⊥) → getD ws₁ k 0 ≡ getD ws k 0
+    other k n = rw wrote (getD-set-other ws (5120 + st .scopes) k (thunkWord ws (at .scope)) 0 n)
+
+    words₁ : Words (st .scopes) (at .held) (at .top) ws ws₁
+    words₁ = record {
+      long = ap length wrote ∙ length-set ws (5120 + st .scopes) (thunkWord ws (at .scope));
+      scopes = λ k l r. other k (λ e. omega arith);
+      pending = λ k l r. other k (λ e. omega (arith, h .few));
+      bound = λ k l r. other k (λ e. omega (arith, h .few));
+      later = λ k l. other k (λ e. omega (arith, h .few));
+    }
+
+    rep₁ : Rep bs ws₁ inside
+    rep₁ =
+        rw (wrote, isOpen)
+        (thunk-rep bs ws st (at .scope) (h .stands .rep) (h .few) (h .stands .scope))
+
+    opened₁ : Open inner (inside .entries)
+    opened₁ = rw (isOpen, pushed) (opened-open t (st .entries) (h .stands .opened) tables-room)
+
+    abs₁ : absOf bs ws₁ inner inside ≡ openThunk (at .scope) (absOf bs ws t st)
+    abs₁ =
+        ap (λ (z : List ℕ). absOf bs z inner inside) wrote
+        ∙ ap (λ (z : Tables). absOf bs (withThunk ws (st .scopes) (at .scope)) z inside) pushed
+        ∙ ap (absOf bs (withThunk ws (st .scopes) (at .scope)) (opened t (st .entries))) isOpen
+        ∙ thunk-abs bs ws st (at .scope) (h .stands .rep) (h .few) (h .stands .scope) t (h .stands .opened)
+        tables-room
+
+    level₁ : levelOf (scopeWord ws₁ (st .scopes)) ≡ levelOf (scopeWord ws (at .scope))
+    level₁ =
+        ap (λ (z : List ℕ). levelOf (scopeWord z (st .scopes))) wrote
+        ∙ thunk-level bs ws st (at .scope) (h .stands .rep) (h .few) (h .stands .scope)
+
+    scopes₁ : inside .scopes ≡ st .scopes + 1
+    scopes₁ = ap (λ (z : State). z .scopes) isOpen
+
+    depth₁ : inner .depth ≡ t .depth + 1
+    depth₁ = ap (λ (z : Tables). z .depth) pushed
+
+    thunk-stands : Stands bs ws₁ inner inside i (depth (treeAt bs i)) own
+    thunk-stands = record {
+      rep = rep₁;
+      opened = opened₁;
+      scope = omega (arith, scopes₁);
+      held = h .stands .held;
+      top = h .stands .top;
+      level = omega (arith, level₁, h .stands .level);
+      tables = omega (arith, depth₁, h .room);
+    }
+
+    env₁ : envOf ws₁ (at .top) ≡ envOf ws (at .top)
+    env₁ = env-words ws₁ ws (at .top) (words₁ .bound)
+
+    -- the child may be read there, as the one operand of nothing
+    pub thunk-operands : Operands bs ws₁ inner inside i 1 0 own
+    thunk-operands =
+        one-operands bs ws₁ inner inside i own lt thunk-stands
+        (subst (λ (z : Env). Well (treeAt bs i) false (st .scopes) z (absOf bs ws₁ inner inside)) (sym env₁)
+        (subst (Well (treeAt bs i) false (st .scopes) (envOf ws (at .top))) (sym abs₁) (h .well)))
+
+    -- ---- what the child gives
+
+    module _ (ws₂ : List ℕ) (k : Kids) (all : ReadsAll bs ws₁ inner inside i 1 0 own ws₂ k) where
+      abbrev r : Read
+      r = oneRead ws₂ (at .held) k
+
+      v : RecordRead bs ws₁ inner inside i own ws₂ r
+      v = one-reads bs ws₁ inner inside i own lt ws₂ k all
+
+      scoped-is : thunkOut
+          ≡ closing (intern (treeAt bs i) i (st .scopes) (envOf ws₁ (at .top)) (absOf bs ws₁ inner inside))
+      unfolding internScoped
+      scoped-is =
+          ap (λ (z : ℕ). closing (intern (treeAt bs i) i z (envOf ws (at .top))
+          (openThunk (at .scope) (absOf bs ws t st)))) (scopes-count bs ws t st)
+          ∙ ap (λ (z : Env). closing (intern (treeAt bs i) i (st .scopes) z
+          (openThunk (at .scope) (absOf bs ws t st)))) (sym env₁)
+          ∙ ap (λ (z : intern.State). closing (intern (treeAt bs i) i (st .scopes) (envOf ws₁ (at .top)) z)) (sym
+          abs₁)
+
+      last-opened : Open (opened t (st .entries)) (r .step .st .entries)
+      last-opened = rw pushed at (v .opened)
+
+      closed₂ : Reads bs ws t st i at thunkOut ws₂ (closedRead r (thunkClosed (r .step .st) (st .entries)))
+      closed₂ = record {
+        rep =
+            closed-rep bs ws₂ t (r .step .st) (st .entries) (h .stands .opened) tables-room (v .rep) last-opened;
+        opened = h .stands .opened;
+        is =
+            out-closed bs ws₂ t (st .entries) r (h .stands .opened) tables-room
+            ∙ ap (λ (z : Tables). closing (outOf bs ws₂ z (r .step))) (sym pushed)
+            ∙ ap closing (v .is)
+            ∙ sym scoped-is;
+        past = v .past;
+        kept = record {
+          words = words-then (omega (arith, scopes₁)) (omega arith) (omega arith) words₁ (v .kept .words);
+          scopes = omega (arith, v .kept .scopes, scopes₁);
+        };
       }
 
-      rep₁ : Rep bs ws₁ inside
-      rep₁ =
-          rw (wrote, isOpen)
-          (thunk-rep bs ws st (at .scope) (h .stands .rep) (h .few is) (h .stands .scope))
-
-      opened₁ : Open inner (inside .entries)
-      opened₁ = rw (isOpen, pushed) (opened-open t (st .entries) (h .stands .opened) tables-room)
-
-      abs₁ : absOf bs ws₁ inner inside ≡ openThunk (at .scope) (absOf bs ws t st)
-      abs₁ =
-          ap (λ (z : List ℕ). absOf bs z inner inside) wrote
-          ∙ ap (λ (z : Tables). absOf bs (withThunk ws (st .scopes) (at .scope)) z inside) pushed
-          ∙ ap (absOf bs (withThunk ws (st .scopes) (at .scope)) (opened t (st .entries))) isOpen
-          ∙ thunk-abs bs ws st (at .scope) (h .stands .rep) (h .few is) (h .stands .scope) t (h .stands .opened)
-          tables-room
-
-      level₁ : levelOf (scopeWord ws₁ (st .scopes)) ≡ levelOf (scopeWord ws (at .scope))
-      level₁ =
-          ap (λ (z : List ℕ). levelOf (scopeWord z (st .scopes))) wrote
-          ∙ thunk-level bs ws st (at .scope) (h .stands .rep) (h .few is) (h .stands .scope)
-
-      scopes₁ : inside .scopes ≡ st .scopes + 1
-      scopes₁ = ap (λ (z : State). z .scopes) isOpen
-
-      depth₁ : inner .depth ≡ t .depth + 1
-      depth₁ = ap (λ (z : Tables). z .depth) pushed
-
-      pub thunk-stands : Stands bs ws₁ inner inside i (depth (treeAt bs i)) own
-      thunk-stands = record {
-        rep = rep₁;
-        opened = opened₁;
-        scope = omega (arith, scopes₁);
-        held = h .stands .held;
-        top = h .stands .top;
-        level = omega (arith, level₁, h .stands .level);
-        tables = omega (arith, depth₁, h .room is);
-      }
-
-      env₁ : envOf ws₁ (at .top) ≡ envOf ws (at .top)
-      env₁ = env-words ws₁ ws (at .top) (words₁ .bound)
-
-      pub thunk-legible : Legible (treeAt bs i) (st .scopes) (envOf ws₁ (at .top)) (absOf bs ws₁ inner inside)
-      thunk-legible =
-          subst (λ (z : Env). Legible (treeAt bs i) (st .scopes) z (absOf bs ws₁ inner inside)) (sym env₁)
-          (subst (Legible (treeAt bs i) (st .scopes) (envOf ws (at .top))) (sym abs₁)
-          (record { def = h .def; well = h .inside is }))
-
-      -- ---- what a child gives
-
-      module _ (ws₂ : List ℕ) (r : Read)
-          (v : Reads bs ws₁ inner inside i own
-          (intern (treeAt bs i) i (st .scopes) (envOf ws₁ (at .top)) (absOf bs ws₁ inner inside)) ws₂ r) where
-        scoped-is : childOut
-            ≡ closing (intern (treeAt bs i) i (st .scopes) (envOf ws₁ (at .top)) (absOf bs ws₁ inner inside))
-        unfolding internScoped
-        scoped-is =
-            ap (λ (b : Bool). internScoped b (at .scope) (λ c s. intern (treeAt bs i) i c (envOf ws (at .top)) s)
-            (absOf bs ws t st)) is
-            ∙ ap (λ (z : ℕ). closing (intern (treeAt bs i) i z (envOf ws (at .top))
-            (openThunk (at .scope) (absOf bs ws t st)))) (scopes-count bs ws t st)
-            ∙ ap (λ (z : Env). closing (intern (treeAt bs i) i (st .scopes) z
-            (openThunk (at .scope) (absOf bs ws t st)))) (sym env₁)
-            ∙ ap (λ (z : intern.State). closing (intern (treeAt bs i) i (st .scopes) (envOf ws₁ (at .top)) z)) (sym
-            abs₁)
-
-        last-opened : Open (opened t (st .entries)) (r .step .st .entries)
-        last-opened = rw pushed at (v .opened)
-
-        closed₂ : Reads bs ws t st i at childOut ws₂ (closedRead r (thunkClosed (r .step .st) (st .entries)))
-        closed₂ = record {
-          rep =
-              closed-rep bs ws₂ t (r .step .st) (st .entries) (h .stands .opened) tables-room (v .rep) last-opened;
-          opened = h .stands .opened;
-          is =
-              out-closed bs ws₂ t (st .entries) r (h .stands .opened) tables-room
-              ∙ ap (λ (z : Tables). closing (outOf bs ws₂ z (r .step))) (sym pushed)
-              ∙ ap closing (v .is)
-              ∙ sym scoped-is;
-          past = v .past;
-          kept = record {
-            words = words-then (omega (arith, scopes₁)) (omega arith) (omega arith) words₁ (v .kept .words);
-            scopes = omega (arith, v .kept .scopes, scopes₁);
-          };
-        }
-
-        pub thunk-done : (last : State) → last ≡ thunkClosed (r .step .st) (st .entries) →
-            Reads bs ws t st i at childOut ws₂ (closedRead r last)
-        thunk-done last e = rw e closed₂
+      pub thunk-done : (last : State) → last ≡ thunkClosed (r .step .st) (st .entries) →
+          Reads bs ws t st i at thunkOut ws₂ (closedRead r last)
+      thunk-done last e = rw e closed₂

@@ -1,6 +1,6 @@
 -- What reading records by number asks and answers: bs are the forest's bytes, ws the work words.
--- In order: where a record is read; answers; a record; a record whose children are read; a child; operands; a lambda's
--- body; a forest.
+-- In order: where a record is read; answers; a record; a record whose children are read; a child in a thunk; operands;
+-- a lambda's body; a forest.
 -- Assumes nothing.
 use Prim.Native.Nat.{ℕ, suc, _+_, _-_, _*_, _<_, _≤_}
 use mathlib.Core.Path.{_≡_}
@@ -174,22 +174,19 @@ SelectedRead bs ws t st i at ws′ s =
     ReadsOn bs ws t st i at
     (internKind field i (at .scope) (recAt bs i) (envOf ws (at .top)) (kidsRead bs i) (absOf bs ws t st)) ws′ s
 
--- ---- a child
+-- ---- a child in a thunk
 
--- record i may be read as a child in scope `at .scope`, in a thunk of its own or not
-pub record Child (bs ws : List ℕ) (t : Tables) (st : State) (i : ℕ) (thunk : Bool) (at : Here) : Type 0 where
+-- record i, which is no definition, may be read in a thunk of its own, opened in scope `at .scope`
+pub record InThunk (bs ws : List ℕ) (t : Tables) (st : State) (i : ℕ) (at : Here) : Type 0 where
   pub stands : Stands bs ws t st i (depth (treeAt bs i)) at
-  pub def : Bool
-  pub plain : thunk ≡ false → Well (treeAt bs i) def (at .scope) (envOf ws (at .top)) (absOf bs ws t st)
-  pub room : thunk ≡ true → t .depth + depth (treeAt bs i) < 65
-  pub few : thunk ≡ true → st .scopes ≤ 2048
-  pub inside : thunk ≡ true → Well (treeAt bs i) def (st .scopes) (envOf ws (at .top))
-      (openThunk (at .scope) (absOf bs ws t st))
+  pub room : t .depth + depth (treeAt bs i) < 65
+  pub few : st .scopes ≤ 2048
+  pub well : Well (treeAt bs i) false (st .scopes) (envOf ws (at .top)) (openThunk (at .scope) (absOf bs ws t st))
 
-abbrev pub ChildRead : List ℕ → List ℕ → Tables → State → ℕ → Bool → Here → List ℕ → Read → Type 0
-ChildRead bs ws t st i thunk at ws′ r =
+abbrev pub ThunkRead : List ℕ → List ℕ → Tables → State → ℕ → Here → List ℕ → Read → Type 0
+ThunkRead bs ws t st i at ws′ r =
     Reads bs ws t st i at
-    (internScoped thunk (at .scope) (λ c s. intern.intern (treeAt bs i) i c (envOf ws (at .top)) s) (absOf bs ws t st))
+    (internScoped true (at .scope) (λ c s. intern.intern (treeAt bs i) i c (envOf ws (at .top)) s) (absOf bs ws t st))
     ws′ r
 
 -- ---- operands
@@ -198,6 +195,10 @@ ChildRead bs ws t st i thunk at ws′ r =
 abbrev pub trees : List ℕ → ℕ → ℕ → Trees
 trees bs i count = takeT count (treesFrom bs i)
 
+-- where an opcode has thunks, its operands are no block's children
+abbrev pub Plain : ℕ → Bool → Type 0
+Plain op block = (j : ℕ) → thunked op j ≡ true → block ≡ false
+
 -- they may be read at `at`, the operands of an opcode
 pub record Operands (bs ws : List ℕ) (t : Tables) (st : State) (i count op : ℕ) (at : Here) : Type 0 where
   pub there : count ≤ many (treesFrom bs i)
@@ -205,6 +206,7 @@ pub record Operands (bs ws : List ℕ) (t : Tables) (st : State) (i count op : �
   pub stands : Stands bs ws t st i (depths (trees bs i count)) at
   pub room : (j : ℕ) → thunked op j ≡ true → t .depth + depths (trees bs i count) < 65
   pub block : Bool
+  pub plain : Plain op block
   pub paid : ℕ
   pub well : WellAll (trees bs i count) block op 0 (at .scope) (envOf ws (at .top)) (absOf bs ws t st) paid
 

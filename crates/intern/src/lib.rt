@@ -19,8 +19,8 @@ ghost use Rattle.walk.specs.Walk.{recAt, Sound};
 ghost use Rattle.tables.specs.Tables.{Open};
 ghost use Rattle.interner.specs.State.{Rep};
 ghost use Rattle.concluding.specs.Concluding.{Branched};
-ghost use Rattle.intern.specs.Intern.{StandsAt, LegibleAt, CountedAt, WellKids, Child, Operands, Concluding};
-ghost use Rattle.intern.specs.Intern.{RecordRead, LambdaRead, SelectedRead, ChildRead, ReadsAll};
+ghost use Rattle.intern.specs.Intern.{StandsAt, LegibleAt, CountedAt, WellKids, InThunk, Operands, Concluding};
+ghost use Rattle.intern.specs.Intern.{RecordRead, LambdaRead, SelectedRead, ThunkRead, ReadsAll};
 ghost use Rattle.intern.specs.Intern.{Enters, Concluded, Ready, Completed, Interned};
 
 // Where a record is read: its scope, how many symbols are pending, how many ids are bound.
@@ -37,13 +37,13 @@ pub struct Read {
 }
 
 // Children read: their symbols are pending; the record after them; the scopes of the thunks among them. Or, where
-// `number` is not 0, a refusal.
+// `number` is not 0, a refusal. `branches` stands first: in this order a store and the load of it are of one width.
 pub struct Kids {
+    pub branches: Branches,
     pub st: State,
     pub number: u32,
     pub place: u32,
     pub next: usize,
-    pub branches: Branches,
 }
 
 // The body of a lambda, opened: where it is read, and the first of the arguments. Or a refusal.
@@ -154,7 +154,7 @@ fn complete(forest: &[u8], work: &mut [u32], t: Tables, i: usize, at: Here, k: K
 // ---- the walk
 
 // Record i's subtree. Rules out: a reading that is not counted; the record after i's first child.
-pub fn subtree(forest: &[u8], work: &mut [u32], t: Tables, i: usize, at: Here, st: State) -> Read
+fn subtree(forest: &[u8], work: &mut [u32], t: Tables, i: usize, at: Here, st: State) -> Read
     requires { ⌜ Sound (now forest) ⌝ }
     requires { ⌜ i < recordCount (now forest) ⌝ }
     requires { ⌜ StandsAt (now forest) (now work) t st i at ⌝ }
@@ -174,12 +174,16 @@ pub fn subtree(forest: &[u8], work: &mut [u32], t: Tables, i: usize, at: Here, s
     if shape == 12 {
         return lambda(forest, work, t, i, at, counted);
     }
+    let count = record::kids(forest, i);
     let selected = if shape == 17 {
         field(forest, work, t, i, at, counted)
     } else {
-        let count = record::kids(forest, i);
-        let op = record::opcode(forest, i);
-        Selected::Children(operands(forest, work, t, i + 1, count, op, at, counted))
+        if count == 0 {
+            Selected::Children(small::unread(counted, i + 1))
+        } else {
+            let op = record::opcode(forest, i);
+            Selected::Children(operands(forest, work, t, i + 1, count, op, at, counted))
+        }
     };
     match selected {
         Selected::Done(r) => r,
@@ -272,15 +276,12 @@ fn operands(
         let thunk = graph::is_thunked(op, j);
         let next = k.next;
         let before = k.st;
-        let r = child(
-            forest,
-            work,
-            t,
-            next,
-            thunk,
-            small::child_at(at, j, top),
-            before,
-        );
+        let here = small::child_at(at, j, top);
+        let r = if thunk {
+            in_thunk(forest, work, t, next, here, before)
+        } else {
+            subtree(forest, work, t, next, here, before)
+        };
         let step = r.step;
         if step.number != 0 {
             return small::failed(k, r);
@@ -293,47 +294,36 @@ fn operands(
     k
 }
 
-// A child, in a thunk of its own or in the scope of its parent. Rules out: a thunk's table left open; a symbol made in
-// the thunk that is found after it.
-fn child(
-    forest: &[u8],
-    work: &mut [u32],
-    t: Tables,
-    i: usize,
-    thunk: bool,
-    at: Here,
-    st: State,
-) -> Read
+// A child in a thunk of its own, read as the one operand of nothing: opcode 0 has no thunks. Rules out: a thunk's table
+// left open; a symbol made in the thunk that is found after it.
+fn in_thunk(forest: &[u8], work: &mut [u32], t: Tables, i: usize, at: Here, st: State) -> Read
     requires { ⌜ Sound (now forest) ⌝ }
     requires { ⌜ i < recordCount (now forest) ⌝ }
-    requires { ⌜ Child (now forest) (now work) t st i thunk at ⌝ }
-    ensures { λ r. ⌜ ChildRead (now (forest .entry)) (now (work .entry)) t st i thunk at (now (work .exit)) r ⌝ }
+    requires { ⌜ InThunk (now forest) (now work) t st i at ⌝ }
+    ensures { λ r. ⌜ ThunkRead (now (forest .entry)) (now (work .entry)) t st i at (now (work .exit)) r ⌝ }
 {
-    if !thunk {
-        return subtree(forest, work, t, i, at, st);
-    }
     let scope = st.scopes as usize;
     let cur = at.scope;
+    let held = at.held;
     let inside = opening::open_thunk(work, st, cur);
     let own = Here {
         scope,
-        held: at.held,
+        held,
         top: at.top,
     };
     let top = st.entries;
     let inner = t.push(top as usize);
-    let r = subtree(forest, work, inner, i, own, inside);
-    let step = r.step;
-    let last = step.st;
+    let k = operands(forest, work, inner, i, 1, 0, own, inside);
+    let last = k.st;
     let closed = Step {
         st: opening::close_thunk(last, top),
-        symbol: step.symbol,
-        number: step.number,
-        place: step.place,
+        symbol: work[PENDING + held],
+        number: k.number,
+        place: k.place,
     };
     Read {
         step: closed,
-        next: r.next,
+        next: k.next,
     }
 }
 

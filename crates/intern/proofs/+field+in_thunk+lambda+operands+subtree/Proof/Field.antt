@@ -5,17 +5,19 @@ use native.Mathlib.Omega.{arith}
 use borrow.Author.Tests.{not-true, not-false}
 use denote.Ref.{now}
 use Rattle.walk.proofs.Bridge.{records-few}
-use Rattle.intern.proofs.Gives.{children-operands, field-one, field-fails, field-selects, field-input}
-use Rattle.intern.proofs.Gives.{field-once, field-done, recount-asks, recount-done, again-operands, again-done}
+use Rattle.intern.proofs.Gives.{children-operands, field-one, field-plain, field-fails, field-selects}
+use Rattle.intern.proofs.Gives.{field-input, field-once, field-done, recount-asks, recount-done, again-operands}
+use Rattle.intern.proofs.Gives.{again-done}
 use Rattle.intern.proofs.field.Reads as field
-use Rattle.intern.proofs.+child+field+lambda+operands+subtree.Lts-field as field-lts
+use Rattle.intern.proofs.+field+in_thunk+lambda+operands+subtree.Lts-field as field-lts
 use Rattle.intern.proofs.operands.Reads as operands
 use Rattle.concluding.proofs.field.Reads as field-reads
 use Rattle.concluding.proofs.reads_again.Reads as reads-again-reads
 use Rattle.intern.proofs.small.repeats.Reads as repeats-reads
 use Rattle.intern.proofs.small.repeated.Reads as repeated-reads
 use Rattle.record.proofs.opcode.Reads as opcode-reads
-use Rattle.intern.proofs.+child+field+lambda+operands+subtree.Proof.Measures.{field-at, operands-below}
+use Rattle.intern.proofs.+field+in_thunk+lambda+operands+subtree.Proof.Measures.{weight-between, field-at}
+use Rattle.intern.proofs.+field+in_thunk+lambda+operands+subtree.Proof.Measures.{operands-below}
 
 abbrev calls : ℕ → field-lts.Claims
 calls t = (
@@ -49,8 +51,10 @@ field-part t =
     let one = field-one (now (a .forest)) (now (a .work)) (a .t) (a .st) (a .i) (a .at) (p .0) (p .1 .0) (p .1 .1 .1 .0)
     (p .1 .1 .1 .1) (p .1 .1 .0 .0) in
     let operands = children-operands (now (a .forest)) (now (a .work)) (a .t) (a .st) (a .i) (a .at) (p .0) (p .1 .0)
-    (p .1 .1 .1 .0) (p .1 .1 .1 .1) 1 _ one (op .opcode .ensures) in
-    (omega (arith, s .pre .0, p .1 .0, records-few _ (p .0)), (p .0, operands)))
+    (p .1 .1 .1 .0) (p .1 .1 .1 .1) 1 _ one (op .opcode .ensures)
+    (field-plain (now (a .forest)) (now (a .work)) (a .t) (a .st) (a .i) (a .at) (p .0) (p .1 .0) (p .1 .1 .1 .0)
+    (p .1 .1 .1 .1) (p .1 .1 .0 .0)) in
+    (omega (arith, s .pre .0, p .1 .0, records-few _ (p .0), weight-between (op .opcode .result)), (p .0, operands)))
     (λ c. let o = c .before .before .before .before in
     o .operands .kept .1 .0)
     (λ c. let o = c .before .before .before .before in
@@ -145,7 +149,7 @@ field-part t =
     let operands = again-operands (now (a .forest)) (now (a .work)) (a .t) (a .st) (a .i) (a .at) (p .0) (p .1 .0)
     (p .1 .1 .1 .0) (p .1 .1 .1 .1) (p .1 .1 .0 .0) (p .1 .1 .0 .1) _ (op .opcode .ensures) _ _ (o .operands .ensures)
     (ok .if1 .left) in
-    (omega (arith, s .pre .0, p .1 .0, records-few _ (p .0)), (p .0, operands)))
+    (omega (arith, s .pre .0, p .1 .0, records-few _ (p .0), weight-between (op .opcode .result)), (p .0, operands)))
     (λ c. let o2 = c .before .before in
     let o = o2 .before .before .before .before .before .before .before .before .before .before .before .before in
     o2 .operands2 .kept .1 .0 ∙ o .operands .kept .1 .0)

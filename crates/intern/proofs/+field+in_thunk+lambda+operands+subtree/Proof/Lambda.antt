@@ -7,13 +7,14 @@ use Rattle.walk.proofs.Bridge.{records-few}
 use Rattle.intern.proofs.Lambdas.{lambda-unmade, lambda-operands, lambda-refused, lambda-conclude, lambda-body}
 use Rattle.intern.proofs.Lambdas.{lambda-first, lambda-done}
 use Rattle.intern.proofs.lambda.Reads as lambda
-use Rattle.intern.proofs.+child+field+lambda+operands+subtree.Lts-lambda as lambda-lts
+use Rattle.intern.proofs.+field+in_thunk+lambda+operands+subtree.Lts-lambda as lambda-lts
 use Rattle.intern.proofs.operands.Reads as operands
 use Rattle.concluding.proofs.lambda.Reads as lambda-reads
 use Rattle.intern.proofs.enter_lambda.Reads as enter-lambda-reads
 use Rattle.intern.proofs.small.refused.Reads as refused-reads
 use Rattle.record.proofs.opcode.Reads as opcode-reads
-use Rattle.intern.proofs.+child+field+lambda+operands+subtree.Proof.Measures.{lambda-at, operands-below}
+use Rattle.intern.proofs.+field+in_thunk+lambda+operands+subtree.Proof.Measures.{weight-between, lambda-at}
+use Rattle.intern.proofs.+field+in_thunk+lambda+operands+subtree.Proof.Measures.{operands-below}
 
 pub lambda-part : {M : Type 1} (t : ℕ) → lambda-lts.Closed (
   enter-lambda-reads.Asked,
@@ -63,8 +64,13 @@ lambda-part t =
     let a = c12 .args in
     let p = c12 .pre .1 in
     let operands = lambda-operands (now (a .forest)) (now (a .work)) (a .t) (a .st) (a .i) (a .at) (p .0) (p .1 .0 .0)
-    (p .1 .0 .1) (p .1 .1 .0) (p .1 .1 .1) _ _ (c8 .enter-lambda .ensures) (c3 .if1 .left) _ (c1 .opcode .ensures) in
-    (omega (arith, c12 .pre .0, p .1 .0 .0, records-few _ (p .0)), (p .0, operands)))
+    (p .1 .0 .1) (p .1 .1 .0) (p .1 .1 .1) _ _ (c8 .enter-lambda .ensures) (c3 .if1 .left) _ (c1 .opcode .ensures) in (
+      omega (arith, c12 .pre .0, p .1 .0 .0, records-few _ (p .0), weight-between (c1 .opcode .result)),
+      (
+        p .0,
+        operands,
+      ),
+    ))
     (λ c κs. tt)
     (λ c. let c6 = c .before .before .before .before .before .before in
     let c15 = c6 .before .before .before .before .before .before .before .before .before in
