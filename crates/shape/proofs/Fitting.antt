@@ -12,10 +12,10 @@ use lib.Dec.{leb}
 use lib.ListN.{length}
 use Rattle.model.specs.Tree.{Row}
 use Rattle.model.specs.Shape.{shapes, fits, whole, aId}
-use Rattle.shape.specs.Table.{shapeAt}
 use Rattle.model.specs.Shape.{aArg}
 use Rattle.shape.specs.Args.{Left}
 use Rattle.shape.proofs.Part.{id-short, id-end, never, whole-stands, whole-ends, whole-byte}
+use Rattle.shape.proofs.Table.{shapeAt}
 use Rattle.shape.proofs.Args.{stands-id}
 
 -- ---- the tests of `fits`

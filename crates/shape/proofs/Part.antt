@@ -3,7 +3,7 @@
 -- Assumes nothing.
 use Prim.Native.Nat.{ℕ, suc, _+_, _-_, _<_, _≤_}
 use mathlib.Core.Path.{_≡_, refl, sym, _∙_}
-use mathlib.Core.Bool.{true, false}
+use mathlib.Core.Bool.{Bool, true, false}
 use mathlib.Core.Option.{none, some}
 use mathlib.Core.List.{List, [], _∷_}
 use native.Mathlib.Omega.{arith}
@@ -216,6 +216,11 @@ pub whole-ends : {f : Reader} {lit : List ℕ} (p : Part) → Reads f lit 0 p �
 unfolding whole
 whole-ends {f} {lit} (End k) t = rw (← t .is, whole, length-drop) (left-over k (length lit) (t .within .1))
 whole-ends {f} {lit} Broken t = rw (← t .is, whole)
+
+-- the code's answer for a part that is the whole
+pub ends-whole : {f : Reader} {lit : List ℕ} {p : Part} {b : Bool} → b ≡ endsAt (length lit) p → Reads f lit 0 p
+    → b ≡ whole f lit
+ends-whole {p = p} e t = e ∙ whole-ends p t
 
 pub whole-byte : (lit : List ℕ) → eqb (length lit) 1 ≡ whole aByte lit
 unfolding whole aByte

@@ -1,5 +1,6 @@
 -- Where a part of a literal ends, as the code says it, beside the model's readers, which say what is left.
--- In order: an answer as a reader's; an answer within the literal; both at once; an answer that is the whole literal.
+-- In order: two readers that the model does not name; an answer as a reader's; an answer within the literal; both at
+-- once; an answer that is the whole literal.
 -- Assumes nothing.
 use Prim.Native.Nat.{ℕ, _≤_}
 use mathlib.Core.Path.{_≡_}
@@ -8,9 +9,17 @@ use mathlib.Core.Option.{Option, none, some}
 use mathlib.Core.List.{List}
 use lib.Dec.{eqb}
 use lib.ListN.{length, drop}
-use Rattle.model.specs.Shape.{Reader}
+use Rattle.model.specs.Shape.{Reader, aByte, aType, _then_, aCounted}
 use Rattle.shape.specs.declared.parts.Part.{Part}
 use Rattle.shape.specs.declared.parts.Part.the-variants.{End, Broken}
+
+-- "byte, type"
+abbrev pub aByteType : Reader
+aByteType = aByte then aType
+
+-- "two bytes, a count byte, types"
+abbrev pub aMethod : Reader
+aMethod = aByte then aByte then aCounted aType
 
 -- what is left of a literal after a part
 abbrev pub rest : List ℕ → Part → Option (List ℕ)

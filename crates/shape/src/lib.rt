@@ -14,79 +14,32 @@ use parts::method_part;
 use parts::opt_part;
 use parts::type_part;
 ghost use mathlib.Core.Path.{_≡_};
-ghost use mathlib.Core.Bool.{false};
+ghost use mathlib.Core.Bool.{false, _&&_};
 ghost use mathlib.Core.Option.{none};
 ghost use Prim.Native.Nat.{ℕ, _+_, _<_, _≤_};
 ghost use mathlib.Core.List.{List, map};
+ghost use lib.Dec.{leb};
 ghost use lib.ListN.{length, drop};
 ghost use Rattle.model.specs.Lists.{isIn};
 ghost use Rattle.model.specs.Bytes.{u32};
 ghost use Rattle.model.specs.Tree.{rec};
 ghost use Rattle.model.specs.Shape.{aArg, bothWays};
 ghost use Rattle.model.specs.Shape as model;
-ghost use Rattle.shape.specs.Table.{rightAt, LimitsOf};
 ghost use Rattle.shape.specs.Args.{ArgEnd};
 
 // ---- the table of shapes
 
-// What a shape allows: the fewest and the most children, the greatest aux, and the literal's form.
-struct Limits(usize, usize, u8, u8);
-
-// What a shape allows, by its number. For a number that is no shape's, no count of children is right.
-fn limits_of(shape: u8) -> Limits
-    ensures { λ r. ⌜ LimitsOf shape r ⌝ }
+// Whether a record has from `fewest` to `most` children, and an aux of at most `high`.
+fn within(kids: usize, fewest: usize, most: usize, aux: u8, high: u8) -> bool
+    ensures { λ r. ⌜ r ≡ leb fewest kids && leb kids most && leb aux high ⌝ }
 {
-    match shape {
-        0 => Limits(0, 0, 6, 0), // Const
-        1 => Limits(0, 0, 0, 1), // Unparsed
-        2 => Limits(0, 0, 0, 2), // Zero
-        3 => Limits(1, 1, 0, 2), // One
-        4 => Limits(2, 2, 0, 2), // Two
-        5 => Limits(3, 3, 0, 2), // Three
-        6 => Limits(4, 4, 0, 2), // Four
-        7 => Limits(0, 0, 0, 3), // ValUse
-        8 => Limits(0, 0, 0, 3), // ConstPlaceholder
-        9 => Limits(0, 0, 0, 4), // TaggedVar
-        10 => Limits(1, 1, 0, 4), // ValDef
-        11 => Limits(1, 65535, 0, 2), // BlockValue
-        12 => Limits(1, 1, 15, 5), // FuncValue
-        13 => Limits(1, 65535, 0, 6), // MethodCall
-        14 => Limits(0, 65535, 0, 7), // ConcreteCollection
-        15 => Limits(0, 0, 0, 8), // BoolCollection
-        16 => Limits(0, 65535, 0, 2), // Tuple
-        17 => Limits(1, 1, 0, 9), // SelectField
-        18 => Limits(1, 1, 0, 10), // ExtractRegisterAs
-        19 => Limits(0, 0, 0, 10), // GetVar
-        20 => Limits(0, 0, 0, 10), // DeserializeContext
-        21 => Limits(0, 1, 0, 10), // DeserializeRegister
-        22 => Limits(0, 65535, 0, 2), // SigmaCollection
-        23 => Limits(0, 0, 0, 7), // NoneValue
-        24 => Limits(2, 3, 0, 2), // ByIndex
-        25 => Limits(1, 1, 0, 7), // NumericCast
-        26 => Limits(1, 65535, 0, 2), // FuncApply
-        _ => Limits(1, 0, 0, 11), // no shape
+    if kids < fewest {
+        return false;
     }
-}
-
-// Whether a literal has a form, at an aux. The forms are numbered as in `rights`.
-fn has_form(form: u8, aux: u8, lit: &[u8]) -> bool
-    ensures { λ r. ⌜ r ≡ rightAt form aux (now (lit .entry)) ⌝ }
-{
-    let n = lit.len();
-    match form {
-        0 => 1 <= n,
-        1 => true,
-        2 => n == 0,
-        3 => ends_at(n, id_part(lit, 0)),
-        4 => ends_at(n, arg_part(lit, 0)),
-        5 => ends_at(n, args_part(lit, 0, aux as usize)),
-        6 => ends_at(n, method_part(lit, 0)),
-        7 => ends_at(n, type_part(lit, 0)),
-        8 => all_bits(lit),
-        9 => n == 1,
-        10 => ends_at(n, byte_type_part(lit, 0)),
-        _ => false,
+    if most < kids {
+        return false;
     }
+    aux <= high
 }
 
 // Check 4: whether a record's children, aux and literal are those of its shape.
@@ -94,17 +47,37 @@ fn has_form(form: u8, aux: u8, lit: &[u8]) -> bool
 pub fn fits(shape: u8, kids: usize, aux: u8, lit: &[u8]) -> bool
     ensures { λ r. ⌜ ((op : ℕ) → r ≡ model.fits (record { rec = rec shape op aux (now (lit .entry)); kids = kids })) ⌝ }
 {
-    let limits = limits_of(shape);
-    if kids < limits.0 {
-        return false;
+    let n = lit.len();
+    match shape {
+        0 => within(kids, 0, 0, aux, 6) && 1 <= n, // Const
+        1 => within(kids, 0, 0, aux, 0), // Unparsed
+        2 => within(kids, 0, 0, aux, 0) && n == 0, // Zero
+        3 => within(kids, 1, 1, aux, 0) && n == 0, // One
+        4 => within(kids, 2, 2, aux, 0) && n == 0, // Two
+        5 => within(kids, 3, 3, aux, 0) && n == 0, // Three
+        6 => within(kids, 4, 4, aux, 0) && n == 0, // Four
+        7 => within(kids, 0, 0, aux, 0) && ends_at(n, id_part(lit, 0)), // ValUse
+        8 => within(kids, 0, 0, aux, 0) && ends_at(n, id_part(lit, 0)), // ConstPlaceholder
+        9 => within(kids, 0, 0, aux, 0) && ends_at(n, arg_part(lit, 0)), // TaggedVar
+        10 => within(kids, 1, 1, aux, 0) && ends_at(n, arg_part(lit, 0)), // ValDef
+        11 => within(kids, 1, 65535, aux, 0) && n == 0, // BlockValue
+        12 => within(kids, 1, 1, aux, 15) && ends_at(n, args_part(lit, 0, aux as usize)), // FuncValue
+        13 => within(kids, 1, 65535, aux, 0) && ends_at(n, method_part(lit, 0)), // MethodCall
+        14 => within(kids, 0, 65535, aux, 0) && ends_at(n, type_part(lit, 0)), // ConcreteCollection
+        15 => within(kids, 0, 0, aux, 0) && all_bits(lit), // BoolCollection
+        16 => within(kids, 0, 65535, aux, 0) && n == 0, // Tuple
+        17 => within(kids, 1, 1, aux, 0) && n == 1, // SelectField
+        18 => within(kids, 1, 1, aux, 0) && ends_at(n, byte_type_part(lit, 0)), // ExtractRegisterAs
+        19 => within(kids, 0, 0, aux, 0) && ends_at(n, byte_type_part(lit, 0)), // GetVar
+        20 => within(kids, 0, 0, aux, 0) && ends_at(n, byte_type_part(lit, 0)), // DeserializeContext
+        21 => within(kids, 0, 1, aux, 0) && ends_at(n, byte_type_part(lit, 0)), // DeserializeRegister
+        22 => within(kids, 0, 65535, aux, 0) && n == 0, // SigmaCollection
+        23 => within(kids, 0, 0, aux, 0) && ends_at(n, type_part(lit, 0)), // NoneValue
+        24 => within(kids, 2, 3, aux, 0) && n == 0, // ByIndex
+        25 => within(kids, 1, 1, aux, 0) && ends_at(n, type_part(lit, 0)), // NumericCast
+        26 => within(kids, 1, 65535, aux, 0) && n == 0, // FuncApply
+        _ => false,
     }
-    if limits.1 < kids {
-        return false;
-    }
-    if limits.2 < aux {
-        return false;
-    }
-    has_form(limits.3, aux, lit)
 }
 
 // ---- opcodes

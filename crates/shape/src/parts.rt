@@ -5,8 +5,7 @@ ghost use mathlib.Core.Path.{_≡_};
 ghost use Prim.Native.Nat.{_<_, _≤_};
 ghost use lib.ListN.{length};
 ghost use Rattle.model.specs.Shape.{aByte, aId, aType, aOpt, aArg, times, aCounted, bits};
-ghost use Rattle.shape.specs.Part.{Reads, endsAt};
-ghost use Rattle.shape.specs.Table.{aByteType, aMethod};
+ghost use Rattle.shape.specs.Part.{aByteType, aMethod, Reads, endsAt};
 
 // Where a part of a literal ends, if it stands there.
 pub enum Part {

@@ -1,35 +1,123 @@
--- `shape::fits` meets its contract: each answer is one of the model's four tests.
+-- `shape::fits` meets its contract: each arm has the limits and the literal of its row.
 -- Assumes nothing.
 use borrow.Author.Needs.{needs}
-use Rattle.shape.proofs.Table.{fits-few, fits-many, fits-over, fits-right}
+use mathlib.Core.Path.{refl}
+use Rattle.model.specs.Shape.{shapes, whole}
+use Rattle.shape.proofs.Part.{ends-whole, whole-byte}
+use Rattle.shape.proofs.Table.{fits-in, fits-out, fits-any, fits-none}
 use Rattle.shape.proofs.fits.Statement.{statement}
 use Rattle.shape.proofs.fits.Tie as tie
 
-returns-2 : tie.Need-returns-2
-returns-2 c =
-    let row = c .before .before .before .before .limits-of .ensures in
-    fits-many row _ _ _ (c .before .before .if1 .left) (c .if2 .taken)
-
-returns-3 : tie.Need-returns-3
-returns-3 c =
-    let row = c .before .before .before .before .before .before .limits-of .ensures in
-    let least = c .before .before .before .before .if1 .left in
-    fits-over row _ _ _ least (c .before .before .if2 .left) (c .if3 .taken)
-
-returns-4 : tie.Need-returns-4
-returns-4 c =
-    let row = c .before .before .before .before .before .before .before .limits-of .ensures in
-    let least = c .before .before .before .before .before .if1 .left in
-    let most = c .before .before .before .if2 .left in
-    fits-right row _ _ _ least most (c .has-form .ensures) (c .before .if3 .left)
-
 pub fits-spec : {M : Type 1} → statement M
+unfolding shapes whole
 fits-spec =
     tie.close
     (tie.spec
     (λ c κs. search needs)
-    (λ c. fits-few (c .before .before .limits-of .ensures) _ _ _ (c .if1 .taken))
-    returns-2
-    returns-3
     (λ c κs. search needs)
-    returns-4)
+    (λ c κs. search needs)
+    (λ c κs. search needs)
+    (λ c κs. search needs)
+    (λ c κs. search needs)
+    (λ c κs. search needs)
+    (λ c κs. search needs)
+    (λ c κs. search needs)
+    (λ c κs. search needs)
+    (λ c κs. search needs)
+    (λ c κs. search needs)
+    (λ c κs. search needs)
+    (λ c κs. search needs)
+    (λ c κs. search needs)
+    (λ c κs. search needs)
+    (λ c κs. search needs)
+    (λ c κs. search needs)
+    (λ c κs. search needs)
+    (λ c κs. search needs)
+    (λ c κs. search needs)
+    (λ c κs. search needs)
+    (λ c κs. search needs)
+    (λ c κs. search needs)
+    (λ c κs. search needs)
+    (λ c κs. search needs)
+    (λ c κs. search needs)
+    (λ c κs. search needs)
+    (λ c κs. search needs)
+    (λ c κs. search needs)
+    (λ c κs. search needs)
+    (λ c κs. search needs)
+    (λ c κs. search needs)
+    (λ c κs. search needs)
+    (λ c κs. search needs)
+    (λ c κs. search needs)
+    (λ c κs. search needs)
+    (λ c κs. search needs)
+    (λ c κs. search needs)
+    (λ c κs. search needs)
+    (λ c κs. search needs)
+    (λ c κs. search needs)
+    (λ c κs. search needs)
+    (λ c κs. search needs)
+    (λ c κs. search needs)
+    (λ c κs. search needs)
+    (λ c κs. search needs)
+    (λ c κs. search needs)
+    (λ c κs. search needs)
+    (λ c κs. search needs)
+    (λ c κs. search needs)
+    (λ c κs. search needs)
+    (λ c κs. search needs)
+    (λ c κs. search needs)
+    (λ c. search (fits-in 0))
+    (λ c. search (fits-out 0))
+    (λ c. search (fits-any 1))
+    (λ c. search (fits-in 2))
+    (λ c. search (fits-out 2))
+    (λ c. search (fits-in 3))
+    (λ c. search (fits-out 3))
+    (λ c. search (fits-in 4))
+    (λ c. search (fits-out 4))
+    (λ c. search (fits-in 5))
+    (λ c. search (fits-out 5))
+    (λ c. search (fits-in 6))
+    (λ c. search (fits-out 6))
+    (λ c. search (fits-in 7, ends-whole (c .ends-at .ensures) (c .before .id-part .ensures)))
+    (λ c. search (fits-out 7))
+    (λ c. search (fits-in 8, ends-whole (c .ends-at2 .ensures) (c .before .id-part2 .ensures)))
+    (λ c. search (fits-out 8))
+    (λ c. search (fits-in 9, ends-whole (c .ends-at3 .ensures) (c .before .arg-part .ensures)))
+    (λ c. search (fits-out 9))
+    (λ c. search (fits-in 10, ends-whole (c .ends-at4 .ensures) (c .before .arg-part2 .ensures)))
+    (λ c. search (fits-out 10))
+    (λ c. search (fits-in 11))
+    (λ c. search (fits-out 11))
+    (λ c. search (fits-in 12, ends-whole (c .ends-at5 .ensures) (c .before .args-part .ensures)))
+    (λ c. search (fits-out 12))
+    (λ c. search (fits-in 13, ends-whole (c .ends-at6 .ensures) (c .before .method-part .ensures)))
+    (λ c. search (fits-out 13))
+    (λ c. search (fits-in 14, ends-whole (c .ends-at7 .ensures) (c .before .type-part .ensures)))
+    (λ c. search (fits-out 14))
+    (λ c. search (fits-in 15))
+    (λ c. search (fits-out 15))
+    (λ c. search (fits-in 16))
+    (λ c. search (fits-out 16))
+    (λ c. search (fits-in 17, whole-byte))
+    (λ c. search (fits-out 17))
+    (λ c. search (fits-in 18, ends-whole (c .ends-at8 .ensures) (c .before .byte-type-part .ensures)))
+    (λ c. search (fits-out 18))
+    (λ c. search (fits-in 19, ends-whole (c .ends-at9 .ensures) (c .before .byte-type-part2 .ensures)))
+    (λ c. search (fits-out 19))
+    (λ c. search (fits-in 20, ends-whole (c .ends-at10 .ensures) (c .before .byte-type-part3 .ensures)))
+    (λ c. search (fits-out 20))
+    (λ c. search (fits-in 21, ends-whole (c .ends-at11 .ensures) (c .before .byte-type-part4 .ensures)))
+    (λ c. search (fits-out 21))
+    (λ c. search (fits-in 22))
+    (λ c. search (fits-out 22))
+    (λ c. search (fits-in 23, ends-whole (c .ends-at12 .ensures) (c .before .type-part2 .ensures)))
+    (λ c. search (fits-out 23))
+    (λ c. search (fits-in 24))
+    (λ c. search (fits-out 24))
+    (λ c. search (fits-in 25, ends-whole (c .ends-at13 .ensures) (c .before .type-part3 .ensures)))
+    (λ c. search (fits-out 25))
+    (λ c. search (fits-in 26))
+    (λ c. search (fits-out 26))
+    (λ c. fits-none _ _ _ _ (c .match .rest)))
