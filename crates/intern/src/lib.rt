@@ -252,8 +252,9 @@ fn field(forest: &[u8], work: &mut [u32], t: Tables, i: usize, at: Here, st: Sta
     Selected::Children(operands(forest, work, t, i + 1, 1, op, at, after))
 }
 
-// The operands of an opcode, `count` of them from record i on. Rules out: a symbol stored over an older pending one; a
-// definition in force in its own value; the scope of a thunk not noted.
+// The operands of an opcode, `count` of them from record i on. `subtree` is called here and nowhere else, so that the
+// compiler makes one function of the two. Rules out: a symbol stored over an older pending one; a definition in force in
+// its own value; the scope of a thunk not noted.
 fn operands(
     forest: &[u8],
     work: &mut [u32],
