@@ -212,7 +212,7 @@ fn lambda(
     )
 }
 
-// A scope: its schedule, then its definitions and its result.
+// A scope: its schedule, then its definitions and its result. Where no symbol gets a definition, its result alone.
 // Rules out: a block around a result without definitions; one definition left out of its block.
 fn define(
     forest: &[u8],
@@ -235,9 +235,13 @@ fn define(
     if 256 < p.rows {
         return p;
     }
+    if !planner::any_member(forest, work, g, root, sc, map) {
+        return build(forest, work, g, root, map, last, above, p);
+    }
     let mut order = schedule::zeros16();
     let count = schedule::schedule(forest, work, g, root, sc, &mut order);
     let k = planner::members(forest, work, g, &order, count, sc, map);
+    // a member need not stand in the order
     if k == 0 {
         return build(forest, work, g, root, map, last, above, p);
     }

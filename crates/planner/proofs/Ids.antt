@@ -33,7 +33,7 @@ copy-end ids map s e l h = sym (take-all s map l) ∙ (e ∙ take-all s ids h)
 
 -- ---- ids given one after the other
 
-range-more : (a n : ℕ) → range a (suc n) ≡ range a n ++ ((a + n) ∷ [])
+pub range-more : (a n : ℕ) → range a (suc n) ≡ range a n ++ ((a + n) ∷ [])
 unfolding range
 range-more a zero = let e : a + 0 ≡ a = omega arith in rw e
 range-more a (suc n) =

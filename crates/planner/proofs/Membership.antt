@@ -1,23 +1,27 @@
 -- Which symbols get a definition. In order: the graph's symbol s from its words, and as the code tests it; the tests
--- of `member` one by one; one symbol more of an order.
+-- of `member` one by one; one symbol more of an order; whether there is one among all symbols below a number.
 -- Assumes nothing.
 use Prim.Native.Nat.{ℕ, zero, suc, _+_, _<_, _≤_}
 use mathlib.Core.Path.{_≡_, refl, sym, ap, ap₂, _∙_}
 use mathlib.Core.Bool.{Bool, true, false, not, _&&_, and-true, and-false}
 use mathlib.Core.Option.{Option, none, some}
+use mathlib.Core.Logic.{inl, inr}
 use mathlib.Core.List.{List, [], _∷_}
 use native.Mathlib.Omega.{arith}
 use native.Mathlib.Numerals.{add-one}
-use lib.Dec.{eqb}
+use lib.Dec.{eqb, ltb}
 use lib.ListN.{length, getD, take}
 use lib.Seq.{take-suc}
-use borrow.Author.Tests.{eq-eqb, ne-eqb}
+use borrow.Author.Tests.{eqb-true, eqb-false, eq-eqb, ne-eqb, ltb-false, lt-ltb}
 use Rattle.model.specs.Intern.{Sym, Env, symAt}
 use Rattle.model.specs.Gate.{Graph, symOf, usage, shouldHoist}
 use Rattle.model.specs.Schedule.{isArg}
 use Rattle.model.specs.Materialize.{idGiven, member}
 use Rattle.laws.specs.Defining.{membersIn}
+use Rattle.laws.specs.Range.{range}
 use Rattle.laws.proofs.Defining.{members-append, members-member, members-other}
+use Rattle.laws.proofs.Members.{In}
+use Rattle.laws.proofs.Falls.{Under}
 use Rattle.key.specs.declared.Symbol.{Symbol}
 use Rattle.key.specs.Key.{symbolAt}
 use Rattle.symbols.specs.Symbols.{symsOf, symFrom}
@@ -25,6 +29,7 @@ use Rattle.symbols.specs.Symbols as words
 use Rattle.symbols.proofs.Laws.{sym-at}
 use Rattle.graph.specs.Graph.{Tests, graphOf}
 use Rattle.planner.specs.Building.{Stands, Maps, given, more}
+use Rattle.planner.proofs.Ids.{range-more}
 
 -- ---- the graph in the words
 
@@ -128,3 +133,69 @@ members-more gr sc env order i s k b lt e f g =
         → more b k ≡ membersIn gr sc env (take i order) + membersIn gr sc env (x ∷ [])
     go true h = omega (arith, g, members-member gr sc x [] env h)
     go false h = omega (arith, g, members-other gr sc x [] env h)
+
+-- ---- all symbols below a number
+
+in-range : (a n s : ℕ) → a ≤ s → s < a + n → In s (range a n)
+unfolding range
+in-range a zero s l k = absurd (omega arith)
+in-range a (suc n) s l k = go (eqb s a) refl (in-range (suc a) n s)
+  where
+    go : (b : Bool) → eqb s a ≡ b → (suc a ≤ s → s < suc a + n → In s (range (suc a) n)) → In s (range a (suc n))
+    go true e rest = inl (eqb-true s a e)
+    go false e rest = let f = eqb-false s a e in inr (rest (omega arith) (omega arith))
+
+module _ (gr : Graph) (sc : ℕ) (env : Env) where
+  members-some : (xs : List ℕ) (s : ℕ) → In s xs → member gr sc env s ≡ true → 0 < membersIn gr sc env xs
+  members-some (x ∷ xs) s (inl e) is =
+      omega (arith, members-member gr sc x xs env (ap (member gr sc env) (sym e) ∙ is))
+  members-some (x ∷ xs) s (inr m) is = go (member gr sc env x) refl (members-some xs s m is)
+    where
+      go : (b : Bool) → member gr sc env x ≡ b → 0 < membersIn gr sc env xs → 0 < membersIn gr sc env (x ∷ xs)
+      go true e h = omega (arith, members-member gr sc x xs env e)
+      go false e h = omega (arith, h, members-other gr sc x xs env e)
+
+  -- none below n, so none in a list of numbers below n
+  pub none-under : (n : ℕ) → membersIn gr sc env (range 0 n) ≡ 0 → (xs : List ℕ) → Under n xs
+      → membersIn gr sc env xs ≡ 0
+  none-under n z [] low = sym (members-none gr sc env)
+  none-under n z (x ∷ xs) low =
+      go (member gr sc env x) refl (none-under n z xs (λ y m. low y (inr m)))
+    where
+      go : (b : Bool) → member gr sc env x ≡ b → membersIn gr sc env xs ≡ 0 → membersIn gr sc env (x ∷ xs) ≡ 0
+      go true e h =
+          let l = low x (inl refl) in
+          absurd (omega (arith, z, members-some (range 0 n) x (in-range 0 n x (omega arith) (omega arith)) e))
+      go false e h = members-other gr sc x xs env e ∙ h
+
+  -- none found so far
+  pub none-start : 0 ≡ membersIn gr sc env (range 0 0)
+  unfolding range membersIn
+  none-start = refl
+
+  pub none-more : (s : ℕ) (b : Bool) → b ≡ false → b ≡ member gr sc env s → 0 ≡ membersIn gr sc env (range 0 s)
+      → 0 ≡ membersIn gr sc env (range 0 (s + 1))
+  none-more s b isnt e z =
+      let at : 0 + s ≡ s = omega arith in
+      rw (add-one s, range-more 0 s, at)
+      (omega (
+        arith,
+        z,
+        members-append gr sc env (range 0 s) (s ∷ []),
+        members-other gr sc s [] env (sym e ∙ isnt),
+        members-none gr sc env,
+      ))
+
+  -- the answer, as the code finds it and as it is read
+  pub any-found : (n s : ℕ) (b : Bool) → b ≡ true → b ≡ member gr sc env s → s < n
+      → true ≡ ltb 0 (membersIn gr sc env (range 0 n))
+  any-found n s b is e l =
+      sym (lt-ltb 0 _ (members-some (range 0 n) s (in-range 0 n s (omega arith) (omega arith)) (sym e ∙ is)))
+
+  pub any-none : (n s : ℕ) → s ≡ n → 0 ≡ membersIn gr sc env (range 0 s)
+      → false ≡ ltb 0 (membersIn gr sc env (range 0 n))
+  any-none n s e z = rw (← e, ← z)
+
+  pub any-false : (n : ℕ) (b : Bool) → b ≡ false → b ≡ ltb 0 (membersIn gr sc env (range 0 n))
+      → membersIn gr sc env (range 0 n) ≡ 0
+  any-false n b isnt e = omega (arith, ltb-false 0 (membersIn gr sc env (range 0 n)) (sym e ∙ isnt))

@@ -18,6 +18,7 @@ use Rattle.laws.specs.Defining.{joinT, defsOf, idsFrom, membersIn}
 use Rattle.laws.proofs.Trees.{rows-join, def-rows, def-depth}
 use Rattle.laws.proofs.Defining.{defs-member, ids-member, members-member, defs-other, ids-other, members-other}
 use Rattle.laws.proofs.Defining.{defs-append, ids-append}
+use Rattle.laws.proofs.Falls.{schedule-low}
 use Rattle.laws.proofs.Building.{scope-none, scope-rows, scope-depth}
 use Rattle.graph.specs.declared.Graph.{Graph}
 use Rattle.graph.specs.Graph.{graphOf}
@@ -25,13 +26,13 @@ use Rattle.plan.specs.declared.Planned.the-variants.{ValDef, Block}
 use Rattle.plan.specs.Plan.{rowFor}
 use Rattle.planner.specs.declared.Plan.{Plan}
 use Rattle.planner.specs.Grew.{Grew, Grown, GrownAll, deepIn}
-use Rattle.planner.specs.Building.{Buildable, Stands, Maps, Member, Members}
+use Rattle.planner.specs.Building.{Buildable, Stands, Maps, Member, Members, AnyMember}
 use Rattle.planner.specs.Planning.{Plans, DefinesIn, Defines}
 use Rattle.planner.proofs.Growing.{grew-none, grew-then, grew-as, kept-same, kept-then}
 use Rattle.planner.proofs.Ids.{maps-more}
 use Rattle.planner.proofs.Keeping.{stands-kept}
-use Rattle.planner.proofs.Membership.{graph-is}
-use Rattle.planner.proofs.Graphs.{only-arguments, scheduled-once}
+use Rattle.planner.proofs.Membership.{graph-is, none-under, any-false}
+use Rattle.planner.proofs.Graphs.{kids-low, only-arguments, scheduled-once}
 use Rattle.planner.proofs.Applying.{deep-node}
 
 -- ---- definitions side by side
@@ -163,6 +164,37 @@ module _ (gr : model.Graph) (sc : ℕ) where
           ids-other gr sc s order env e last ∙ rest (sym (members-other gr sc s order env e) ∙ z)
 
 module _ {bs ws : List ℕ} (g : Graph) (map : List ℕ) (b : Buildable bs ws (g .symbols) (g .scopes))
+    (root sc last : ℕ) where
+  plans-none : {p : Plan} {above : ℕ} {ws₁ : List ℕ} {r : Plan}
+      → ((gr : model.Graph) (env : Env) → Stands bs ws (g .symbols) (g .scopes) gr → Maps map env
+      → membersIn gr sc env (schedule gr root sc) ≡ 0)
+      → Plans bs ws g map p above (λ gr x env. buildValue gr root x env last) ws₁ r
+      → Plans bs ws g map p above (λ gr x env. processScope gr (buildValue gr) root sc env last) ws₁ r
+  plans-none {p} {above} {ws₁} {r} none h = record {
+    grown = λ gr x env st maps.
+        subst (λ (t : Tree). Grown bs ws p above t ws₁ r) (sym (is gr env st maps)) (h .grown gr sc env st maps);
+    kept = h .kept;
+    full = h .full;
+  }
+    where
+      is : (gr : model.Graph) (env : Env) → Stands bs ws (g .symbols) (g .scopes) gr → Maps map env
+          → processScope gr (buildValue gr) root sc env last ≡ buildValue gr root sc env last
+      is gr env st maps =
+          let z = none gr env st maps in
+          scope-none gr (only-arguments b st) root sc (scheduled-once b st root sc) env last 0 z refl
+          ∙ ap (λ (x : Env × ℕ). buildValue gr root sc (x .0) (x .1))
+          (none-defined gr sc (schedule gr root sc) env last z)
+
+  -- no symbol up to the result's is a member, and the schedule has no others
+  pub plans-memberless : {any : Bool} → AnyMember bs ws g map sc root any → any ≡ false
+      → {p : Plan} {above : ℕ} {ws₁ : List ℕ} {r : Plan}
+      → Plans bs ws g map p above (λ gr x env. buildValue gr root x env last) ws₁ r
+      → Plans bs ws g map p above (λ gr x env. processScope gr (buildValue gr) root sc env last) ws₁ r
+  plans-memberless {any} m isnt = plans-none λ gr env st maps.
+      none-under gr sc env (root + 1) (any-false gr sc env (root + 1) any isnt (m gr env st maps))
+      (schedule gr root sc) (λ s i. omega (arith, schedule-low gr (kids-low b st) root sc s i))
+
+module _ {bs ws : List ℕ} (g : Graph) (map : List ℕ) (b : Buildable bs ws (g .symbols) (g .scopes))
     (root sc last : ℕ) (list : List ℕ) (k : ℕ)
     (scheduled : (slots : List ℕ) → list ≡ schedule (graphOf bs ws (g .symbols) (g .scopes) slots) root sc)
     (members : Members bs ws g map sc list k) where
@@ -176,20 +208,8 @@ module _ {bs ws : List ℕ} (g : Graph) (map : List ℕ) (b : Buildable bs ws (g
   pub plans-result : {p : Plan} {above : ℕ} {ws₁ : List ℕ} {r : Plan} → k ≡ 0
       → Plans bs ws g map p above (λ gr x env. buildValue gr root x env last) ws₁ r
       → Plans bs ws g map p above (λ gr x env. processScope gr (buildValue gr) root sc env last) ws₁ r
-  plans-result {p} {above} {ws₁} {r} z h = record {
-    grown = λ gr x env st maps.
-        subst (λ (t : Tree). Grown bs ws p above t ws₁ r) (sym (is gr env st maps)) (h .grown gr sc env st maps);
-    kept = h .kept;
-    full = h .full;
-  }
-    where
-      is : (gr : model.Graph) (env : Env) → Stands bs ws (g .symbols) (g .scopes) gr → Maps map env
-          → processScope gr (buildValue gr) root sc env last ≡ buildValue gr root sc env last
-      is gr env st maps =
-          let c = count-is gr env st maps in
-          let w = none-defined gr sc (schedule gr root sc) env last (c ∙ z) in
-          scope-none gr (only-arguments b st) root sc (scheduled-once b st root sc) env last k c z
-          ∙ ap (λ (x : Env × ℕ). buildValue gr root sc (x .0) (x .1)) w
+  plans-result z =
+      plans-none g map b root sc last (λ gr env st maps. count-is gr env st maps ∙ z)
 
   -- ---- a block
 

@@ -6,7 +6,7 @@ use mathlib.Core.Path.{_≡_}
 use mathlib.Core.Bool.{Bool, true, false}
 use mathlib.Core.Option.{Option, none, some}
 use mathlib.Core.List.{List, [], _∷_}
-use lib.Dec.{eqb}
+use lib.Dec.{eqb, ltb}
 use lib.ListN.{getD, take, drop}
 use Rattle.model.specs.Shape.{aId, aOpt, _then_, times, whole}
 use Rattle.model.specs.Intern.{Env, thunked}
@@ -15,6 +15,7 @@ use Rattle.model.specs.Gate as model
 use Rattle.model.specs.Tree.{Tree}
 use Rattle.model.specs.Materialize.{idGiven, member, buildValue, processScope}
 use Rattle.laws.specs.Defining.{membersIn}
+use Rattle.laws.specs.Range.{range}
 use Rattle.record.specs.Record.{rowAt}
 use Rattle.key.specs.declared.Func.{Func}
 use Rattle.key.specs.declared.Operation.{Operation}
@@ -125,6 +126,12 @@ abbrev pub Members : List ℕ → List ℕ → Graph → List ℕ → ℕ → Li
 Members bs ws g ids sc order r =
     (gr : model.Graph) (env : Env) → Stands bs ws (g .symbols) (g .scopes) gr → Maps ids env
     → r ≡ membersIn gr sc env order
+
+-- whether there is one among the symbols up to `root`
+abbrev pub AnyMember : List ℕ → List ℕ → Graph → List ℕ → ℕ → ℕ → Bool → Type 0
+AnyMember bs ws g ids sc root r =
+    (gr : model.Graph) (env : Env) → Stands bs ws (g .symbols) (g .scopes) gr → Maps ids env
+    → r ≡ ltb 0 (membersIn gr sc env (range 0 (root + 1)))
 
 abbrev pub more : Bool → ℕ → ℕ
 more true k = k + 1

@@ -13,7 +13,8 @@ ghost use Rattle.record.specs.Record.{Laid};
 ghost use Rattle.plan.specs.Plan.{rowFor};
 ghost use Rattle.serialise.specs.Serialise.{Writable};
 ghost use Rattle.planner.specs.Grew.{Grew};
-ghost use Rattle.planner.specs.Building.{Buildable, rowOf, branchesOf, openedAt, more, Member, Members};
+ghost use Rattle.planner.specs.Building.{Buildable, rowOf, branchesOf, openedAt};
+ghost use Rattle.planner.specs.Building.{more, Member, Members, AnyMember};
 
 // The plan so far: how many rows, 257 once there are more than 256, and the greatest depth.
 pub struct Plan {
@@ -199,4 +200,29 @@ pub fn members(
         i += 1;
     }
     k
+}
+
+// Whether any symbol up to `root` gets a definition in scope `sc`. Where none does, the scope needs no order.
+// Rules out: false where `root` itself gets one; true for a symbol of another scope.
+pub fn any_member(
+    forest: &[u8],
+    work: &[u32],
+    g: Graph,
+    root: usize,
+    sc: usize,
+    ids: &[u32],
+) -> bool
+    requires { ⌜ Laid (now forest) ⌝ }
+    requires { ⌜ Buildable (now forest) (now work) (g .symbols) (g .scopes) ⌝ }
+    requires { ⌜ (root < g .symbols) × (length (now ids) ≡ 512) ⌝ }
+    ensures { λ r. ⌜ AnyMember (now (forest .entry)) (now (work .entry)) g (now (ids .entry)) sc root r ⌝ }
+{
+    let mut s = 0;
+    while s <= root {
+        if member(forest, work, g, s, sc, ids) {
+            return true;
+        }
+        s += 1;
+    }
+    false
 }

@@ -33,6 +33,7 @@ use Rattle.materialize.proofs.thunk.Kinds as thunk-kinds
 use Rattle.materialize.proofs.+build+define+definition+definitions+fresh+lambda+operand+operands+thunk.Lts-thunk as thunk-lts
 use Rattle.key.proofs.load.Reads as load-reads
 use Rattle.schedule.proofs.zeros16.Reads as zeros16-reads
+use Rattle.planner.proofs.any_member.Reads as any-member-reads
 use Rattle.planner.proofs.copied.Reads as copied-reads
 use Rattle.planner.proofs.member.Reads as member-reads
 use Rattle.planner.proofs.members.Reads as members-reads
@@ -145,14 +146,16 @@ build-claims t =
 
 abbrev pub define-claims : ℕ → define-lts.Claims
 define-claims t = (
+  any-member-reads.Asked,
+  any-member-reads.Learnt,
+  build-below t,
+  build.Post,
   zeros16-reads.Asked,
   zeros16-reads.Learnt,
   schedule-reads.Asked,
   schedule-reads.Learnt,
   members-reads.Asked,
   members-reads.Learnt,
-  build-below t,
-  build.Post,
   put-reads.Asked,
   put-reads.Learnt,
   definitions-below t,
