@@ -150,7 +150,7 @@ fn operand(
 
 // ---- scopes
 
-// The scope of a thunk. It has a copy of the ids, so those that it gives are not known outside.
+// The scope of a thunk. If it gives ids, it has a copy of them, so those that it gives are not known outside.
 fn thunk(
     forest: &[u8],
     work: &mut [u32],
@@ -169,6 +169,9 @@ fn thunk(
     ensures { λ r. ⌜ Plans (now (forest .entry)) (now (work .entry)) g (now (ids .entry)) p above
         (λ gr x env. processScope gr (buildValue gr) root sc env last) (now (work .exit)) r ⌝ }
 {
+    if !planner::any_member(forest, work, g, root, sc, ids) {
+        return build(forest, work, g, root, ids, last, above, p);
+    }
     let mut map = planner::copied(ids);
     define(forest, work, g, root, sc, &mut map, last, above, p)
 }

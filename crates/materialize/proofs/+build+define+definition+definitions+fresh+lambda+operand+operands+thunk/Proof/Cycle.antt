@@ -225,5 +225,13 @@ operands-claims t = (
 )
 
 abbrev pub thunk-claims : ℕ → thunk-lts.Claims
-thunk-claims t =
-    (copied-reads.Asked, copied-reads.Learnt, define-below t, define.Post)
+thunk-claims t = (
+  any-member-reads.Asked,
+  any-member-reads.Learnt,
+  build-below t,
+  build.Post,
+  copied-reads.Asked,
+  copied-reads.Learnt,
+  define-below t,
+  define.Post,
+)

@@ -1,14 +1,16 @@
 -- What is left to show of `thunk` and `lambda`: scopes with ids of their own. Assumes nothing.
 use Prim.Native.Nat.{ℕ, _+_, _≤_}
-use mathlib.Core.Path.{_≡_, ap, _∙_}
+use mathlib.Core.Path.{_≡_, refl, ap, _∙_}
 use native.Mathlib.Omega.{arith}
 use lib.ListN.{length, getD}
+use borrow.Author.Tests.{not-true}
 use Rattle.planner.proofs.Keeping.{buildable-kept}
 use Rattle.planner.proofs.Loaded.{source-low, slots-loaded}
 use Rattle.record.specs.Record.{rowAt}
 use Rattle.key.specs.declared.Symbol.{Symbol}
 use Rattle.planner.proofs.Nodes.{grew-few, plans-copied}
 use Rattle.planner.proofs.Sites.{put-fits, load-fits, site-on}
+use Rattle.planner.proofs.Scoping.{plans-memberless}
 use Rattle.planner.proofs.Binding.{lambda-fits, lambda-writable, body-low, plans-lambda}
 use Rattle.materialize.proofs.lambda.Reads as lambda
 use Rattle.materialize.proofs.+build+define+definition+definitions+fresh+lambda+operand+operands+thunk.Lts-lambda as lambda-lts
@@ -18,20 +20,42 @@ use Rattle.materialize.proofs.+build+define+definition+definitions+fres
 
 -- ---- thunk
 
+pub thunk-any-member-requires : (t : ℕ) → thunk-lts.Need-any-member-requires (cycle.thunk-claims t) (cycle.thunk-at t)
+    thunk.Post
+thunk-any-member-requires t c κs =
+    let z = c .before .before .before .before in
+    let at = z .pre .1 .1 .1 .0 in
+    (z .pre .1 .0, (z .pre .1 .1 .0, (at .low, at .long)))
+
+pub thunk-build-requires : (t : ℕ) → thunk-lts.Need-build-requires (cycle.thunk-claims t) (cycle.thunk-at t) thunk.Post
+thunk-build-requires t c κs =
+    let z = c .before .before .before .before .before .before .before in
+    let at = z .pre .1 .1 .1 .0 in
+    (omega (arith, z .pre .0), (z .pre .1 .0, (z .pre .1 .1 .0, site-on at refl (omega arith) (at .count))))
+
+pub thunk-returns : (t : ℕ) → thunk-lts.Need-returns (cycle.thunk-claims t) (cycle.thunk-at t) thunk.Post
+thunk-returns t c =
+    let c2 = c .before .before in
+    let c5 = c2 .before .before in
+    let c6 = c5 .before in
+    let z = c6 .before .before .before .before .before in
+    plans-memberless _ _ (z .pre .1 .1 .0) _ _ _ (c6 .any-member .ensures) (not-true _ (c5 .if1 .taken))
+    (c2 .build .ensures)
+
 pub thunk-copied-requires : (t : ℕ) → thunk-lts.Need-copied-requires (cycle.thunk-claims t) (cycle.thunk-at t)
     thunk.Post
-thunk-copied-requires t c κs = c .before .before .before .pre .1 .1 .1 .0 .long
+thunk-copied-requires t c κs = c .before .before .before .before .before .before .pre .1 .1 .1 .0 .long
 
 pub thunk-define-requires : (t : ℕ) → thunk-lts.Need-define-requires (cycle.thunk-claims t) (cycle.thunk-at t)
     thunk.Post
 thunk-define-requires t c κs =
-    let z = c .before .before .before .before .before .before in
+    let z = c .before .before .before .before .before .before .before .before .before in
     let q = z .pre .1 .1 in
     let long = ap length (c .before .before .copied .ensures) in
     (omega (arith, z .pre .0), (z .pre .1 .0, (q .0, (site-on (q .1 .0) long (omega arith) (q .1 .0 .count), q .1 .1))))
 
-pub thunk-returns : (t : ℕ) → thunk-lts.Need-returns (cycle.thunk-claims t) (cycle.thunk-at t) thunk.Post
-thunk-returns t c =
+pub thunk-returns-2 : (t : ℕ) → thunk-lts.Need-returns-2 (cycle.thunk-claims t) (cycle.thunk-at t) thunk.Post
+thunk-returns-2 t c =
     let c3 = c .before .before .before in
     let c6 = c3 .before .before .before in
     plans-copied (c6 .copied .ensures) (c3 .define .ensures)
