@@ -13,13 +13,18 @@ use cse_reference::notation;
 use cse_reference::oracle::{answer, exprs, original};
 
 /// Scripts that grow in one way each, in the notation of document 01.
-const GROWING: [(&str, fn(usize) -> String, &[usize]); 3] = [
+const GROWING: [(&str, fn(usize) -> String, &[usize]); 4] = [
     (
         "records: a tuple of equal parts",
         equal_parts,
         &[15, 30, 60, 120, 240],
     ),
     ("thunks inside one another", nested, &[2, 6, 10, 14, 18]),
+    (
+        "the same beside a definition",
+        nested_beside,
+        &[2, 6, 10, 14, 18],
+    ),
     (
         "tuples read twice, inside one another",
         reread,
@@ -70,6 +75,10 @@ fn equal_parts(count: usize) -> String {
 
 fn nested(count: usize) -> String {
     (0..count).fold("p(z,z)".to_string(), |inner, _| format!("and(h,{inner})"))
+}
+
+fn nested_beside(count: usize) -> String {
+    format!("p(p(x,x),{})", nested(count))
 }
 
 fn reread(count: usize) -> String {
