@@ -177,13 +177,11 @@ fn subtree(forest: &[u8], work: &mut [u32], t: Tables, i: usize, at: Here, st: S
     let count = record::kids(forest, i);
     let selected = if shape == 17 {
         field(forest, work, t, i, at, counted)
+    } else if count == 0 {
+        Selected::Children(small::unread(counted, i + 1))
     } else {
-        if count == 0 {
-            Selected::Children(small::unread(counted, i + 1))
-        } else {
-            let op = record::opcode(forest, i);
-            Selected::Children(operands(forest, work, t, i + 1, count, op, at, counted))
-        }
+        let op = record::opcode(forest, i);
+        Selected::Children(operands(forest, work, t, i + 1, count, op, at, counted))
     };
     match selected {
         Selected::Done(r) => r,

@@ -40,6 +40,7 @@ use Rattle.interner.specs.Levels.{AtLevel}
 use Rattle.interner.specs.State.{absOf, Rep}
 use Rattle.interner.specs.Step.{Fresh, Levels, Leaves, Pushed, given, overFull, outsOf, Bindings}
 use Rattle.interner.proofs.Levels.{anyHas-one}
+use Rattle.interner.proofs.Pushing.{pushed-symbols}
 use Rattle.interner.proofs.Sharing.{leaves-none, leaves-then}
 
 -- ---- the definition in closed form
@@ -220,7 +221,7 @@ module _ (bs ws₀ : List ℕ) (st₀ : State) (cur at count : ℕ) where
 
     new-level : AtLevel ws₁ (s₁ .symbols) (levelOf (scopeWord ws₀ cur) + 1) (s .symbols)
     new-level = record {
-      low = omega (arith, done .symbols);
+      low = omega (arith, pushed-symbols done);
       one = λ j. ap (λ (z : ℕ). has z j) (done .stored .own) ∙ are j;
     }
 
@@ -231,7 +232,7 @@ module _ (bs ws₀ : List ℕ) (st₀ : State) (cur at count : ℕ) where
         (λ e. let d : s .symbols ≡ st₀ .symbols + i = omega (arith, f .symbols) in
         subst (AtLevel ws₁ (s₁ .symbols) (levelOf (scopeWord ws₀ cur) + 1)) d new-level)
         (λ r. let h = f .args i r in record {
-          low = omega (arith, h .low, done .symbols);
+          low = omega (arith, h .low, pushed-symbols done);
           one = λ j. rw (done .stored .others (st₀ .symbols + i) (h .low)) (h .one j);
         }) (eq-or-lt-of-le le)
 
@@ -240,7 +241,7 @@ module _ (bs ws₀ : List ℕ) (st₀ : State) (cur at count : ℕ) where
       few = omega (arith, lt);
       rep = done .rep;
       leaves = leaves-then ws₀ ws ws₁ st₀ s s₁ (f .leaves) (done .leaves);
-      symbols = omega (arith, done .symbols, f .symbols);
+      symbols = omega (arith, pushed-symbols done, f .symbols);
       left = left-more;
       args = args-more;
     }

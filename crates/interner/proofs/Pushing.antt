@@ -1,5 +1,5 @@
 -- A new symbol, as model's `push` has it. In order: where it is placed; its words; what the state stands for; what
--- holds of it; the whole; the same, entered in the newest table.
+-- holds of it; the whole; the counts after it.
 -- Assumes nothing.
 use Prim.Native.Nat.{ℕ, suc, _+_, _<_, _≤_}
 use mathlib.Core.Path.{_≡_, refl, sym, ap, _∙_, subst}
@@ -230,9 +230,6 @@ module _ (bs ws : List ℕ) (st : State) (cur : ℕ) (node : Node) (held count l
         readings = refl;
         more = omega arith;
       };
-      entries = refl;
-      symbols = refl;
-      memo = refl;
       stored = stored;
       marked = marked-new;
       is = abs-pushed;
@@ -240,3 +237,11 @@ module _ (bs ws : List ℕ) (st : State) (cur : ℕ) (node : Node) (held count l
 
     pub pushed-by : (ws′ : List ℕ) → ws′ ≡ ws₁ → Pushed bs ws st cur node held count levels ws′ st₁
     pushed-by ws′ e = subst (λ (z : List ℕ). Pushed bs ws st cur node held count levels z st₁) (sym e) pushed
+
+module _ {bs ws : List ℕ} {st : State} {cur : ℕ} {node : Node} {held count levels : ℕ} {ws′ : List ℕ} {r : State}
+    (done : Pushed bs ws st cur node held count levels ws′ r) where
+  pub pushed-entries : r .entries ≡ st .entries
+  pushed-entries = ap (λ (z : State). z .entries) (done .state)
+
+  pub pushed-symbols : r .symbols ≡ st .symbols + 1
+  pushed-symbols = ap (λ (z : State). z .symbols) (done .state)

@@ -29,6 +29,7 @@ use Rattle.interner.specs.State.{absOf, Rep}
 use Rattle.interner.specs.Step.{outOf, given, overFull, withSymbol, entered, stepTo, Leaves, newDeps}
 use Rattle.interner.specs.Step.{Pushed, allocOf, Answers}
 use Rattle.interner.proofs.Same.{Same, abs-same, rep-same}
+use Rattle.interner.proofs.Pushing.{pushed-entries, pushed-symbols}
 
 -- ---- entering
 
@@ -205,16 +206,16 @@ module _ (bs ws : List ℕ) (t : Tables) (st : State) (cur : ℕ) (node : Node) 
     tables-kept = ap (λ (z : intern.State). z .tables) (done .is t opened)
 
     room-entry : st₁ .entries < 512
-    room-entry = omega (arith, done .entries, rep .few-entries)
+    room-entry = omega (arith, pushed-entries done, rep .few-entries)
 
     still-open : Open t (st₁ .entries)
-    still-open = subst (Open t) (sym (done .entries)) opened
+    still-open = subst (Open t) (sym (pushed-entries done)) opened
 
     abbrev ws₂ : List ℕ
     ws₂ = set ws₁ (7176 + st₁ .entries) (st .symbols + 512 * m)
 
     newest : st .symbols < st₁ .symbols
-    newest = omega (arith, done .symbols)
+    newest = omega (arith, pushed-symbols done)
 
     abs-shared : absOf bs ws₂ t (entered st₁) ≡ pushOf true
     abs-shared =
@@ -247,10 +248,10 @@ module _ (bs ws : List ℕ) (t : Tables) (st : State) (cur : ℕ) (node : Node) 
         (stepTo st node count (st .symbols))) (sym d)
         (subst (Answers bs ws t st (allocOf bs ws t st cur node held count true) ws₂) (sym step-shared) (record {
           rep = rep-entered bs ws₁ t st₁ (st .symbols) m (done .rep) still-open room-entry newest
-              (omega (arith, done .symbols, done .entries, rep .few-entries)) (own-mark p is h);
+              (omega (arith, pushed-symbols done, pushed-entries done, rep .few-entries)) (own-mark p is h);
           leaves = leaves-then ws ws₁ ws₂ st st₁ (entered st₁) (done .leaves)
               (leaves-entered bs ws₁ t st₁ (st .symbols) m (done .rep) still-open room-entry newest);
-          low = omega (arith, done .symbols);
+          low = omega (arith, pushed-symbols done);
           is = out-given bs ws₂ t (entered st₁) (st .symbols)
               ∙ ap (λ (z : intern.State). good (st .symbols, z)) abs-shared
               ∙ sym (alloc-good true few);

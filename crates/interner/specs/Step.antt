@@ -131,9 +131,6 @@ pub record Pushed (bs ws : List ℕ) (st : State) (cur : ℕ) (node : Node) (hel
   pub rep : Rep bs ws′ r
   pub leaves : Leaves ws ws′ st r
   pub state : r ≡ withSymbol st count
-  pub entries : r .entries ≡ st .entries
-  pub symbols : r .symbols ≡ st .symbols + 1
-  pub memo : r .memo ≡ st .memo
   pub stored : Stored ws ws′ (st .symbols) levels
   pub marked : markOf bs ws′ (st .symbols) ≡ mark (recOf bs node .opcode) (pendingFrom ws held count)
   pub is : (t : Tables) → Open t (st .entries) → absOf bs ws′ t r

@@ -4,6 +4,7 @@ use native.Mathlib.Omega.{arith}
 use borrow.Author.Needs.{needs}
 use denote.Ref.{now}
 use Rattle.interner.proofs.Keys.{sought-from}
+use Rattle.interner.proofs.Pushing.{pushed-entries}
 use Rattle.interner.proofs.Sharing.{shared-answers, full-answers}
 use Rattle.interner.proofs.alloc.Statement.{statement}
 use Rattle.interner.proofs.alloc.Tie as tie
@@ -38,7 +39,7 @@ enter-requires c κs =
     let m = q .before .before in
     let t = m .before .before .before .before in
     let rep = t .before .before .before .pre .1 .0 in (
-      omega (arith, q .push .ensures .entries, rep .few-entries, t .if1 .taken),
+      omega (arith, pushed-entries (q .push .ensures), rep .few-entries, t .if1 .taken),
       t .if1 .taken,
       m .mark-of .ensures .1,
       omega (arith, q .push .ensures .leaves .long, rep .words),

@@ -80,6 +80,6 @@ returns-2 c =
 
 pub alloc-args-spec : {M : Type 1} → statement M
 alloc-args-spec =
-    tie.close (tie.spec Inv-loop μ-loop (λ c. search needs) add-if (λ c κs. search needs) returns level-inside-requires loop-holds
-    push-requires (λ c. omega arith) (λ c. omega arith) loop-again (λ c κs. search needs) same-length
+    tie.close (tie.spec Inv-loop μ-loop (λ c. search needs) add-if (λ c κs. search needs) returns level-inside-requires
+    loop-holds push-requires (λ c. omega arith) (λ c. omega arith) loop-again (λ c κs. search needs) same-length
     returns-2)

@@ -45,6 +45,6 @@ returns-2 c =
 
 pub pair-projection-spec : {M : Type 1} → statement M
 pair-projection-spec =
-    tie.close (tie.spec (λ c. search needs) (λ c. search needs) (λ c. search needs) (λ c. search needs) (λ c κs. search needs)
-    (λ c. search needs) (λ c κs. search needs) (λ c. search needs) new-projections-requires (λ c. search needs) returns
-    (λ c. search needs) returns-2)
+    tie.close (tie.spec (λ c. search needs) (λ c. search needs) (λ c. search needs) (λ c. search needs)
+    (λ c κs. search needs) (λ c. search needs) (λ c κs. search needs) (λ c. search needs) new-projections-requires
+    (λ c. search needs) returns (λ c. search needs) returns-2)
