@@ -2,8 +2,8 @@
 // result, each record before its children. In order: a symbol; an operation and its operands; scopes; the root.
 // A block of one definition that only renames its result would be written as that definition's value (`wrap_block`).
 // Interning makes no symbol for a use, so no definition's value is one, and the case has no code.
-// What nests: `build`, `fresh`, `operands`, `operand` once a symbol, with no array. `thunk` and `lambda` open a copy of
-// the ids (2 KB), `define` an order (1 KB); these nest once a scope.
+// What nests: `build`, `fresh`, `operands`, `operand` once a symbol, with no array. `lambda`, and `thunk` where it gives
+// ids, open a copy of the ids (2 KB), `define` an order (1 KB); these nest once a scope.
 use graph::Graph;
 use key::Func;
 use key::Node;
