@@ -2,7 +2,7 @@
 -- Assumes nothing.
 use Prim.Native.Nat.{ℕ, zero, suc, _+_, _<_, _≤_}
 use mathlib.Core.Path.{_≡_, refl, sym, ap, subst, _∙_}
-use mathlib.Core.Bool.{Bool, true, false, or-false}
+use mathlib.Core.Bool.{Bool, true, false, _&&_, _||_, or-false}
 use mathlib.Core.Logic.{inl, inr}
 use mathlib.Core.List.{List}
 use native.Mathlib.Omega.{arith}
@@ -124,7 +124,21 @@ module _ (ws : List ℕ) (n m cs d : ℕ) (a : Bool) (arg : Tests ws n m (λ h. 
 
 -- ---- thunks
 
+-- the condition of an IF, and the first operand of any other record, are no thunks
+pub first-eager : (op : ℕ) → thunked op 0 ≡ false
+unfolding thunked
+first-eager op = go (eqb op 0x95) (eqb op 0xED || eqb op 0xEC)
+  where
+    go : (a b : Bool) → ((a && false) || (b && false)) ≡ false
+    go true true = refl
+    go true false = refl
+    go false true = refl
+    go false false = refl
+
 module _ (op j : ℕ) where
+  pub thunk-eager : j ≡ 0 → false ≡ thunked op j
+  thunk-eager e = rw e (sym (first-eager op))
+
   pub thunk-first : op ≡ 0x95 → j ≡ 1 → true ≡ thunked op j
   unfolding thunked
   thunk-first e f = rw (e, f)

@@ -65,6 +65,9 @@ pub fn is_outsider(work: &[u32], g: Graph, cs: usize, d: usize) -> bool
 pub fn is_thunked(opcode: u8, j: usize) -> bool
     ensures { λ r. ⌜ r ≡ thunked opcode j ⌝ }
 {
+    if j == 0 {
+        return false;
+    }
     if opcode == 0x95 {
         if j == 1 {
             return true;

@@ -27,6 +27,7 @@ use Rattle.key.specs.Key.{symbolAt}
 use Rattle.symbols.specs.Symbols.{symsOf, symFrom}
 use Rattle.symbols.specs.Symbols as words
 use Rattle.symbols.proofs.Laws.{sym-at}
+use Rattle.gate.proofs.Gate.{hoist-few}
 use Rattle.graph.specs.Graph.{Tests, graphOf}
 use Rattle.planner.specs.Building.{Stands, Maps, given, more}
 use Rattle.planner.proofs.Ids.{range-more}
@@ -62,6 +63,10 @@ module _ {bs ws : List ℕ} {n m : ℕ} {gr : Graph} (st : Stands bs ws n m gr) 
     hoist-is h =
         h n lt ∙ ap₂ shouldHoist (sym (ap (λ (ss : List Sym). symAt ss s) (st .syms))) (st .uses s lt)
 
+    pub rare-is : getD ws (8456 + s) 0 < 2 → shouldHoist (symOf gr s) (usage gr s) ≡ false
+    rare-is l =
+        ap (shouldHoist (symOf gr s)) (sym (st .uses s lt)) ∙ sym (hoist-few (symOf gr s) (getD ws (8456 + s) 0) l)
+
 -- ---- a member's four tests
 
 -- without an id
@@ -81,6 +86,14 @@ module _ (gr : Graph) (sc : ℕ) (ids : List ℕ) (env : Env) (s : ℕ) (few : s
       rw (e, member)
       (sym (and-false
       (eqb (symOf gr s .scope) sc && not (isArg (symOf gr s .node)) && shouldHoist (symOf gr s) (usage gr s))))
+
+  pub member-rare : shouldHoist (symOf gr s) (usage gr s) ≡ false → false ≡ member gr sc env s
+  unfolding member
+  member-rare e = rw (e, member) (go (eqb (symOf gr s .scope) sc && not (isArg (symOf gr s .node))) _)
+    where
+      go : (a d : Bool) → false ≡ ((a && false) && d)
+      go true d = refl
+      go false d = refl
 
   pub member-elsewhere : (symOf gr s .scope ≡ sc → ⊥) → false ≡ member gr sc env s
   unfolding member

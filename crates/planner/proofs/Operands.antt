@@ -2,7 +2,7 @@
 -- first of them; all are there; one operand of an operation.
 -- Assumes nothing.
 use Prim.Native.Nat.{ℕ, zero, suc, _≤_, _<_}
-use mathlib.Core.Path.{_≡_, refl, sym, subst}
+use mathlib.Core.Path.{_≡_, refl, sym, ap, subst, _∙_}
 use mathlib.Core.Logic.{inl, inr}
 use mathlib.Core.Bool.{Bool, true, false, _&&_, _||_}
 use mathlib.Core.List.{List, [], _∷_}
@@ -18,6 +18,7 @@ use Rattle.laws.proofs.Members.{In, Every}
 use Rattle.laws.proofs.Apart.{false-true}
 use Rattle.laws.proofs.Building.{op-left, op-eager, op-thunk}
 use Rattle.key.specs.declared.Operation.{Operation}
+use Rattle.graph.proofs.Laws.{first-eager}
 use Rattle.plan.specs.declared.Planned.the-variants.{Copy, Field}
 use Rattle.planner.specs.declared.Opened.{Opened}
 use Rattle.planner.specs.declared.Opened.the-variants.{Same, Thunk}
@@ -33,17 +34,6 @@ row-field o n = rw (ne-eqb (o .field) 0 n)
 
 -- ---- the scopes left
 
--- the condition of an IF, and the first operand of any other record, are no thunks
-first-eager : (op : ℕ) → thunked op 0 ≡ false
-unfolding thunked
-first-eager op = go (eqb op 0x95) (eqb op 0xED || eqb op 0xEC)
-  where
-    go : (a b : Bool) → ((a && false) || (b && false)) ≡ false
-    go true true = refl
-    go true false = refl
-    go false true = refl
-    go false false = refl
-
 -- a thunk that is not operand 1 is operand 2 of an IF
 second-thunk : (op j : ℕ) → thunked op j ≡ true → (j ≡ 1 → ⊥) → (op ≡ 0x95) × (j ≡ 2)
 unfolding thunked
@@ -57,6 +47,27 @@ second-thunk op j e n =
     go true false false h = false-true h
     go false b true h = false-true h
     go false b false h = false-true h
+
+left-none : (op j : ℕ) → leftAt op [] j ≡ []
+unfolding leftAt
+left-none op zero = refl
+left-none op (suc j) = go (thunked op j) (left-none op j)
+  where
+    go : (b : Bool) {brs : List ℕ} → brs ≡ [] → _≡_ {A = List ℕ} (elim b [ true ↦ drop 1 brs | false ↦ brs ]) []
+    go true e = rw e
+    go false e = e
+
+-- an operation without thunks
+pub opened-same : (op : ℕ) (o : Operation) (j : ℕ) → o .branches ≡ 0 → openedAt op (branchesOf o) j ≡ Same
+unfolding openedAt
+opened-same op o j e = go (thunked op j) (ap (λ (brs : List ℕ). leftAt op brs j) none ∙ left-none op j)
+  where
+    none : branchesOf o ≡ []
+    none = rw e
+
+    go : (b : Bool) {brs : List ℕ} → brs ≡ [] → _≡_ {A = Opened} (elim b [ true ↦ firstScope brs | false ↦ Same ]) Same
+    go true f = rw f
+    go false f = refl
 
 module _ (op : ℕ) (brs : List ℕ) (j : ℕ) where
   pub opened-none : thunked op j ≡ false → openedAt op brs j ≡ Same
@@ -79,9 +90,6 @@ module _ (op : ℕ) (brs : List ℕ) (j : ℕ) where
 -- ---- the first of two scopes, of which b count
 
 module _ (f s : ℕ) where
-  pub scope-none : (b : ℕ) → b ≡ 0 → firstScope (take b (f ∷ s ∷ [])) ≡ Same
-  scope-none b e = rw e
-
   pub scope-first : (b : ℕ) → (b ≡ 0 → ⊥) → firstScope (take b (f ∷ s ∷ [])) ≡ Thunk f
   scope-first zero n = absurd (n refl)
   scope-first (suc b) n = refl

@@ -125,11 +125,11 @@ pub fn number(map: &mut [u32], first: usize, count: usize, last: u32)
 pub fn operand_scope(opcode: u8, o: Operation, j: usize) -> Opened
     ensures { λ r. ⌜ r ≡ openedAt opcode (branchesOf o) j ⌝ }
 {
+    if o.branches == 0 {
+        return Opened::Same;
+    }
     if graph::is_thunked(opcode, j) {
         if j == 1 {
-            if o.branches == 0 {
-                return Opened::Same;
-            }
             return Opened::Thunk(o.first);
         }
         if o.branches < 2 {
@@ -150,6 +150,10 @@ pub fn member(forest: &[u8], work: &[u32], g: Graph, s: usize, sc: usize, ids: &
     requires { ⌜ (s < g .symbols) × (length (now ids) ≡ 512) ⌝ }
     ensures { λ r. ⌜ Member (now (forest .entry)) (now (work .entry)) g (now (ids .entry)) sc s r ⌝ }
 {
+    let uses = work[gate::USES + s];
+    if uses < 2 {
+        return false;
+    }
     if ids[s] != 0 {
         return false;
     }
@@ -160,7 +164,7 @@ pub fn member(forest: &[u8], work: &[u32], g: Graph, s: usize, sc: usize, ids: &
     if graph::is_arg(work, g, s) {
         return false;
     }
-    gate::should_hoist(forest, work, s, work[gate::USES + s])
+    gate::should_hoist(forest, work, s, uses)
 }
 
 fn counted(yes: bool, k: u32) -> u32

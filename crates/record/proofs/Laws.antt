@@ -1,7 +1,7 @@
 -- Where records lie, from checks 2 and 3: a row of the forest is what its pair cuts out. In order: the pairs; the rows
--- that sound pairs cut out; `laid-lies`; a row's fields; a row's bytes.
+-- that sound pairs cut out; `laid-lies`; a row's fields; a row's length.
 -- Assumes nothing.
-use Prim.Native.Nat.{ℕ, zero, suc, _+_, _*_, _-_, _/_, _%_, _<_, _≤_}
+use Prim.Native.Nat.{ℕ, zero, suc, _+_, _*_, _-_, _<_, _≤_}
 use mathlib.Core.Path.{_≡_, refl, sym, ap, _∙_, subst}
 use mathlib.Core.Bool.{Bool, true, false, not, _||_}
 use mathlib.Core.Option.{Option, none, some}
@@ -12,8 +12,8 @@ use lib.ListN.{length, getD, take, drop, length-take, length-drop}
 use lib.Seq.{drop-drop, getD-drop, getD-take, take-nil}
 use borrow.Author.Tests.{ltb-false, eqb-true, not-false}
 use Rattle.model.specs.Lists.{first}
-use Rattle.model.specs.Bytes.{u16, put16}
-use Rattle.model.specs.Tree.{Row, rowBytes, rowLen}
+use Rattle.model.specs.Bytes.{u16}
+use Rattle.model.specs.Tree.{Row, rowLen}
 use Rattle.model.specs.Shape.{Pairs}
 use Rattle.model.specs.Forest.{recordCount, pairsAt, pairsOf, rowOf, rowsAt, rowsIn, bodyStart}
 use Rattle.model.specs.Forest.{badPairs, check3}
@@ -166,32 +166,12 @@ module _ (bs : List ℕ) (i : ℕ) (h : Lies bs i) where
       ap (λ (z : List ℕ). take (sizeOf bs i - 5) z) (sym (drop-drop 5 (startOf bs i) bs))
       ∙ (sym (drop-take 5 (sizeOf bs i) (drop (startOf bs i) bs)) ∙ ap (λ (z : Row). z .rec .lit) (sym (h .row)))
 
--- ---- a record's bytes are its row's
-
--- bytes are below 256, so a 16-bit number is written as it was read
-row-bytes : (l : List ℕ) → 5 ≤ length l → getD l 2 0 < 256 → rowBytes (rowOf l) ≡ l
-unfolding rowBytes rowOf put16 u16
-row-bytes [] h b = absurd (omega arith)
-row-bytes (s ∷ []) h b = absurd (omega arith)
-row-bytes (s ∷ o ∷ []) h b = absurd (omega arith)
-row-bytes (s ∷ o ∷ k ∷ []) h b = absurd (omega arith)
-row-bytes (s ∷ o ∷ k ∷ m ∷ []) h b = absurd (omega arith)
-row-bytes (s ∷ o ∷ k ∷ m ∷ a ∷ l) h b =
-    let e : (k + 256 * m) % 256 ≡ k = omega arith in
-    let f : (k + 256 * m) / 256 ≡ m = omega arith in
-    rw (e, f)
+-- ---- a row's length
 
 -- a record is as long as its pair says
 cut-length : (bs : List ℕ) (i : ℕ) → Lies bs i → length (take (sizeOf bs i) (drop (startOf bs i) bs)) ≡ sizeOf bs i
 cut-length bs i h =
     length-take (sizeOf bs i) (drop (startOf bs i) bs) ∙ omega (arith, length-drop (startOf bs i) bs, h .inside)
-
-pub bytes-at : (bs : List ℕ) (i : ℕ) → Lies bs i → getD bs (startOf bs i + 2) 0 < 256
-    → take (sizeOf bs i) (drop (startOf bs i) bs) ≡ rowBytes (rowAt bs i)
-bytes-at bs i h b =
-    let cut = take (sizeOf bs i) (drop (startOf bs i) bs) in
-    let low = subst (λ (z : ℕ). z < 256) (sym (byte-at bs i h 2 (omega (arith, h .fixed)))) b in
-    sym (ap rowBytes (h .row) ∙ row-bytes cut (omega (arith, cut-length bs i h, h .fixed)) low)
 
 pub size-at : (bs : List ℕ) (i : ℕ) → Lies bs i → sizeOf bs i ≡ rowLen (rowAt bs i)
 unfolding rowLen rowOf

@@ -1,10 +1,10 @@
-// Records by number (codec.rs). In order: numbers; the header; where a record starts; its fields, its size; its literal
-// and its bytes, as parts of the forest.
+// Records by number (codec.rs). In order: numbers; the header; where a record starts; its fields, its size; its literal,
+// as a part of the forest.
 ghost use mathlib.Core.Path.{_≡_};
 ghost use Prim.Native.Nat.{_+_, _<_, _≤_};
 ghost use lib.ListN.{length, drop};
 ghost use Rattle.model.specs.Bytes.{u16};
-ghost use Rattle.model.specs.Tree.{rowBytes, rowLen};
+ghost use Rattle.model.specs.Tree.{rowLen};
 ghost use Rattle.model.specs.Forest.{treeCount, recordCount};
 ghost use Rattle.record.specs.Record.{Laid, Lies, startOf, rowAt};
 
@@ -107,16 +107,4 @@ pub fn literal(forest: &[u8], i: usize) -> &[u8]
     let at = start(forest, i);
     let size = size(forest, i);
     &forest[at + 5..at + size]
-}
-
-// Record i's bytes, whole, as that part of the forest.
-// Rules out: the literal alone; the bytes up to the next record but one.
-pub fn bytes(forest: &[u8], i: usize) -> &[u8]
-    requires { ⌜ Laid (now forest) ⌝ }
-    requires { ⌜ i < recordCount (now forest) ⌝ }
-    ensures { λ r. ⌜ now r ≡ rowBytes (rowAt (now (forest .entry)) i) ⌝ }
-{
-    let at = start(forest, i);
-    let size = size(forest, i);
-    &forest[at..at + size]
 }

@@ -77,7 +77,13 @@ pub fn put_copy(forest: &[u8], out: &mut [u8], at: usize, i: u32) -> usize
     requires { ⌜ at + rowLen (rowFor (now forest) (Copy i)) ≤ length (now out) ⌝ }
     ensures { λ r. ⌜ Put (now (out .entry)) at (rowFor (now (forest .entry)) (Copy i)) (now (out .exit)) r ⌝ }
 {
-    put_part(out, at, record::bytes(forest, i as usize))
+    let j = i as usize;
+    let shape = record::shape(forest, j);
+    let opcode = record::opcode(forest, j);
+    let kids = record::kids(forest, j);
+    let aux = record::aux(forest, j);
+    let next = put_fixed(out, at, shape, opcode, kids, aux);
+    put_part(out, next, record::literal(forest, j))
 }
 
 // A SelectField of this field. Rules out: the field as aux; the record without a child.
