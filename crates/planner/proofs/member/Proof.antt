@@ -14,7 +14,7 @@ returns c =
     λ gr env st maps.
     let z = c .before .before .before .before .before in
     let few : z .args .s < 512 = omega (arith, z .pre .1 .0 .arena .few) in
-    member-rare gr _ _ env _ few maps (rare-is st _ (z .pre .1 .1 .0) (c .if1 .taken))
+    member-rare gr _ _ env _ few maps (rare-is st _ (z .pre .1 .1 .0) (omega (arith, c .if1 .taken)))
 
 returns-2 : tie.Need-returns-2
 returns-2 c =
