@@ -46,10 +46,12 @@ impl Tables {
         ensures { λ r. ⌜ r ≡ opened self top ⌝ }
     {
         let at = self.depth;
-        let mut next = self;
-        next.base[at] = top as u16;
-        next.depth = at + 1;
-        next
+        let mut base = self.base;
+        base[at] = top as u16;
+        Tables {
+            base,
+            depth: at + 1,
+        }
     }
 }
 
