@@ -35,6 +35,24 @@ module _ (bs ws : List ℕ) (n m : ℕ) (arena : Arena bs ws n m) (b : Bool) (cs
 
   -- ---- one symbol
 
+  -- passed over or not, a symbol that was seen adds nothing
+  pub visit-seen : (s : ℕ) → s < n → (seen list : List ℕ) (k : ℕ) → Lent n seen list k → (getD seen s 0 ≡ 0 → ⊥) →
+      Walked bs ws n m (λ g. stepOf g b cs s) list k seen list k
+  visit-seen s lt seen list k h ne = record {
+    lent = h;
+    is = λ slots.
+        let g = graphOf bs ws n m slots in
+        go g (passed g b cs s) refl
+        (λ e. step-seen g (low slots) b cs s (take k list) e
+        (mark-seen n seen list k h s (omega (arith, arena .few)) ne));
+  }
+    where
+      go : (g : Graph) (p : Bool) → passed g b cs s ≡ p →
+          (passed g b cs s ≡ false → take k list ≡ stepOf g b cs s (take k list)) →
+          take k list ≡ stepOf g b cs s (take k list)
+      go g true e f = step-passed g cs b s (take k list) e
+      go g false e f = f e
+
   module _ (s : ℕ) (lt : s < n) (seen list : List ℕ) (k : ℕ) (h : Lent n seen list k) (p : Bool)
       (test : Tests ws n m (λ g. passed g b cs s) p) where
     abbrev Step : List ℕ → List ℕ → ℕ → Type 0
@@ -43,14 +61,6 @@ module _ (bs ws : List ℕ) (n m : ℕ) (arena : Arena bs ws n m) (b : Bool) (cs
     pub visit-passed : p ≡ true → Step seen list k
     visit-passed e = walked-none bs ws n m (λ g. stepOf g b cs s) seen list k h
         (λ slots o. step-passed (graphOf bs ws n m slots) cs b s o (sym (test bs slots) ∙ e))
-
-    pub visit-seen : p ≡ false → (getD seen s 0 ≡ 0 → ⊥) → Step seen list k
-    visit-seen e ne = record {
-      lent = h;
-      is = λ slots.
-          step-seen (graphOf bs ws n m slots) (low slots) b cs s (take k list) (sym (test bs slots) ∙ e)
-          (mark-seen n seen list k h s (omega (arith, arena .few)) ne);
-    }
 
     module _ (e : p ≡ false) (z : getD seen s 0 ≡ 0) (seen₁ list₁ : List ℕ) (k₁ : ℕ)
         (near : Steps (λ g. nearOf g b cs s) list k seen₁ list₁ k₁) where

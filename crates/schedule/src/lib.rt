@@ -168,7 +168,10 @@ fn local(
     let mut k = 0;
     while k < count {
         let d = work[from + k] as usize;
-        at = visit(forest, work, g, o, d, seen, list, at);
+        // a child that was seen needs no call
+        if seen[d] == 0 {
+            at = visit(forest, work, g, o, d, seen, list, at);
+        }
         k += 1;
     }
     at

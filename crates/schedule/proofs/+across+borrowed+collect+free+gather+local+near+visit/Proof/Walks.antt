@@ -1,13 +1,16 @@
 -- What `visit`, `near`, `local` and `across` of `schedule` need where they read, call and return. Assumes nothing.
-use Prim.Native.Nat.{ℕ}
+use Prim.Native.Nat.{ℕ, _+_}
 use mathlib.Core.Path.{_≡_, refl, _∙_}
+use mathlib.Core.Logic.{⊎-elim}
 use native.Mathlib.Omega.{arith}
 use borrow.Author.Needs.{needs}
-use lib.ListN.{length}
+use denote.Ref.{now}
+use lib.ListN.{length, getD}
 use Rattle.scopes.specs.declared.Rel.the-variants.{Local, Deeper, Outside}
 use Rattle.scopes.specs.Relation.{relIn}
 use Rattle.graph.proofs.Laws.{scoped}
 use Rattle.outsiders.proofs.Offers.{kids-lower}
+use Rattle.schedule.specs.Schedule.{stepOf, Walked}
 use Rattle.schedule.proofs.Neighbours.{told}
 use Rattle.schedule.proofs.Lending.{put-room}
 use Rattle.schedule.proofs.Walking.{visit-passed, visit-seen, near-fresh, visit-new, near-stops, near-goes}
@@ -48,9 +51,7 @@ visit-slice-read-if2 t c =
 pub visit-returns-2 : (t : ℕ) → visit-lts.Need-returns-2 (measures.visit-calls t) (measures.visit-at t) visit.Post
 visit-returns-2 t c =
     let p = c .before .before .before .before .before .before .before .before .pre .1 in
-    visit-seen _ _ _ _ (p .1 .0) _ _ _ (p .1 .1 .0) _ _ _ (p .1 .1 .1) _
-    (c .before .before .before .is-passed .ensures) (c .before .before .if1 .left)
-    (c .if2 .taken)
+    visit-seen _ _ _ _ (p .1 .0) _ _ _ (p .1 .1 .0) _ _ _ (p .1 .1 .1) (c .if2 .taken)
 
 pub visit-near-requires : (t : ℕ) → visit-lts.Need-near-requires (measures.visit-calls t) (measures.visit-at t)
     visit.Post
@@ -215,29 +216,58 @@ local-cast-d t c =
           (c .before .loop-test .taken),
     )
 
+pub local-slice-read-if1 : (t : ℕ) → local-lts.Need-slice-read-if1
+    (measures.local-calls t) (measures.local-at t) local.Post measures.local-Inv-loop measures.local-μ-loop
+local-slice-read-if1 t c =
+    let l = c .before .before .before in
+    let p = l .before .before .before .before .before .before .before .before .pre .1 in
+    let lower = kids-down _ _ _ _ _ (p .1 .0) (p .1 .1 .0) _ (l .before .before .before .load .ensures) (l .loop .k)
+    (c .before .before .loop-test .taken) in
+    omega (arith, lower, p .1 .1 .0, p .1 .0 .few, l .loop .inv .3 .lent .marks-long)
+
 pub local-visit-requires : (t : ℕ) → local-lts.Need-visit-requires
     (measures.local-calls t) (measures.local-at t) local.Post measures.local-Inv-loop measures.local-μ-loop
 local-visit-requires t c κs =
-    let c6 = c .before .before .before .before .before .before in
-    let p = c6 .before .before .before .before .before .before .pre .1 in
-    let l = c .before .before .before .before .loop in
-    let lower = kids-down _ _ _ _ _ (p .1 .0) (p .1 .1 .0) _
-    (c .before .before .before .before .before .before .before .load .ensures) (l .k)
-    (c .before .before .before .loop-test .taken) in
-    (omega (arith, lower), (p .0, (p .1 .0, (omega (arith, lower, p .1 .1 .0), l .inv .3 .lent))))
+    let l = c .before .before .before .before .before .before in
+    let p = l .before .before .before .before .before .before .before .before .pre .1 in
+    let lower = kids-down _ _ _ _ _ (p .1 .0) (p .1 .1 .0) _ (l .before .before .before .load .ensures) (l .loop .k)
+    (c .before .before .before .before .before .loop-test .taken) in
+    (omega (arith, lower), (p .0, (p .1 .0, (omega (arith, lower, p .1 .1 .0), l .loop .inv .3 .lent))))
+
+-- where a child that was seen and any other meet
+local-child : (t : ℕ) (j : local-lts.Joined1 (measures.local-calls t) (measures.local-at t) local.Post
+    measures.local-Inv-loop measures.local-μ-loop) →
+    let l = j .before .before .before .before in
+    let a = l .before .before .before .before .before .before .before .before .args in
+    (length (j .if1 .seen) ≡ length (l .loop .seen)) × (length (j .if1 .list) ≡ length (l .loop .list))
+    × Walked (now (a .forest)) (now (a .work)) (a .g .symbols) (a .g .scopes) (λ g. stepOf g (a .o .body) (a .o .scope)
+    (getD (now (a .work)) (2560 + l .before .before .before .load .result .kids + l .loop .k) 0)) (l .loop .list)
+    (l .loop .at) (j .if1 .seen) (j .if1 .list) (j .if1 .at)
+local-child t j =
+    let l = j .before .before .before .before in
+    let p = l .before .before .before .before .before .before .before .before .pre .1 in
+    let lower = kids-down _ _ _ _ _ (p .1 .0) (p .1 .1 .0) _ (l .before .before .before .load .ensures) (l .loop .k)
+    (j .before .before .before .loop-test .taken) in
+    ⊎-elim
+    (λ w. rw (w .8, w .9, w .10)
+    (w .3 .kept .1 .1 .1 .1 .1 .0, w .3 .kept .1 .1 .1 .1 .1 .1 .0, w .3 .ensures))
+    (λ w. rw (w .1, w .2, w .3) (
+      refl,
+      refl,
+      visit-seen _ _ _ _ (p .1 .0) _ _ _ (omega (arith, lower, p .1 .1 .0)) _ _ _ (l .loop .inv .3 .lent)
+          (w .0 .left),
+    )) (j .if1 .came)
 
 pub local-loop-again : (t : ℕ) → local-lts.Need-loop-again
     (measures.local-calls t) (measures.local-at t) local.Post measures.local-Inv-loop measures.local-μ-loop
 local-loop-again t c =
-    let c5 = c .before .before .before .before .before in
-    let c11 = c5 .before .before .before .before .before .before in
-    let l = c5 .before .before .before .before .loop in
-    let v = c .before .before .before .before .visit in (
-      omega arith,
-      v .kept .1 .1 .1 .1 .1 .0 ∙ l .inv .1,
-      v .kept .1 .1 .1 .1 .1 .1 .0 ∙ l .inv .2,
-      words-go _ _ _ _ (c11 .before .before .before .before .before .before .pre .1 .1 .0) _ _ _ _ _ (l .k) _ refl _ _
-          _ _ _ _ (l .inv .3) (v .ensures),
+    let l = c .before .before .before .before in
+    let p = l .before .before .before .before .before .before .before .before .pre .1 in
+    let v = local-child t c in (
+      omega (arith, c .before .before .before .loop-test .taken),
+      v .0 ∙ l .loop .inv .1,
+      v .1 ∙ l .loop .inv .2,
+      words-go _ _ _ _ (p .1 .0) _ _ _ _ _ (l .loop .k) _ refl _ _ _ _ _ _ (l .loop .inv .3) (v .2),
     )
 
 pub local-same-length : (t : ℕ) → local-lts.Need-same-length
