@@ -1,5 +1,5 @@
--- Where operands are built. In order: an operation's row; the scopes left at the two operands that can be thunks; the
--- first of them; all are there; one operand of an operation.
+-- Where operands are built. In order: an operation's row; the scopes left where there are none, and at the two operands
+-- that can be thunks; the first of them; all are there; one operand of an operation.
 -- Assumes nothing.
 use Prim.Native.Nat.{ℕ, zero, suc, _≤_, _<_}
 use mathlib.Core.Path.{_≡_, refl, sym, ap, subst, _∙_}

@@ -150,6 +150,7 @@ pub fn member(forest: &[u8], work: &[u32], g: Graph, s: usize, sc: usize, ids: &
     requires { ⌜ (s < g .symbols) × (length (now ids) ≡ 512) ⌝ }
     ensures { λ r. ⌜ Member (now (forest .entry)) (now (work .entry)) g (now (ids .entry)) sc s r ⌝ }
 {
+    // asked first, since most symbols are used once
     let uses = work[gate::USES + s];
     if uses < 2 {
         return false;

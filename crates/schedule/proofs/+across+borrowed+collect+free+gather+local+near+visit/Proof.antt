@@ -59,8 +59,8 @@ pub +across+borrowed+collect+free+gather+local+near+visit-spec : {M : Type 1} �
     measures.local-μ-loop
     (λ c κs. search needs) (λ c. search needs) (λ c. search needs) (λ c. search needs) (walks.local-loop-holds t)
     (walks.local-add-d t) (λ c. search needs) (walks.local-shared-slice-read-d t) (walks.local-cast-d t)
-    (walks.local-slice-read-if1 t) (walks.local-visit-requires t) (λ c. omega arith) (λ c. omega arith) (walks.local-loop-again t)
-    (walks.local-same-length t) (walks.local-same-length-2 t) (walks.local-returns t))
+    (walks.local-slice-read-if1 t) (walks.local-visit-requires t) (λ c. omega arith) (λ c. omega arith)
+    (walks.local-loop-again t) (walks.local-same-length t) (walks.local-same-length-2 t) (walks.local-returns t))
     (λ t. near-lts.spec (measures.near-calls t) (measures.near-at t) near.Post
     (walks.near-is-end-requires t) (walks.near-returns t) (walks.near-relation-requires t) (λ c. search needs)
     (walks.near-local-requires t) (λ c. search needs) (walks.near-across-requires t) (λ c. search needs)
