@@ -77,6 +77,7 @@ pub fn put_copy(forest: &[u8], out: &mut [u8], at: usize, i: u32) -> usize
     requires { ⌜ at + rowLen (rowFor (now forest) (Copy i)) ≤ length (now out) ⌝ }
     ensures { λ r. ⌜ Put (now (out .entry)) at (rowFor (now (forest .entry)) (Copy i)) (now (out .exit)) r ⌝ }
 {
+    // the fixed bytes one by one: most records have no more, and a loop costs more than it copies
     let j = i as usize;
     let shape = record::shape(forest, j);
     let opcode = record::opcode(forest, j);

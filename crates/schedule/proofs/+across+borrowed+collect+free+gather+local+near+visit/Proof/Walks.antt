@@ -1,5 +1,5 @@
 -- What `visit`, `near`, `local` and `across` of `schedule` need where they read, call and return. Assumes nothing.
-use Prim.Native.Nat.{ℕ, _+_}
+use Prim.Native.Nat.{ℕ, _+_, _<_}
 use mathlib.Core.Path.{_≡_, refl, _∙_}
 use mathlib.Core.Logic.{⊎-elim}
 use native.Mathlib.Omega.{arith}
@@ -216,13 +216,24 @@ local-cast-d t c =
           (c .before .loop-test .taken),
     )
 
+-- the child that a round of the loop reads is lower
+local-lower : (t : ℕ) (x : local-lts.In-loop (measures.local-calls t) (measures.local-at t) local.Post
+    measures.local-Inv-loop measures.local-μ-loop) →
+    let l = x .before in
+    let a = l .before .before .before .before .before .before .before .before .args in
+    getD (now (a .work)) (2560 + l .before .before .before .load .result .kids + l .loop .k) 0 < a .s
+local-lower t x =
+    let l = x .before in
+    let p = l .before .before .before .before .before .before .before .before .pre .1 in
+    kids-down _ _ _ _ _ (p .1 .0) (p .1 .1 .0) _ (l .before .before .before .load .ensures) (l .loop .k)
+    (x .loop-test .taken)
+
 pub local-slice-read-if1 : (t : ℕ) → local-lts.Need-slice-read-if1
     (measures.local-calls t) (measures.local-at t) local.Post measures.local-Inv-loop measures.local-μ-loop
 local-slice-read-if1 t c =
     let l = c .before .before .before in
     let p = l .before .before .before .before .before .before .before .before .pre .1 in
-    let lower = kids-down _ _ _ _ _ (p .1 .0) (p .1 .1 .0) _ (l .before .before .before .load .ensures) (l .loop .k)
-    (c .before .before .loop-test .taken) in
+    let lower = local-lower t (c .before .before) in
     omega (arith, lower, p .1 .1 .0, p .1 .0 .few, l .loop .inv .3 .lent .marks-long)
 
 pub local-visit-requires : (t : ℕ) → local-lts.Need-visit-requires
@@ -230,8 +241,7 @@ pub local-visit-requires : (t : ℕ) → local-lts.Need-visit-requires
 local-visit-requires t c κs =
     let l = c .before .before .before .before .before .before in
     let p = l .before .before .before .before .before .before .before .before .pre .1 in
-    let lower = kids-down _ _ _ _ _ (p .1 .0) (p .1 .1 .0) _ (l .before .before .before .load .ensures) (l .loop .k)
-    (c .before .before .before .before .before .loop-test .taken) in
+    let lower = local-lower t (c .before .before .before .before .before) in
     (omega (arith, lower), (p .0, (p .1 .0, (omega (arith, lower, p .1 .1 .0), l .loop .inv .3 .lent))))
 
 -- where a child that was seen and any other meet
@@ -246,8 +256,7 @@ local-child : (t : ℕ) (j : local-lts.Joined1 (measures.local-calls t) (measure
 local-child t j =
     let l = j .before .before .before .before in
     let p = l .before .before .before .before .before .before .before .before .pre .1 in
-    let lower = kids-down _ _ _ _ _ (p .1 .0) (p .1 .1 .0) _ (l .before .before .before .load .ensures) (l .loop .k)
-    (j .before .before .before .loop-test .taken) in
+    let lower = local-lower t (j .before .before .before) in
     ⊎-elim
     (λ w. rw (w .8, w .9, w .10)
     (w .3 .kept .1 .1 .1 .1 .1 .0, w .3 .kept .1 .1 .1 .1 .1 .1 .0, w .3 .ensures))
