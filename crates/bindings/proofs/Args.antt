@@ -11,7 +11,7 @@ use Rattle.model.specs.Shape.{aArg}
 use Rattle.model.specs.Binding.{argsOf}
 use Rattle.laws.specs.Range.{range}
 use Rattle.laws.proofs.ArgLists.{args-length}
-use Rattle.laws.proofs.Numbering.{range-length}
+use Rattle.laws.proofs.Ranges.{range-length}
 use Rattle.shape.specs.Args.{Left, nextArg}
 use Rattle.shape.proofs.Args.{args-step, args-none, left-stands, left-id, left-next}
 use Rattle.bindings.specs.Bindings.{bound, pairsOf, boundAll}

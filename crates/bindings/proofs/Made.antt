@@ -12,7 +12,7 @@ use Rattle.model.specs.Binding.{idOf, argsOf}
 use Rattle.model.specs.Intern.{Env, bindArgs, bindDef}
 use Rattle.laws.specs.Range.{range}
 use Rattle.laws.proofs.ArgLists.{args-length}
-use Rattle.laws.proofs.Numbering.{range-length}
+use Rattle.laws.proofs.Ranges.{range-length}
 use Rattle.walk.specs.Walk.{recAt, treeAt, Sound}
 use Rattle.walk.proofs.Bridge.{func-literal}
 use Rattle.bindings.specs.Bindings.{envOf, bound, boundAll}

@@ -2,7 +2,7 @@
 -- (`Rep`) and from the theorems on interning.
 -- In order: a node's scopes and arguments; no node stands for a use; counting; building, in words that agree.
 -- Assumes nothing.
-use Prim.Native.Nat.{ℕ, zero, suc, _+_, _<_, _≤_}
+use Prim.Native.Nat.{ℕ, zero, suc, _+_, _-_, _<_, _≤_}
 use mathlib.Core.Path.{_≡_, refl, sym, ap, _∙_, subst}
 use mathlib.Core.Logic.{inl, inr}
 use mathlib.Core.Option.{none}
@@ -22,7 +22,7 @@ use Rattle.laws.proofs.Holds.{holds-good}
 use Rattle.laws.proofs.Members.{clash}
 use Rattle.laws.proofs.ArgLists.{args-length, withOpts-syms}
 use Rattle.laws.proofs.Falls.{Under}
-use Rattle.laws.proofs.Numbering.{range-length}
+use Rattle.laws.proofs.Ranges.{range-length, in-range}
 use Rattle.theory.proofs.Acceptance.Records.{fits-at}
 use Rattle.theory.proofs.Interning.Good.{isPlain, Plain, NodeOk}
 use Rattle.theory.proofs.Interning.Interned.{Ready, interned-ready}
@@ -50,14 +50,10 @@ use Rattle.planner.specs.Building.{Opens, NoUse, Buildable}
 
 -- ---- a node's scopes and arguments
 
-range-under : (s first n : ℕ) → Under s (range first (suc n)) → first + suc n ≤ s
-unfolding range
-range-under s first zero h = omega (arith, h first (inl refl))
-range-under s first (suc n) h = omega (arith, range-under s (suc first) n (λ x i. h x (inr i)))
-
 args-under : (s first n : ℕ) → Under s (range first n) → 0 < n → first + n ≤ s
-args-under s first zero h l = absurd (omega arith)
-args-under s first (suc n) h l = range-under s first n h
+args-under s first n h l =
+    let x = first + (n - 1) in
+    omega (arith, h x (in-range first n x (omega arith) (omega arith)))
 
 first-under : (m b x y : ℕ) → Under m (take b (x ∷ y ∷ [])) → 0 < b → x < m
 first-under m zero x y h l = absurd (omega arith)

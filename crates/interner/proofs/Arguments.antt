@@ -3,7 +3,7 @@
 -- Assumes nothing.
 use Prim.Native.Nat.{ℕ, zero, suc, _+_, _-_, _<_, _≤_}
 use mathlib.Core.Path.{_≡_, refl, sym, ap, _∙_, subst}
-use mathlib.Core.Logic.{inl, inr, ⊎-elim}
+use mathlib.Core.Logic.{⊎-elim}
 use mathlib.Core.Bool.{Bool, false, _||_, or-false}
 use mathlib.Core.Option.{some}
 use mathlib.Core.List.{List, [], _∷_}
@@ -20,6 +20,7 @@ use Rattle.model.specs.Forest.{recordCount}
 use Rattle.model.specs.Intern.{Scope, scopeAt, argument, Outs, push, alloc, allocArgs}
 use Rattle.model.specs.Intern as intern
 use Rattle.laws.proofs.Members.{In, in-one, apart-anyIn}
+use Rattle.laws.proofs.Ranges.{range-in}
 use Rattle.record.specs.Record.{rowAt}
 use Rattle.key.specs.declared.Node.{Node}
 use Rattle.key.specs.declared.Node.the-variants.{Arg}
@@ -165,13 +166,6 @@ pub record SoFar (bs ws₀ : List ℕ) (st₀ : State) (cur at count k : ℕ) (w
       pushArgs cur (rowAt bs at .rec) (count - k) (absOf bs ws t s)
       ≡ pushArgs cur (rowAt bs at .rec) count (absOf bs ws₀ t st₀)
   pub args : (i : ℕ) → i < k → AtLevel ws (s .symbols) (levelOf (scopeWord ws₀ cur) + 1) (st₀ .symbols + i)
-
-range-in : (first n x : ℕ) → In x (range first n) → (i : ℕ) × (i < n) × (x ≡ first + i)
-unfolding range
-range-in first zero x h = absurd h
-range-in first (suc n) x (inl e) = (0, omega arith, omega arith)
-range-in first (suc n) x (inr h) =
-    let w = range-in (suc first) n x h in (suc (w .0), omega (arith, w .1), omega (arith, w .2))
 
 module _ (bs ws₀ : List ℕ) (st₀ : State) (cur at count : ℕ) where
   pub so-far-none : Rep bs ws₀ st₀ → SoFar bs ws₀ st₀ cur at count 0 ws₀ st₀

@@ -6,6 +6,7 @@ pub mod Holds
 pub mod Induction
 pub mod Down
 pub mod Members
+pub mod Ranges
 pub mod Once
 pub mod Walks
 pub mod Falls

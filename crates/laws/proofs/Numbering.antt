@@ -1,13 +1,13 @@
 -- A lambda's arguments numbered: which ids the argument symbols get, and that a literal is written from opts alone.
 --
--- In order: consecutive numbers; the arguments of a literal with consecutive symbols, n from `first` on: how many they
+-- In order: an id given; the arguments of a literal with consecutive symbols, n from `first` on: how many they
 -- are, what is written of them, and the ids that they are given (`given-new`, `given-before`, `given-after`).
 -- Assumes nothing.
 use mathlib.Core.Path.{_≡_, refl, ap, sym, _∙_}
 use mathlib.Core.Bool.{Bool, true, false}
 use mathlib.Core.Option.{Option, some}
 use mathlib.Core.List.{List, [], _∷_, _++_}
-use Prim.Native.Nat.{ℕ, zero, suc, _+_, _-_, _≤_, _<_}
+use Prim.Native.Nat.{ℕ, suc, _+_, _-_, _≤_, _<_}
 use native.Mathlib.Omega.{arith}
 use lib.Dec.{eqb}
 use lib.ListN.{length}
@@ -17,11 +17,7 @@ use Rattle.model.specs.Intern.{withOpts, Env}
 use Rattle.model.specs.Materialize.{idGiven, argLit, argEnv}
 use Rattle.laws.specs.Range.{range}
 use Rattle.laws.proofs.ArgLists.{ArgList, withOpts-length}
-
-pub range-length : (first n : ℕ) → length (range first n) ≡ n
-unfolding range
-range-length first zero = refl
-range-length first (suc n) = ap suc (range-length (suc first) n)
+use Rattle.laws.proofs.Ranges.{range-length}
 
 -- ---- an id given
 

@@ -16,7 +16,8 @@ use Rattle.model.specs.Intern.{Env, withOpts}
 use Rattle.model.specs.Materialize.{idGiven, argEnv}
 use Rattle.laws.specs.Range.{range}
 use Rattle.laws.proofs.ArgLists.{ArgList}
-use Rattle.laws.proofs.Numbering.{range-length, given-new, given-before, given-after}
+use Rattle.laws.proofs.Ranges.{range-length, range-more, range-at}
+use Rattle.laws.proofs.Numbering.{given-new, given-before, given-after}
 use Rattle.key.proofs.Runs.{sets-run, sets-before, sets-after, sets-more}
 use Rattle.planner.specs.Building.{given, Maps}
 
@@ -33,24 +34,11 @@ copy-end ids map s e l h = sym (take-all s map l) ∙ (e ∙ take-all s ids h)
 
 -- ---- ids given one after the other
 
-pub range-more : (a n : ℕ) → range a (suc n) ≡ range a n ++ ((a + n) ∷ [])
-unfolding range
-range-more a zero = let e : a + 0 ≡ a = omega arith in rw e
-range-more a (suc n) =
-    let e : a + suc n ≡ suc a + n = omega arith in
-    rw e (ap (λ (l : List ℕ). a ∷ l) (range-more (suc a) n))
-
 pub number-more : (map₀ map : List ℕ) (first last j id : ℕ) → map ≡ sets map₀ first (range (last + 1) j)
     → id ≡ last + 1 + j → set map (first + j) id ≡ sets map₀ first (range (last + 1) (j + 1))
 number-more map₀ map first last j id e f =
     let l = range-length (last + 1) j in
     rw (e, f, add-one j, range-more (last + 1) j, sets-more (range (last + 1) j) map₀ first (last + 1 + j), l)
-
-range-at : (a k j : ℕ) → j < k → getD (range a k) j 0 ≡ a + j
-unfolding range
-range-at a zero j l = absurd (omega arith)
-range-at a (suc k) zero l = omega arith
-range-at a (suc k) (suc j) l = range-at (suc a) k j (omega arith) ∙ omega arith
 
 -- ---- no ids
 

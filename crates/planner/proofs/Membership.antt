@@ -12,7 +12,7 @@ use native.Mathlib.Numerals.{add-one}
 use lib.Dec.{eqb, ltb}
 use lib.ListN.{length, getD, take}
 use lib.Seq.{take-suc}
-use borrow.Author.Tests.{eqb-true, eqb-false, eq-eqb, ne-eqb, ltb-false, lt-ltb}
+use borrow.Author.Tests.{eq-eqb, ne-eqb, ltb-false, lt-ltb}
 use Rattle.model.specs.Intern.{Sym, Env, symAt}
 use Rattle.model.specs.Gate.{Graph, symOf, usage, shouldHoist}
 use Rattle.model.specs.Schedule.{isArg}
@@ -21,6 +21,7 @@ use Rattle.laws.specs.Defining.{membersIn}
 use Rattle.laws.specs.Range.{range}
 use Rattle.laws.proofs.Defining.{members-append, members-member, members-other}
 use Rattle.laws.proofs.Members.{In}
+use Rattle.laws.proofs.Ranges.{range-more, in-range}
 use Rattle.laws.proofs.Falls.{Under}
 use Rattle.key.specs.declared.Symbol.{Symbol}
 use Rattle.key.specs.Key.{symbolAt}
@@ -30,7 +31,6 @@ use Rattle.symbols.proofs.Laws.{sym-at}
 use Rattle.gate.proofs.Gate.{hoist-few}
 use Rattle.graph.specs.Graph.{Tests, graphOf}
 use Rattle.planner.specs.Building.{Stands, Maps, given, more}
-use Rattle.planner.proofs.Ids.{range-more}
 
 -- ---- the graph in the words
 
@@ -148,15 +148,6 @@ members-more gr sc env order i s k b lt e f g =
     go false h = omega (arith, g, members-other gr sc x [] env h)
 
 -- ---- all symbols below a number
-
-in-range : (a n s : ℕ) → a ≤ s → s < a + n → In s (range a n)
-unfolding range
-in-range a zero s l k = absurd (omega arith)
-in-range a (suc n) s l k = go (eqb s a) refl (in-range (suc a) n s)
-  where
-    go : (b : Bool) → eqb s a ≡ b → (suc a ≤ s → s < suc a + n → In s (range (suc a) n)) → In s (range a (suc n))
-    go true e rest = inl (eqb-true s a e)
-    go false e rest = let f = eqb-false s a e in inr (rest (omega arith) (omega arith))
 
 module _ (gr : Graph) (sc : ℕ) (env : Env) where
   members-some : (xs : List ℕ) (s : ℕ) → In s xs → member gr sc env s ≡ true → 0 < membersIn gr sc env xs
