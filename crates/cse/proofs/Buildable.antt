@@ -34,7 +34,7 @@ use Rattle.codec.proofs.Accepting.{accept-passed}
 use Rattle.key.specs.declared.Node.{Node}
 use Rattle.key.specs.declared.Node.the-variants.{Const, Unparsed, Arg, Lambda, Op}
 use Rattle.key.specs.Key.{partsOf, symbolAt}
-use Rattle.key.proofs.Runs.{Agree}
+use Rattle.laws.specs.Frame.{Agree}
 use Rattle.key.proofs.Laws.{symbol-agree}
 use Rattle.symbols.specs.Symbols.{symsOf, symOf, recOf, nodeOf, kidsAt, AllSound}
 use Rattle.symbols.proofs.Laws.{syms-length, sym-at, rec-at, sounds-agree}

@@ -8,7 +8,7 @@ use Rattle.model.specs.Tree.{Tree, rows}
 use Rattle.model.specs.Materialize.{materialize}
 use Rattle.model.specs.Call.{treeOf}
 use Rattle.laws.proofs.Rows.{size-rows}
-use Rattle.key.proofs.Runs.{Agree}
+use Rattle.laws.specs.Frame.{Agree}
 use Rattle.symbols.specs.Symbols.{symsOf}
 use Rattle.symbols.proofs.Laws.{syms-agree}
 use Rattle.scopes.specs.Scopes.{scopesOf}

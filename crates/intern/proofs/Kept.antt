@@ -9,7 +9,7 @@ use native.Mathlib.Omega.{arith}
 use lib.ListN.{length, set, length-set, getD}
 use lib.Seq.{getD-set-same, getD-set-other}
 use Rattle.model.specs.Intern.{bindDef}
-use Rattle.key.proofs.Runs.{Agree}
+use Rattle.laws.specs.Frame.{Agree}
 use Rattle.walk.specs.Walk.{treeAt}
 use Rattle.symbols.specs.Words.{pendingFrom}
 use Rattle.symbols.proofs.Words.{words-more, words-agree}

@@ -4,7 +4,7 @@ use Prim.Native.Nat.{ℕ, _+_, _*_, _≤_}
 use mathlib.Core.Path.{_≡_}
 use mathlib.Core.List.{List}
 use lib.ListN.{length, getD}
-use Rattle.key.proofs.Runs.{Agree}
+use Rattle.laws.specs.Frame.{Agree}
 use Rattle.interner.specs.declared.State.{State}
 use Rattle.intern.specs.declared.Here.{Here}
 

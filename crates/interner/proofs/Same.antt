@@ -9,7 +9,7 @@ use lib.ListN.{length}
 use Rattle.model.specs.Intern.{Sym, symAt}
 use Rattle.laws.proofs.Members.{In}
 use Rattle.key.specs.Key.{symbolAt}
-use Rattle.key.proofs.Runs.{Agree}
+use Rattle.laws.specs.Frame.{Agree}
 use Rattle.key.proofs.Laws.{symbol-agree}
 use Rattle.symbols.specs.Symbols.{symsOf}
 use Rattle.symbols.proofs.Laws.{syms-agree, sound-agree}

@@ -15,7 +15,7 @@ use Rattle.model.specs.Intern as intern
 use Rattle.model.specs.Tree.{Rec, rec}
 use Rattle.laws.proofs.Members.{Every}
 use Rattle.record.specs.Record.{rowAt}
-use Rattle.key.proofs.Runs.{Agree}
+use Rattle.laws.specs.Frame.{Agree}
 use Rattle.key.specs.declared.Node.{Node}
 use Rattle.key.specs.declared.Node.the-variants.{Const, Unparsed, Arg, Lambda, Op}
 use Rattle.key.specs.Key.{partsOf, symbolAt}

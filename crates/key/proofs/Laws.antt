@@ -17,7 +17,8 @@ use Rattle.key.specs.declared.Node.{Node}
 use Rattle.key.specs.declared.Node.the-variants.{Const, Unparsed, Arg, Lambda, Op}
 use Rattle.key.specs.Key.{Fits, partsOf, choose, nodeOf, head, middle, tail, put5, storeSymbol}
 use Rattle.key.specs.Key.{partsIn, symbolOf, symbolAt}
-use Rattle.key.proofs.Runs.{Agree, sets-run, sets-before, sets-after}
+use Rattle.laws.specs.Frame.{Agree}
+use Rattle.laws.proofs.Runs.{sets-run, sets-before, sets-after}
 
 -- ---- the parts that words hold
 

@@ -1,3 +1,2 @@
 -- Laws that callers cite: runs of stores, and symbols in words. Assumes nothing.
-pub mod Runs
 pub mod Laws

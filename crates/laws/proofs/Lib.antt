@@ -7,6 +7,9 @@ pub mod Induction
 pub mod Down
 pub mod Members
 pub mod Ranges
+pub mod Runs
+pub mod Frame
+pub mod Stack
 pub mod Once
 pub mod Walks
 pub mod Falls

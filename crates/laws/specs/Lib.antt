@@ -3,3 +3,5 @@ pub mod Range
 pub mod Slots
 pub mod Rows
 pub mod Defining
+pub mod Frame
+pub mod Stack

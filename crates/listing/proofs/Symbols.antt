@@ -16,7 +16,7 @@ use Rattle.model.specs.Call.{interned}
 use Rattle.model.specs.Lister.{symbolLines}
 use Rattle.laws.proofs.Apart.{refused-good, good-inj}
 use Rattle.codec.proofs.Accepting.{accept-passed}
-use Rattle.key.proofs.Runs.{Agree}
+use Rattle.laws.specs.Frame.{Agree}
 use Rattle.symbols.specs.Symbols.{symsOf}
 use Rattle.symbols.proofs.Laws.{syms-agree, sounds-agree}
 use Rattle.interner.specs.declared.State.{State}

@@ -18,7 +18,7 @@ use Rattle.laws.specs.Range.{range}
 use Rattle.laws.proofs.ArgLists.{ArgList}
 use Rattle.laws.proofs.Ranges.{range-length, range-more, range-at}
 use Rattle.laws.proofs.Numbering.{given-new, given-before, given-after}
-use Rattle.key.proofs.Runs.{sets-run, sets-before, sets-after, sets-more}
+use Rattle.laws.proofs.Runs.{sets-run, sets-before, sets-after, sets-more}
 use Rattle.planner.specs.Building.{given, Maps}
 
 -- ---- a copy

@@ -9,7 +9,7 @@ use lib.ListN.{getD}
 use Rattle.model.specs.Gate.{Graph}
 use Rattle.key.specs.declared.Symbol.{Symbol}
 use Rattle.key.specs.Key.{symbolAt}
-use Rattle.key.proofs.Runs.{Agree}
+use Rattle.laws.specs.Frame.{Agree}
 use Rattle.key.proofs.Laws.{symbol-agree}
 use Rattle.symbols.specs.Words.{slotsFrom}
 use Rattle.symbols.specs.Symbols.{kidsAt}

@@ -13,7 +13,8 @@ use Rattle.model.specs.Forest.{recordCount}
 use Rattle.model.specs.Intern.{Sym, noSym, symAt}
 use Rattle.key.specs.declared.Symbol.{Symbol}
 use Rattle.key.specs.Key.{partsOf, symbolAt, storeSymbol}
-use Rattle.key.proofs.Runs.{Agree, sets-before, sets-after}
+use Rattle.laws.specs.Frame.{Agree}
+use Rattle.laws.proofs.Runs.{sets-before, sets-after}
 use Rattle.key.proofs.Laws.{symbol-agree, load-store, store-length, store-before, store-after}
 use Rattle.symbols.specs.Words.{wordsFrom, slotsFrom, pendingFrom}
 use Rattle.symbols.specs.Symbols.{recOf, symOf, symFrom, symsOf, kidsAt}

@@ -7,7 +7,8 @@ use native.Mathlib.Omega.{arith}
 use native.Mathlib.Numerals.{add-one}
 use lib.ListN.{length, getD, set}
 use lib.Seq.{sets, ext-getD}
-use Rattle.key.proofs.Runs.{Agree, sets-run, sets-after, sets-more}
+use Rattle.laws.specs.Frame.{Agree}
+use Rattle.laws.proofs.Runs.{sets-run, sets-after, sets-more}
 use Rattle.symbols.specs.Words.{wordsFrom}
 
 pub words-length : (ws : List ℕ) (at n : ℕ) → length (wordsFrom ws at n) ≡ n

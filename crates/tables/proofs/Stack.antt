@@ -12,7 +12,8 @@ use lib.ListN.{length, getD, set, length-set}
 use lib.Seq.{getD-set-same, getD-set-other}
 use Rattle.model.specs.Intern.{enter, dropFirst}
 use Rattle.key.specs.Key.{symbolAt}
-use Rattle.key.proofs.Runs.{Agree, agree-before}
+use Rattle.laws.specs.Frame.{Agree}
+use Rattle.laws.proofs.Frame.{agree-store}
 use Rattle.key.proofs.Laws.{symbol-agree}
 use Rattle.symbols.specs.Symbols.{AllSound}
 use Rattle.symbols.proofs.Laws.{kids-agree}
@@ -148,7 +149,7 @@ module _ (t : Tables) (top : ℕ) (is : Open t top) where
     entered = set ws (7176 + top) (s + 512 * m)
 
     others-kept : Agree ws entered 7176 (7176 + top)
-    others-kept = agree-before ws (7176 + top) (s + 512 * m) 7176 (7176 + top) (omega arith)
+    others-kept = agree-store ws (7176 + top) (s + 512 * m) 7176 (7176 + top) (omega arith)
 
     new-word : getD entered (7176 + top) 0 ≡ s + 512 * m
     new-word = getD-set-same ws (7176 + top) (s + 512 * m) 0 room
@@ -196,10 +197,10 @@ module _ (t : Tables) (top : ℕ) (is : Open t top) where
         (λ r. marked-agree bs ws entered used n top sound below own kids others-kept marked k r) (eq-or-lt-of-le le)
       where
         own : Agree ws entered 0 (5 * n)
-        own = agree-before ws (7176 + top) (s + 512 * m) 0 (5 * n) (omega arith)
+        own = agree-store ws (7176 + top) (s + 512 * m) 0 (5 * n) (omega arith)
 
         kids : Agree ws entered 2560 (2560 + used)
-        kids = agree-before ws (7176 + top) (s + 512 * m) 2560 (2560 + used) (omega arith)
+        kids = agree-store ws (7176 + top) (s + 512 * m) 2560 (2560 + used) (omega arith)
 
         newest : entryMark entered top ≡ markOf bs entered (entrySymbol entered top)
         newest =

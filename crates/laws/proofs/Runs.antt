@@ -1,5 +1,5 @@
--- `Agree`: two lists of words are the same from one place to another; a store later. What a list holds after a run
--- of stores, `sets l i vs` (lib.Seq): the run itself, what stands before it and after it; a run with one store more.
+-- What a list holds after a run of stores, `sets l i vs` (lib.Seq): the run itself, what stands before it and after it;
+-- a run with one store more.
 -- Assumes nothing.
 use Prim.Native.Nat.{ℕ, suc, _+_, _<_, _≤_}
 use mathlib.Core.Path.{_≡_, refl, sym, ap, _∙_}
@@ -7,14 +7,6 @@ use mathlib.Core.List.{List, [], _∷_, _++_, append-assoc}
 use native.Mathlib.Omega.{arith}
 use lib.ListN.{length, getD, set, take, drop, List·getD-append}
 use lib.Seq.{sets, sets-eq, length-take-le, getD-append-add, getD-set-other}
-
--- from word a up to word b
-abbrev pub Agree : List ℕ → List ℕ → ℕ → ℕ → Type 0
-Agree ws ws′ a b = (k : ℕ) → a ≤ k → k < b → getD ws′ k 0 ≡ getD ws k 0
-
--- a store after b
-pub agree-before : (ws : List ℕ) (i v a b : ℕ) → b ≤ i → Agree ws (set ws i v) a b
-agree-before ws i v a b h k l r = getD-set-other ws i k v 0 (λ e. omega arith)
 
 pub sets-run : (vs l : List ℕ) (i j : ℕ) → j < length vs → i + length vs ≤ length l →
     getD (sets l i vs) (i + j) 0 ≡ getD vs j 0

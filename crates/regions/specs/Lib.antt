@@ -1,0 +1,2 @@
+-- What the contracts of all crates that use work words cite. Assumes nothing.
+pub mod Regions
