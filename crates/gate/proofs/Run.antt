@@ -13,7 +13,7 @@ use Rattle.key.specs.declared.Symbol.{Symbol}
 use Rattle.key.specs.Key.{symbolAt}
 use Rattle.key.proofs.Laws.{symbol-agree}
 use Rattle.symbols.specs.Words.{wordsFrom, slotsFrom}
-use Rattle.symbols.specs.Symbols.{kidsAt, AllSound}
+use Rattle.symbols.specs.Symbols.{kidsAt}
 use Rattle.symbols.proofs.Words.{words-length, words-more, words-agree}
 use Rattle.gate.specs.Gate.{usesAt, noted, allNoted, Lower, Stored, Small, Notable, Kept}
 use Rattle.laws.proofs.Once.{count-short}
@@ -125,12 +125,3 @@ module _ (ws ws′ : List ℕ) (kept : Kept ws ws′) where
 pub stored-less : (ws : List ℕ) (m n : ℕ) → m ≤ n → Stored ws n → Stored ws m
 stored-less ws m n l st =
     record { few = omega (arith, st .few); words = st .words; kids = λ i k. st .kids i (omega arith) }
-
--- the symbols that interning makes are stored
-pub sound-stored : (bs ws : List ℕ) (used n : ℕ) → n ≤ 512 → 9480 ≤ length ws → used ≤ 2560 → AllSound bs ws used n →
-    Stored ws n
-sound-stored bs ws used n few long room sound = record {
-  few = few;
-  words = long;
-  kids = λ i l. record { slots = omega (arith, sound i l .slots); lower = sound i l .lower };
-}

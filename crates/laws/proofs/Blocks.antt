@@ -11,14 +11,14 @@ use mathlib.Core.List.{List, [], _∷_, _++_}
 use Prim.Native.Nat.{ℕ, suc, _+_, _<_, max}
 use native.Mathlib.Omega.{arith}
 use lib.Dec.{eqb}
-use Rattle.model.specs.Tree.{rec, Tree, Trees, node, nil, cons, top, many, snoc, size, sizes, depth, depths, rows}
+use Rattle.model.specs.Tree.{rec, Tree, Trees, node, nil, cons, top, many, snoc, depth, depths, rows}
 use Rattle.model.specs.Tree.{rowsOf}
 use Rattle.model.specs.Intern.{Env}
 use Rattle.model.specs.Gate.{Graph}
 use Rattle.model.specs.Materialize.{Builder, valDefOf, renames, wrapBlock, member}
 use Rattle.laws.specs.Defining.{defsOf}
 use Rattle.laws.proofs.Defining.{defs-member, defs-other, along}
-use Rattle.laws.proofs.Trees.{node-rows, node-size, node-depth, many-snoc, rows-snoc, sizes-snoc, depths-snoc}
+use Rattle.laws.proofs.Trees.{node-rows, node-depth, many-snoc, rows-snoc, depths-snoc}
 
 -- ---- definitions whose values are no uses
 
@@ -72,10 +72,6 @@ module _ (ds : Trees) (r : Tree) (h : NoRenames ds) (k : ℕ) (count : many ds �
   wrap-rows =
       let kids : many (snoc ds r) ≡ k + 1 = omega (arith, many-snoc ds r) in
       ap rows wrap-some ∙ (node-rows (rec 11 0xD8 0 []) (snoc ds r) ∙ rw (kids, rows-snoc ds r))
-
-  pub wrap-size : size (wrapBlock ds r) ≡ suc (sizes ds + size r)
-  wrap-size =
-      ap size wrap-some ∙ (node-size (rec 11 0xD8 0 []) (snoc ds r) ∙ ap suc (sizes-snoc ds r))
 
   pub wrap-depth : depth (wrapBlock ds r) ≡ suc (max (depths ds) (depth r))
   wrap-depth =

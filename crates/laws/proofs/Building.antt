@@ -15,7 +15,7 @@ use lib.Dec.{eqb}
 use lib.ListN.{length, getD}
 use borrow.Author.Tests.{lt-ltb}
 use Rattle.model.specs.Down.{under}
-use Rattle.model.specs.Tree.{rec, Tree, Trees, node, nil, cons, top, many, size, sizes, depth, depths, rows, rowsOf}
+use Rattle.model.specs.Tree.{rec, Tree, Trees, node, nil, cons, top, many, depth, depths, rows, rowsOf}
 use Rattle.model.specs.Intern.{Node, constant, unparsed, argument, func, operation, Env, thunked}
 use Rattle.model.specs.Gate.{Graph, symOf, usage, shouldHoist}
 use Rattle.model.specs.Schedule.{isArg, schedule}
@@ -30,7 +30,7 @@ use Rattle.laws.proofs.Falls.{Under, under-at, schedule-low}
 use Rattle.laws.proofs.Once.{Once}
 use Rattle.laws.proofs.Symbols.{every-sym}
 use Rattle.laws.proofs.Defining.{defs-member, defs-other, along, process-is, members-fixed}
-use Rattle.laws.proofs.Blocks.{NoRenames, BuildsValues, defs-no-renames, wrap-none, wrap-rows, wrap-size}
+use Rattle.laws.proofs.Blocks.{NoRenames, BuildsValues, defs-no-renames, wrap-none, wrap-rows}
 use Rattle.laws.proofs.Blocks.{wrap-depth}
 
 -- ---- the children of an operation
@@ -196,33 +196,6 @@ module _ (g : Graph) (kids-low : (s : ℕ) → Under s (symOf g s .kids)) (s : �
     unfolding buildStep
     by-node nd q = build-step ∙ rw (e, q, buildStep)
 
-    pub build-constant : symOf g s .node ≡ constant → buildValue g s sc env last ≡ node (symOf g s .rec) nil
-    unfolding buildNode
-    build-constant q = by-node constant q
-
-    pub build-unparsed : symOf g s .node ≡ unparsed → buildValue g s sc env last ≡ node (symOf g s .rec) nil
-    unfolding buildNode
-    build-unparsed q = by-node unparsed q
-
-    pub build-argument : symOf g s .node ≡ argument → buildValue g s sc env last ≡ valUseOf 0
-    unfolding buildNode
-    build-argument q = by-node argument q
-
-    pub build-func : (xs : ArgList) (b : ℕ) → symOf g s .node ≡ func xs b →
-        buildValue g s sc env last ≡
-        node (rec 12 0xD9 (length xs) (argLit last xs))
-        (cons (processScope g (buildValue g) (getD (symOf g s .kids) 0 0) b
-        (argEnv last xs env) (suc (last + length xs))) nil)
-    unfolding buildNode
-    build-func xs b q = by-node (func xs b) q
-
-    pub build-operation : (brs : List ℕ) → symOf g s .node ≡ operation brs →
-        buildValue g s sc env last ≡
-        node (symOf g s .rec)
-        (buildOp g (buildValue g) sc env last (symOf g s .rec .opcode) 0 (symOf g s .kids) brs)
-    unfolding buildNode
-    build-operation brs q = by-node (operation brs) q
-
 -- ---- no definition only renames
 
 -- no symbol but an argument has a use's record
@@ -303,11 +276,6 @@ module _ (g : Graph) (values : NoUses g) (root sc : ℕ) (once : Once (schedule 
     scope-rows =
         ap rows (process-is g (buildValue g) sc root env last)
         ∙ wrap-rows defs result kept k scope-count some-def
-
-    pub scope-size : size scopeTree ≡ suc (sizes defs + size result)
-    scope-size =
-        ap size (process-is g (buildValue g) sc root env last)
-        ∙ wrap-size defs result kept k scope-count some-def
 
     pub scope-depth : depth scopeTree ≡ suc (max (depths defs) (depth result))
     scope-depth =

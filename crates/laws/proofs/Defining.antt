@@ -119,18 +119,6 @@ module _ (g : Graph) (build : Builder) (sc : ℕ) where
   unfolding processScope joinT
   process-is root env last = define-is root (schedule g root sc) env last nil
 
-  -- ids are given one after the other
-  pub last-many : (order : List ℕ) (env : Env) (last : ℕ) →
-      idsFrom g sc order env last .1 ≡ last + many (defsOf g build sc order env last)
-  unfolding idsFrom defsOf many
-  last-many =
-      along g sc (λ order env last. idsFrom g sc order env last .1 ≡ last + many (defsOf g build sc order env last))
-      (λ env last. omega arith)
-      (λ s order env last e h.
-      rw (ids-member g sc s order env e last, defs-member g sc s order env e build last) (omega (arith, h)))
-      (λ s order env last e h.
-      rw (ids-other g sc s order env e last, defs-other g sc s order env e build last) h)
-
   -- an order in two parts
   pub defs-append : (ys xs : List ℕ) (env : Env) (last : ℕ) →
       defsOf g build sc (xs ++ ys) env last ≡

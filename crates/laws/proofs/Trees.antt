@@ -1,7 +1,6 @@
 -- Rows, sizes and depths of trees that are put together: what a tree's planned rows add up to.
 --
--- In order: one node; lists of one tree; a list with one more tree (`snoc`), and lists joined (`joinT`); a use and a
--- definition.
+-- In order: one node; a list with one more tree (`snoc`), and lists joined (`joinT`); a use and a definition.
 -- Not here: that a tree has as many rows as records (`size-rows`, Rows).
 -- Assumes nothing.
 use mathlib.Core.Path.{_≡_, refl, ap, sym}
@@ -21,10 +20,6 @@ module _ (r : Rec) (ts : Trees) where
   unfolding rows
   node-rows = refl
 
-  pub node-size : size (node r ts) ≡ suc (sizes ts)
-  unfolding size
-  node-size = refl
-
   pub node-depth : depth (node r ts) ≡ suc (depths ts)
   unfolding depth
   node-depth = refl
@@ -34,10 +29,6 @@ module _ (r : Rec) where
   pub leaf-rows : rows (node r nil) ≡ record { rec = r; kids = 0 } ∷ []
   unfolding rows many
   leaf-rows = refl
-
-  pub leaf-size : size (node r nil) ≡ 1
-  unfolding size
-  leaf-size = refl
 
   pub leaf-depth : depth (node r nil) ≡ 1
   unfolding depth
@@ -61,37 +52,7 @@ pub size-some : (t : Tree) → 1 ≤ size t
 unfolding size
 size-some (node r ts) = omega arith
 
-pub depth-some : (t : Tree) → 1 ≤ depth t
-unfolding depth
-depth-some (node r ts) = omega arith
-
--- a tree is no deeper than it has records
-mutual
-  unfolding size depth
-
-  pub depth-size : (t : Tree) → depth t ≤ size t
-  depth-size (node r ts) = omega (arith, depths-sizes ts)
-
-  depths-sizes : (ts : Trees) → depths ts ≤ sizes ts
-  depths-sizes nil = omega arith
-  depths-sizes (cons t ts) = omega (arith, depth-size t, depths-sizes ts)
-
--- ---- one tree more at the front
-
-module _ (t : Tree) (ts : Trees) where
-  pub cons-rows : rowsOf (cons t ts) ≡ rows t ++ rowsOf ts
-  unfolding rows
-  cons-rows = refl
-
-  pub cons-size : sizes (cons t ts) ≡ size t + sizes ts
-  unfolding size
-  cons-size = refl
-
-  pub cons-depth : depths (cons t ts) ≡ max (depth t) (depths ts)
-  unfolding depth
-  cons-depth = refl
-
--- ---- and at the end
+-- ---- one tree more at the end
 
 pub many-snoc : (ts : Trees) (t : Tree) → many (snoc ts t) ≡ suc (many ts)
 unfolding many snoc
@@ -125,25 +86,10 @@ unfolding joinT snoc
 join-snoc nil t us = refl
 join-snoc (cons u ts) t us = ap (cons u) (join-snoc ts t us)
 
-pub many-join : (ts us : Trees) → many (joinT ts us) ≡ many ts + many us
-unfolding many joinT
-many-join nil us = omega arith
-many-join (cons t ts) us = omega (arith, many-join ts us)
-
 pub rows-join : (ts us : Trees) → rowsOf (joinT ts us) ≡ rowsOf ts ++ rowsOf us
 unfolding rows joinT
 rows-join nil us = refl
 rows-join (cons t ts) us = rw (rows-join ts us) (sym (append-assoc (rows t) (rowsOf ts) (rowsOf us)))
-
-pub sizes-join : (ts us : Trees) → sizes (joinT ts us) ≡ sizes ts + sizes us
-unfolding size joinT
-sizes-join nil us = omega arith
-sizes-join (cons t ts) us = omega (arith, sizes-join ts us)
-
-pub depths-join : (ts us : Trees) → depths (joinT ts us) ≡ max (depths ts) (depths us)
-unfolding depth joinT
-depths-join nil us = omega arith
-depths-join (cons t ts) us = omega (arith, depths-join ts us)
 
 -- ---- a use, and a definition
 
@@ -151,10 +97,6 @@ module _ (i : ℕ) where
   pub use-rows : rows (valUseOf i) ≡ record { rec = rec 7 0x72 0 (put32 i); kids = 0 } ∷ []
   unfolding valUseOf
   use-rows = leaf-rows (rec 7 0x72 0 (put32 i))
-
-  pub use-size : size (valUseOf i) ≡ 1
-  unfolding valUseOf
-  use-size = leaf-size (rec 7 0x72 0 (put32 i))
 
   pub use-depth : depth (valUseOf i) ≡ 1
   unfolding valUseOf

@@ -1,12 +1,12 @@
 -- A symbol planned. In order: trees in general; a use; a symbol without an id; leaves; an operation's row; a lambda.
 -- Assumes nothing.
-use Prim.Native.Nat.{ℕ, zero, suc, _+_, _<_, _≤_, min}
+use Prim.Native.Nat.{ℕ, zero, suc, _+_, _<_, _≤_}
 use mathlib.Core.Path.{_≡_, refl, sym, ap, _∙_, subst}
 use mathlib.Core.Option.{none, some}
 use mathlib.Core.List.{List, [], _∷_}
 use native.Mathlib.Omega.{arith}
 use lib.ListN.{length, getD}
-use Rattle.model.specs.Tree.{Row, Tree, rows, depth, size}
+use Rattle.model.specs.Tree.{Row, Tree, rows, depth}
 use Rattle.model.specs.Intern.{Env}
 use Rattle.model.specs.Gate.{symOf}
 use Rattle.model.specs.Gate as model
@@ -38,11 +38,6 @@ rows-some t = omega (arith, size-rows t, size-some t)
 pub grew-few : {bs ws : List ℕ} {p : Plan} {rs : List Row} {d : ℕ} {ws′ : List ℕ} {r : Plan} → Grew bs ws p rs d ws′ r
     → r .rows ≤ 257
 grew-few g = omega (arith, g .count)
-
--- rows counted as records
-pub grown-count : {bs ws : List ℕ} {p : Plan} (above : ℕ) (t : Tree) {ws′ : List ℕ} {r : Plan}
-    → Grown bs ws p above t ws′ r → r .rows ≡ min 257 (p .rows + size t)
-grown-count above t g = omega (arith, g .count, size-rows t)
 
 module _ {bs ws : List ℕ} {g : Graph} {ids : List ℕ} {p : Plan} {above : ℕ} where
   -- a full plan stays as it is

@@ -79,6 +79,3 @@ module _ (ts : Trees) (op j at cur : ℕ) (env : Env) (s : State) (os : List ℕ
       let n : c .count ≡ os .2 .readings - s .readings = omega (arith, c .counted) in
       c .again (os .2) (later-none (os .2)) (omega arith)
       ∙ ap (λ (n : ℕ). good (os .0, os .1, withReadings (os .2) (os .2 .readings + n))) n
-
-  pub reread-no-thunks : os .1 ≡ []
-  reread-no-thunks = calm-all .no-thunks
