@@ -25,7 +25,8 @@ use Rattle.symbols.specs.Symbols.{keyRec}
 use Rattle.tables.specs.declared.Tables.{Tables}
 use Rattle.interner.specs.declared.State.{State}
 use Rattle.interner.specs.declared.Step.{Step}
-use Rattle.interner.specs.State.{absOf, Rep, Sourced}
+use Rattle.symbols.specs.Sourced.{Sourced}
+use Rattle.interner.specs.State.{absOf, Rep}
 use Rattle.interner.specs.Step.{Answers, BodyOf, Fresh, Ready, finishOf}
 use Rattle.concluding.specs.declared.Branches.{Branches}
 use Rattle.concluding.specs.Concluding.{branchesOf, generalNode, Concludes, Branched}

@@ -43,7 +43,8 @@ use Rattle.scopes.proofs.Laws.{scopes-length}
 use Rattle.scopes.proofs.Open.{nested-kept}
 use Rattle.interner.specs.declared.State.{State}
 use Rattle.tables.specs.Tables.{first}
-use Rattle.interner.specs.State.{absOf, Sourced, Rep}
+use Rattle.symbols.specs.Sourced.{Sourced}
+use Rattle.interner.specs.State.{absOf, Rep}
 use Rattle.gate.specs.Gate.{Stored}
 use Rattle.graph.specs.Graph.{Arena}
 use Rattle.planner.specs.Building.{Opens, NoUse, Buildable}

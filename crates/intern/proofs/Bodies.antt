@@ -14,7 +14,7 @@ use Rattle.model.specs.Forest.{recordCount}
 use Rattle.model.specs.Binding.{kind, lambda, argsOf}
 use Rattle.model.specs.Intern.{bindArgs}
 use Rattle.laws.specs.Range.{range}
-use Rattle.laws.proofs.Members.{Every}
+use Rattle.laws.specs.Members.{Every}
 use Rattle.laws.proofs.ArgLists.{args-length}
 use Rattle.record.specs.Record.{rowAt}
 use Rattle.shape.proofs.Fitting.{fits-func}

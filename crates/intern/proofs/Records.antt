@@ -18,7 +18,7 @@ use Rattle.model.specs.Tree.{Rec, many, size, sizes, depth, depths}
 use Rattle.model.specs.Forest.{recordCount}
 use Rattle.model.specs.Intern.{Out, Outs, Env, nodeOf, finish, internLast, internGeneral}
 use Rattle.model.specs.Intern as intern
-use Rattle.laws.proofs.Members.{In}
+use Rattle.laws.specs.Members.{In}
 use Rattle.record.specs.Record.{rowAt}
 use Rattle.shape.proofs.Fitting.{fits-def, fits-block}
 use Rattle.walk.specs.Walk.{recAt, kidsAt, restAt, treeAt, Sound}

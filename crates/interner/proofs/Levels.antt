@@ -12,7 +12,8 @@ use lib.Dec.{eqb}
 use lib.ListN.{getD}
 use Rattle.model.specs.Lists.{isIn, add, union, without}
 use Rattle.model.specs.Intern.{Sym, symAt, unionDeps}
-use Rattle.laws.proofs.Members.{In, Every, isIn-true, neither-or, union-cases}
+use Rattle.laws.specs.Members.{In, Every}
+use Rattle.laws.proofs.Members.{isIn-true, neither-or, union-cases}
 use Rattle.key.specs.declared.Symbol.{Symbol}
 use Rattle.key.specs.Key.{symbolAt}
 use Rattle.symbols.specs.Words.{wordsFrom}

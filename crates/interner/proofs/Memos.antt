@@ -16,13 +16,14 @@ use Rattle.model.specs.Lists.{isIn, without}
 use Rattle.model.specs.Intern.{recall, remember}
 use Rattle.model.specs.Intern as intern
 use Rattle.laws.proofs.Apart.{none-some, some-none}
-use Rattle.laws.proofs.Members.{In, Every, isIn-true, in-one, without-cases}
+use Rattle.laws.specs.Members.{In, Every, Once}
+use Rattle.laws.proofs.Members.{isIn-true, in-one, without-cases}
 use Rattle.tables.specs.declared.Tables.{Tables}
 use Rattle.tables.specs.Tables.{Open}
-use Rattle.memo.specs.Memo.{memoOf, remembered}
+use Rattle.memo.specs.Memo.{memoOf, remembered, keysIn, MemoBelow}
 use Rattle.memo.proofs.Laws.{memo-remembered}
 use Rattle.interner.specs.declared.State.{State}
-use Rattle.interner.specs.State.{absOf, MemoBelow, keysIn, Once, Rep}
+use Rattle.interner.specs.State.{absOf, Rep}
 use Rattle.interner.specs.Step.{Leaves, withPair}
 use Rattle.interner.proofs.Same.{Same, abs-same, rep-same}
 

@@ -22,6 +22,7 @@ use Rattle.key.specs.declared.Symbol.{Symbol}
 use Rattle.key.specs.Key.{symbolAt}
 use Rattle.symbols.specs.Words.{pendingFrom}
 use Rattle.symbols.specs.Symbols.{symsOf, symOf, recOf, nodeOf, made, Room}
+use Rattle.symbols.specs.Sourced.{Sourced, AllSourced}
 use Rattle.symbols.proofs.Laws.{syms-length, made-length, made-before, made-between, made-after, made-symbol, syms-made}
 use Rattle.symbols.proofs.Laws.{made-kids, sound-made}
 use Rattle.symbols.proofs.Words.{words-length}
@@ -33,11 +34,11 @@ use Rattle.scopes.proofs.Laws.{scopes-length}
 use Rattle.scopes.proofs.Climb as climb
 use Rattle.scopes.proofs.Open as scopes
 use Rattle.scopes.proofs.Tracks.{Below, outward-below}
-use Rattle.memo.specs.Memo.{memoOf}
+use Rattle.memo.specs.Memo.{memoOf, MemoBelow}
 use Rattle.memo.proofs.Laws as memo
 use Rattle.interner.specs.declared.State.{State}
 use Rattle.interner.specs.Levels.{depsAt, Levelled, ArgLevels}
-use Rattle.interner.specs.State.{absOf, MemoBelow, Sourced, Rep}
+use Rattle.interner.specs.State.{absOf, Rep}
 use Rattle.interner.specs.Step.{Fresh, Stored, Levels, Pushed, newDeps, withSymbol}
 use Rattle.interner.proofs.Tracks.{climb-low}
 use Rattle.interner.proofs.Same.{Same, symbol-same, rep-same}
@@ -170,7 +171,7 @@ module _ (bs ws : List ℕ) (st : State) (cur : ℕ) (node : Node) (held count l
     sourced-new : Sourced bs (symbolAt ws₁ (st .symbols) .node) (symbolAt ws₁ (st .symbols) .count)
     sourced-new = rw (made-symbol ws (st .symbols) held y room) (fresh .sourced)
 
-    sourced-pushed : (s : ℕ) → s < st .symbols + 1 → Sourced bs (symbolAt ws₁ s .node) (symbolAt ws₁ s .count)
+    sourced-pushed : AllSourced bs ws₁ (st .symbols + 1)
     sourced-pushed s lt =
         let le : s ≤ st .symbols = omega arith in
         ⊎-elim (λ e. rw e sourced-new) (λ l. old .sourced s l) (eq-or-lt-of-le le)

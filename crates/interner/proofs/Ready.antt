@@ -13,7 +13,8 @@ use lib.Dec.{eqb}
 use lib.ListN.{getD}
 use Rattle.model.specs.Lists.{without}
 use Rattle.model.specs.Intern.{Sym, symAt, scopeAt, unionDeps}
-use Rattle.laws.proofs.Members.{In, without-cases}
+use Rattle.laws.specs.Members.{In}
+use Rattle.laws.proofs.Members.{without-cases}
 use Rattle.key.specs.declared.Node.{Node}
 use Rattle.key.specs.declared.Node.the-variants.{Const, Unparsed, Arg, Lambda, Op}
 use Rattle.key.specs.declared.Parts.{Parts}

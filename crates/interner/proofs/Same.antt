@@ -7,11 +7,12 @@ use mathlib.Core.List.{List}
 use native.Mathlib.Omega.{arith}
 use lib.ListN.{length}
 use Rattle.model.specs.Intern.{Sym, symAt}
-use Rattle.laws.proofs.Members.{In}
+use Rattle.laws.specs.Members.{In}
 use Rattle.key.specs.Key.{symbolAt}
 use Rattle.laws.specs.Frame.{Agree}
 use Rattle.key.proofs.Laws.{symbol-agree}
 use Rattle.symbols.specs.Symbols.{symsOf}
+use Rattle.symbols.specs.Sourced.{AllSourced}
 use Rattle.symbols.proofs.Laws.{syms-agree, sound-agree}
 use Rattle.tables.specs.declared.Tables.{Tables}
 use Rattle.tables.specs.Tables.{Open}
@@ -22,7 +23,7 @@ use Rattle.memo.specs.Memo.{memoOf}
 use Rattle.memo.proofs.Laws as memo
 use Rattle.interner.specs.declared.State.{State}
 use Rattle.interner.specs.Levels.{depsAt, Levelled, AtLevel, ArgLevels}
-use Rattle.interner.specs.State.{absOf, Sourced, Rep}
+use Rattle.interner.specs.State.{absOf, Rep}
 use Rattle.interner.proofs.Levels.{anyHas-same}
 
 -- ---- words kept: those that are in use
@@ -72,7 +73,7 @@ module _ (bs ws ws′ : List ℕ) (st : State) (rep : Rep bs ws st) (same : Same
       let h : AtLevel ws (st .symbols) (levelOf (scopeWord ws c)) x = rep .arguments c lt xs (rw w at e) x i in
       record { low = h .low; one = λ j. rw (w, symbol-same x (h .low)) (h .one j) }
 
-  sourced-same : (s : ℕ) → s < st .symbols → Sourced bs (symbolAt ws′ s .node) (symbolAt ws′ s .count)
+  sourced-same : AllSourced bs ws′ (st .symbols)
   sourced-same s lt = rw (symbol-same s lt) (rep .sourced s lt)
 
   memos-same : memoOf ws′ (st .memo) ≡ memoOf ws (st .memo)

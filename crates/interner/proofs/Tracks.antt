@@ -12,7 +12,8 @@ use borrow.Author.Tests.{eq-eqb, ne-eqb}
 use Rattle.model.specs.Lists.{isIn, anyIn}
 use Rattle.model.specs.Intern.{Scope, scopeAt, climb}
 use Rattle.laws.proofs.Apart.{false-true}
-use Rattle.laws.proofs.Members.{In, isIn-true, anyIn-false}
+use Rattle.laws.specs.Members.{In}
+use Rattle.laws.proofs.Members.{isIn-true, anyIn-false}
 use Rattle.key.specs.Key.{symbolAt}
 use Rattle.levels.specs.Levels.{has}
 use Rattle.scopes.specs.Scopes.{scopeWord, parentOf, levelOf, argsIn, scopesOf, ownLevel, Nested}

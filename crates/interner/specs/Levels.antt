@@ -12,7 +12,7 @@ use mathlib.Core.Option.{some}
 use mathlib.Core.List.{List, [], _∷_}
 use lib.Dec.{eqb}
 use Rattle.model.specs.Intern.{Scope, scopeAt, symAt}
-use Rattle.laws.proofs.Members.{In, Every}
+use Rattle.laws.specs.Members.{In, Every}
 use Rattle.key.specs.Key.{symbolAt}
 use Rattle.symbols.specs.Symbols.{symsOf}
 use Rattle.levels.specs.Levels.{has}

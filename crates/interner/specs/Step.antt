@@ -13,7 +13,7 @@ use Rattle.model.specs.Forest.{recordCount}
 use Rattle.model.specs.Intern.{Out, Outs, unionDeps, push, alloc, finish, allocArgs, symAt, operation}
 use Rattle.model.specs.Intern as intern
 use Rattle.model.specs.Tree.{Rec, rec}
-use Rattle.laws.proofs.Members.{Every}
+use Rattle.laws.specs.Members.{Every}
 use Rattle.record.specs.Record.{rowAt}
 use Rattle.laws.specs.Frame.{Agree}
 use Rattle.key.specs.declared.Node.{Node}
@@ -29,7 +29,8 @@ use Rattle.scopes.specs.Scopes.{scopesOf, scopeWord, parentOf, levelOf, argsIn,
 use Rattle.interner.specs.declared.State.{State}
 use Rattle.interner.specs.declared.Step.{Step}
 use Rattle.interner.specs.Levels.{anyHas, AtLevel, InForce}
-use Rattle.interner.specs.State.{absOf, Sourced, Rep}
+use Rattle.symbols.specs.Sourced.{Sourced}
+use Rattle.interner.specs.State.{absOf, Rep}
 
 -- ---- answers
 

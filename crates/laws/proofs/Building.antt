@@ -27,7 +27,7 @@ use Rattle.laws.proofs.Down.{down-step, under-low}
 use Rattle.laws.proofs.Members.{and-both}
 use Rattle.laws.proofs.ArgLists.{ArgList}
 use Rattle.laws.proofs.Falls.{Under, under-at, schedule-low}
-use Rattle.laws.proofs.Once.{Once}
+use Rattle.laws.specs.Members.{Once}
 use Rattle.laws.proofs.Symbols.{every-sym}
 use Rattle.laws.proofs.Defining.{defs-member, defs-other, along, process-is, members-fixed}
 use Rattle.laws.proofs.Blocks.{NoRenames, BuildsValues, defs-no-renames, wrap-none, wrap-rows}

@@ -17,8 +17,7 @@ use Rattle.model.specs.Gate.{Graph}
 use Rattle.model.specs.Schedule.{schedule}
 use Rattle.model.specs.Materialize.{Builder, valDefOf, wrapBlock, idGiven, member, define, processScope}
 use Rattle.laws.specs.Defining.{joinT, defsOf, idsFrom, membersIn}
-use Rattle.laws.proofs.Members.{In}
-use Rattle.laws.proofs.Once.{Once}
+use Rattle.laws.specs.Members.{In, Once}
 use Rattle.laws.proofs.Trees.{join-nil, join-snoc}
 
 -- ---- one symbol of the order

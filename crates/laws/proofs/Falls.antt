@@ -16,7 +16,7 @@ use Rattle.model.specs.Schedule.{isArg, relOf, visit, bodyOnly, bodyNeighbours,
 use Rattle.model.specs.Schedule.{schedule}
 use Rattle.laws.proofs.Induction.{strong}
 use Rattle.laws.proofs.Down.{down-step}
-use Rattle.laws.proofs.Members.{Every}
+use Rattle.laws.specs.Members.{Every}
 use Rattle.laws.proofs.Walks.{under-holds, every-none, every-if, every-rel, visit-every, body-every}
 use Rattle.laws.proofs.Walks.{collect-every, order-every}
 

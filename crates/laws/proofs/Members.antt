@@ -1,6 +1,6 @@
--- What the tests on lists of numbers say: `In`, the proposition behind `isIn`, and the laws of lists used as sets.
+-- What the tests on lists of numbers say: `In` is the proposition behind `isIn`; the laws of lists used as sets.
 --
--- In order: `&&` and `||`; `In` and `isIn`, and `Every`; `_++_`; `add`; `union`; `without`; `anyIn`; equal lists and
+-- In order: `&&` and `||`; `In` and `isIn`; `_++_`; `add`; `union`; `without`; `anyIn`; equal lists and
 -- records (`same`, `sameRec`). Every later file speaks of members by `In`; a test is turned into a fact here and
 -- nowhere else.
 --
@@ -15,6 +15,7 @@ use lib.Dec.{eqb}
 use borrow.Author.Tests.{eqb-true, eq-eqb}
 use Rattle.model.specs.Lists.{isIn, add, union, without, same, anyIn}
 use Rattle.model.specs.Tree.{Rec, sameRec}
+use Rattle.laws.specs.Members.{In}
 use Rattle.laws.proofs.Apart.{false-true}
 
 -- ---- `&&` and `||`
@@ -40,10 +41,6 @@ pub clash : (b : Bool) → b ≡ true → b ≡ false → ⊥
 clash b e f = true≢false (sym e ∙ f)
 
 -- ---- members
-
-abbrev pub In : ℕ → List ℕ → Type 0
-In a [] = ⊥
-In a (x ∷ xs) = (a ≡ x) ⊎ In a xs
 
 pub isIn-true : (a : ℕ) (xs : List ℕ) → isIn a xs ≡ true → In a xs
 unfolding isIn
@@ -81,10 +78,6 @@ not-in-isIn a xs h = go (isIn a xs) refl
 pub in-one : {a x : ℕ} → In a (x ∷ []) → a ≡ x
 in-one (inl e) = e
 in-one (inr h) = absurd h
-
--- each member has a property
-abbrev pub Every : (ℕ → Type 0) → List ℕ → Type 0
-Every P xs = (s : ℕ) → In s xs → P s
 
 -- ---- members of two lists joined
 

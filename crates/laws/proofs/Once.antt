@@ -1,6 +1,6 @@
 -- Lists that hold each number once: what is reached from a root does, and so do lists used as sets.
 --
--- In order: `Once`; one more at the end; `add` and `union`; `reach`; how often a number can be in a list
+-- In order: one more at the end; `add` and `union`; `reach`; how often a number can be in a list
 -- (`count-short`).
 -- Assumes nothing.
 use mathlib.Core.Path.{_≡_, refl, sym}
@@ -14,11 +14,8 @@ use lib.ListN.{length}
 use Rattle.model.specs.Lists.{isIn, count, add, union}
 use Rattle.model.specs.Intern.{Sym, symAt}
 use Rattle.model.specs.Gate.{reach}
-use Rattle.laws.proofs.Members.{In, isIn-false, in-either}
-
-abbrev pub Once : List ℕ → Type 0
-Once [] = Unit {0}
-Once (x ∷ xs) = (In x xs → ⊥) × Once xs
+use Rattle.laws.specs.Members.{In, Once}
+use Rattle.laws.proofs.Members.{isIn-false, in-either}
 
 pub snoc-once : (xs : List ℕ) (y : ℕ) → Once xs → (In y xs → ⊥) → Once (xs ++ (y ∷ []))
 snoc-once [] y h new = (λ i. i, tt)

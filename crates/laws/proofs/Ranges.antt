@@ -10,7 +10,7 @@ use lib.Dec.{eqb}
 use lib.ListN.{length, getD}
 use borrow.Author.Tests.{eqb-true, eqb-false}
 use Rattle.laws.specs.Range.{range}
-use Rattle.laws.proofs.Members.{In}
+use Rattle.laws.specs.Members.{In}
 
 pub range-length : (first n : ℕ) → length (range first n) ≡ n
 unfolding range

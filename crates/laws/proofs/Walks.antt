@@ -18,7 +18,8 @@ use Rattle.model.specs.Schedule.{isArg, Rel, local, deeper, outside, isOutside,
 use Rattle.model.specs.Schedule.{localDepOrder, bodyOnly, outsiders, collect}
 use Rattle.laws.proofs.Induction.{strong}
 use Rattle.laws.proofs.Down.{down-step}
-use Rattle.laws.proofs.Members.{In, Every, in-either, add-cases}
+use Rattle.laws.specs.Members.{In, Every}
+use Rattle.laws.proofs.Members.{in-either, add-cases}
 
 -- what holds of f below n, and of z, holds of `under`
 pub under-holds : {A : Type 0} (Q : A → Type 0) (z : A) (n : ℕ) (f : ℕ → A) (d : ℕ) →

@@ -1,4 +1,5 @@
 -- Notions that several crates share and document 01 has no word for. Assumes nothing.
+pub mod Members
 pub mod Range
 pub mod Slots
 pub mod Rows

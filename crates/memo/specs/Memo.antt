@@ -1,5 +1,5 @@
 -- Projections remembered in words, one to a pair, from word 7,688 on. Assumes nothing.
-use Prim.Native.Nat.{ℕ, zero, suc, _+_, _*_, _/_, _%_}
+use Prim.Native.Nat.{ℕ, zero, suc, _+_, _*_, _/_, _%_, _<_}
 use mathlib.Core.Option.{Option, none, some}
 use mathlib.Core.List.{List, [], _∷_}
 use lib.ListN.{getD, set}
@@ -20,6 +20,16 @@ memoOf ws (suc n) = tripleAt ws n ∷ memoOf ws n
 
 abbrev pub remembered : List ℕ → ℕ → ℕ → ℕ → ℕ → List ℕ
 remembered ws n p a b = set ws (7688 + n) (p + 512 * a + 262144 * b)
+
+-- the symbols whose projections are remembered
+abbrev pub keysIn : List (ℕ × ℕ × ℕ) → List ℕ
+keysIn [] = []
+keysIn (t ∷ ts) = t .0 ∷ keysIn ts
+
+-- what is remembered are symbols below n
+abbrev pub MemoBelow : ℕ → List (ℕ × ℕ × ℕ) → Type 0
+MemoBelow n [] = Unit {0}
+MemoBelow n (t ∷ ts) = ((t .0 < n) × (t .1 < n) × (t .2 < n)) × MemoBelow n ts
 
 abbrev pub projectionsOf : Projections → Option (ℕ × ℕ)
 projectionsOf (Pair a b) = some (a, b)

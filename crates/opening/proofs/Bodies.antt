@@ -8,7 +8,7 @@ use native.Mathlib.Omega.{arith}
 use native.Mathlib.Numerals.{add-one}
 use Rattle.model.specs.Intern.{openScope}
 use Rattle.laws.specs.Range.{range}
-use Rattle.laws.proofs.Members.{Every}
+use Rattle.laws.specs.Members.{Every}
 use Rattle.tables.specs.declared.Tables.{Tables}
 use Rattle.tables.specs.Tables.{Open}
 use Rattle.tables.proofs.Stack.{tables-agree}

@@ -12,7 +12,7 @@ use lib.ListN.{length, getD, set, length-set}
 use lib.Seq.{getD-set-same, getD-set-other}
 use Rattle.model.specs.Intern.{Scope, openScope}
 use Rattle.model.specs.Intern as intern
-use Rattle.laws.proofs.Members.{Every}
+use Rattle.laws.specs.Members.{Every}
 use Rattle.tables.specs.declared.Tables.{Tables}
 use Rattle.tables.specs.Tables.{tablesOf, Open}
 use Rattle.scopes.specs.Scopes.{scopeWord, levelOf, argsIn, scopesOf, outward, Nested}

@@ -13,9 +13,10 @@ use lib.ListN.{length, getD, set, take, drop, length-append, drop-of-length-le}
 use lib.Seq.{length-take-le, take-suc-set, getD-take, drop-cons}
 use Rattle.model.specs.Lists.{isIn}
 use Rattle.model.specs.Gate.{Graph}
-use Rattle.laws.proofs.Members.{In, Every, isIn-false, in-one}
+use Rattle.laws.specs.Members.{In, Every, Once}
+use Rattle.laws.proofs.Members.{isIn-false, in-one}
 use Rattle.laws.proofs.Walks.{every-join}
-use Rattle.laws.proofs.Once.{Once, snoc-once}
+use Rattle.laws.proofs.Once.{snoc-once}
 use Rattle.laws.proofs.Short.{once-short}
 use Rattle.graph.specs.Graph.{graphOf}
 use Rattle.outsiders.specs.Outsiders.{Held, Listed}

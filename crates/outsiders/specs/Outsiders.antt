@@ -7,8 +7,7 @@ use mathlib.Core.List.{List}
 use lib.ListN.{length, getD, take}
 use Rattle.model.specs.Gate.{Graph}
 use Rattle.model.specs.Schedule.{outsiders}
-use Rattle.laws.proofs.Members.{Every}
-use Rattle.laws.proofs.Once.{Once}
+use Rattle.laws.specs.Members.{Every, Once}
 use Rattle.graph.specs.Graph.{graphOf}
 
 -- the first k of a list are below n, and so are k words from `at` on

@@ -14,7 +14,7 @@ use Rattle.model.specs.Intern.{Sym, func}
 use Rattle.model.specs.Intern as intern
 use Rattle.model.specs.Gate.{Graph, symOf}
 use Rattle.model.specs.Schedule.{isArg, schedule}
-use Rattle.laws.proofs.Once.{Once}
+use Rattle.laws.specs.Members.{Once}
 use Rattle.laws.proofs.Apart.{false-true}
 use Rattle.laws.proofs.ArgLists.{ArgList}
 use Rattle.laws.proofs.Falls.{Under}
@@ -28,7 +28,7 @@ use Rattle.symbols.specs.Symbols as words
 use Rattle.symbols.proofs.Laws.{syms-length}
 use Rattle.symbols.proofs.Words.{words-length}
 use Rattle.graph.proofs.Laws as graph
-use Rattle.interner.specs.State.{Sourced}
+use Rattle.symbols.specs.Sourced.{Sourced}
 use Rattle.planner.specs.Building.{NoUse, Buildable, Stands}
 use Rattle.planner.proofs.Membership.{graph-is, sym-is}
 

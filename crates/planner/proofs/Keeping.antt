@@ -16,7 +16,7 @@ use Rattle.symbols.specs.Symbols.{kidsAt}
 use Rattle.symbols.proofs.Words.{words-agree}
 use Rattle.symbols.proofs.Laws.{syms-agree, sounds-agree}
 use Rattle.scopes.proofs.Open.{scopes-kept, nested-kept}
-use Rattle.interner.specs.State.{Sourced}
+use Rattle.symbols.specs.Sourced.{Sourced}
 use Rattle.graph.specs.Graph.{Arena}
 use Rattle.planner.specs.Grew.{Kept}
 use Rattle.planner.specs.Building.{Opens, NoUse, Buildable, Stands}

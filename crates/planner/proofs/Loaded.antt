@@ -25,7 +25,7 @@ use Rattle.key.specs.declared.Node.{Node}
 use Rattle.key.specs.declared.Node.the-variants.{Const, Unparsed, Arg, Lambda, Op}
 use Rattle.key.specs.Key.{partsOf, partsIn, choose, symbolAt}
 use Rattle.symbols.specs.Symbols.{keyRec, recOf, nodeOf}
-use Rattle.interner.specs.State.{Sourced}
+use Rattle.symbols.specs.Sourced.{Sourced}
 use Rattle.plan.specs.declared.Planned.{Planned}
 use Rattle.plan.specs.declared.Planned.the-variants.{Copy, Field}
 use Rattle.plan.specs.Plan.{rowFor}

@@ -20,7 +20,7 @@ use Rattle.model.specs.Materialize.{idGiven, member}
 use Rattle.laws.specs.Defining.{membersIn}
 use Rattle.laws.specs.Range.{range}
 use Rattle.laws.proofs.Defining.{members-append, members-member, members-other}
-use Rattle.laws.proofs.Members.{In}
+use Rattle.laws.specs.Members.{In}
 use Rattle.laws.proofs.Ranges.{range-more, in-range}
 use Rattle.laws.proofs.Falls.{Under}
 use Rattle.key.specs.declared.Symbol.{Symbol}

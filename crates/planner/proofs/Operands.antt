@@ -14,7 +14,7 @@ use Rattle.model.specs.Tree.{Trees, cons}
 use Rattle.model.specs.Intern.{thunked, Env}
 use Rattle.model.specs.Gate.{Graph}
 use Rattle.model.specs.Materialize.{buildOp, buildValue}
-use Rattle.laws.proofs.Members.{In, Every}
+use Rattle.laws.specs.Members.{In, Every}
 use Rattle.laws.proofs.Apart.{false-true}
 use Rattle.laws.proofs.Building.{op-left, op-eager, op-thunk}
 use Rattle.key.specs.declared.Operation.{Operation}

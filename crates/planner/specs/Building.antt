@@ -24,7 +24,7 @@ use Rattle.key.specs.declared.Node.the-variants.{Const, Unparsed, Arg, Lambda, 
 use Rattle.key.specs.Key.{symbolAt}
 use Rattle.symbols.specs.Symbols.{symsOf, recOf}
 use Rattle.scopes.specs.Scopes.{scopesOf}
-use Rattle.interner.specs.State.{Sourced}
+use Rattle.symbols.specs.Sourced.{AllSourced}
 use Rattle.gate.specs.Gate.{usesAt}
 use Rattle.graph.specs.declared.Graph.{Graph}
 use Rattle.graph.specs.Graph.{Arena}
@@ -65,7 +65,7 @@ NoUse bs (Op o) = recOf bs (Op o) .shape ≡ 7 → ⊥
 
 pub record Buildable (bs ws : List ℕ) (n m : ℕ) : Type 0 where
   pub arena : Arena bs ws n m
-  pub sourced : (s : ℕ) → s < n → Sourced bs (symbolAt ws s .node) (symbolAt ws s .count)
+  pub sourced : AllSourced bs ws n
   pub opens : (s : ℕ) → s < n → Opens bs m s (symbolAt ws s .node)
   pub no-use : (s : ℕ) → s < n → NoUse bs (symbolAt ws s .node)
 

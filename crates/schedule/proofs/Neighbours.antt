@@ -10,7 +10,7 @@ use Rattle.model.specs.Lists.{isIn}
 use Rattle.model.specs.Gate.{Graph, symOf}
 use Rattle.model.specs.Schedule.{isArg, Rel, local, deeper, outside, isOutside, relOf, each, visit, bodyOnly}
 use Rattle.model.specs.Schedule.{bodyNeighbours, freeVars, neighbours}
-use Rattle.laws.proofs.Members.{In}
+use Rattle.laws.specs.Members.{In}
 use Rattle.laws.proofs.Walks.{every-none, every-if, every-rel}
 use Rattle.laws.proofs.Falls.{Under, body-falls, free-falls, neighbours-fall}
 use Rattle.laws.proofs.Short.{visit-adds}

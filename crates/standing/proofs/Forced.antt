@@ -14,7 +14,7 @@ use lib.Seq.{getD-append-seam}
 use borrow.Author.Tests.{ltb-true, ltb-false}
 use Rattle.model.specs.Intern.{Scope, State, rootScope, scopeAt, unionDeps, openScope}
 use Rattle.laws.proofs.Apart.{none-some}
-use Rattle.laws.proofs.Members.{In, Every}
+use Rattle.laws.specs.Members.{In, Every}
 use Rattle.interner.specs.Levels.{Bound, InForce}
 use Rattle.theory.proofs.Interning.Good.{scopeCount}
 use Rattle.theory.proofs.Interning.Inv.{Grow}

@@ -12,7 +12,7 @@ use native.Mathlib.Omega.{arith}
 use Rattle.model.specs.Tree.{Rec}
 use Rattle.model.specs.Intern.{Sym, Scope, State, Env, start, read, openThunk}
 use Rattle.laws.proofs.ArgLists.{boundBy}
-use Rattle.laws.proofs.Members.{In}
+use Rattle.laws.specs.Members.{In}
 use Rattle.interner.specs.Levels.{Bound}
 use Rattle.theory.proofs.Interning.Good.{symCount, scopeCount}
 use Rattle.theory.proofs.Interning.Inv.{HasArg, has-arg, arg-in, keys, EnvOk, env-later, Fits, fits-back}

@@ -10,7 +10,7 @@ use Prim.Native.Nat.{ℕ, _+_, _≤_, _<_}
 use lib.ListN.{length}
 use Rattle.model.specs.Tree.{Tree, Trees, many}
 use Rattle.model.specs.Intern.{Sym, Scope, State, Env, symAt}
-use Rattle.laws.proofs.Members.{In, Every}
+use Rattle.laws.specs.Members.{In, Every}
 use Rattle.interner.specs.Levels.{Bound, InForce}
 use Rattle.theory.proofs.Acceptance.Checked.{Checked, CheckedIn}
 use Rattle.theory.proofs.Interning.Good.{symCount, scopeCount}

@@ -20,7 +20,8 @@ use Rattle.model.specs.Tree.{Rec, rec}
 use Rattle.model.specs.Shape.{Shape, shapes, fits, agrees, Pairs, shapeOf, bothWays, oneWay, aByte, whole}
 use Rattle.model.specs.Binding.{Kind, kind, valUse, valDef, block, lambda, field, other}
 use Rattle.laws.proofs.Apart.{none-some, false-true}
-use Rattle.laws.proofs.Members.{In, clash, and-both, in-one}
+use Rattle.laws.specs.Members.{In}
+use Rattle.laws.proofs.Members.{clash, and-both, in-one}
 use Rattle.laws.proofs.ArgLists.{optsIn, boundBy, AllOpts, args-length, args-opts}
 use Rattle.theory.proofs.Acceptance.Checked.{FitsWith}
 

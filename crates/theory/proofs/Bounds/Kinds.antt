@@ -23,7 +23,8 @@ use Rattle.model.specs.Intern.{finish, bindArgs, withOpts, bindDef, openScope, 
 use Rattle.model.specs.Intern.{nodeOf, internLast, internGeneral, internField, internFunc, internKind}
 use Rattle.laws.proofs.Clear.{Clear}
 use Rattle.laws.proofs.Holds.{Holds, holds-bind, holds-map}
-use Rattle.laws.proofs.Members.{In, clash, isIn-true, Every}
+use Rattle.laws.specs.Members.{In, Every}
+use Rattle.laws.proofs.Members.{clash, isIn-true}
 use Rattle.laws.proofs.Falls.{Under}
 use Rattle.laws.proofs.ArgLists.{args-length, symsIn, optsIn, boundBy, withOpts-syms, withOpts-opts, withOpts-length}
 use Rattle.theory.proofs.Acceptance.Checked.{Fine}

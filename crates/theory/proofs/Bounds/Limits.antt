@@ -15,7 +15,7 @@ use Rattle.model.specs.Call.{interned}
 use Rattle.laws.specs.Slots.{slotsIn}
 use Rattle.laws.proofs.Apart.{good-inj, refused-good}
 use Rattle.laws.proofs.Holds.{Holds}
-use Rattle.laws.proofs.Members.{In}
+use Rattle.laws.specs.Members.{In}
 use Rattle.theory.proofs.Acceptance.Accept.{accepted}
 use Rattle.theory.proofs.Interning.Good.{symCount, scopeCount, kidsAt}
 use Rattle.theory.proofs.Bounds.Sound.{TreeHas, TreesHave, Sound, Room, room-less, KeepsAll}

@@ -15,7 +15,8 @@ use Rattle.model.specs.Tree.{Rec, Tree, Trees, node, nil, cons}
 use Rattle.model.specs.Intern.{Node, constant, unparsed, argument, func, operation, Sym, Scope, State, symAt, rootScope}
 use Rattle.model.specs.Intern.{recall, thunked}
 use Rattle.laws.specs.Slots.{slotsIn}
-use Rattle.laws.proofs.Members.{in-left, in-right, Every}
+use Rattle.laws.specs.Members.{Every}
+use Rattle.laws.proofs.Members.{in-left, in-right}
 use Rattle.laws.proofs.Falls.{Under}
 use Rattle.laws.proofs.ArgLists.{symsIn, optsIn}
 use Rattle.theory.proofs.Interning.Good.{argsIn, symCount, scopeCount}

@@ -20,7 +20,8 @@ use Rattle.model.specs.Intern.{placement, unionDeps, enter, push, alloc, lookup
 use Rattle.model.specs.Intern.{remember, pick, newProjections, pairProjection, thunked, read}
 use Rattle.laws.proofs.Slots.{slots-more}
 use Rattle.laws.proofs.Holds.{Holds, holds-guard, holds-bind, holds-map}
-use Rattle.laws.proofs.Members.{without-cases, Every}
+use Rattle.laws.specs.Members.{Every}
+use Rattle.laws.proofs.Members.{without-cases}
 use Rattle.laws.proofs.Falls.{Under}
 use Rattle.theory.proofs.Interning.Good.{argsIn, symCount, scopeCount}
 use Rattle.theory.proofs.Interning.Inv.{InAny, lt-or}

@@ -21,7 +21,7 @@ use Rattle.model.specs.Schedule.{schedule}
 use Rattle.model.specs.Materialize.{Builder, valUseOf, valDefOf, renames, onlyOf, wrapBlock, idGiven, member, define}
 use Rattle.model.specs.Materialize.{processScope, buildOp, argLit, argEnv, buildNode, buildStep, buildValue}
 use Rattle.laws.proofs.Apart.{none-some}
-use Rattle.laws.proofs.Members.{Every}
+use Rattle.laws.specs.Members.{Every}
 use Rattle.laws.proofs.Walks.{every-join}
 use Rattle.laws.proofs.ArgLists.{optsIn}
 use Rattle.laws.proofs.Trees.{sizes-snoc, def-size}

@@ -26,7 +26,8 @@ use Rattle.model.specs.Materialize.{buildStep, buildValue}
 use Rattle.laws.proofs.Apart.{none-some}
 use Rattle.laws.proofs.Induction.{strong}
 use Rattle.laws.proofs.Down.{down-step, under-low}
-use Rattle.laws.proofs.Members.{In, neither-or, apart-anyIn}
+use Rattle.laws.specs.Members.{In}
+use Rattle.laws.proofs.Members.{neither-or, apart-anyIn}
 use Rattle.laws.proofs.ArgLists.{ArgList, symsIn, optsIn}
 use Rattle.theory.proofs.Meaning.Mean.{Val, bindSyms, meanAll, mean}
 use Rattle.theory.proofs.Meaning.Coincide.{mean-lam, mean-plain}

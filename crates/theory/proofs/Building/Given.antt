@@ -21,7 +21,8 @@ use Rattle.model.specs.Unfold.{Unfolded, Meaning, meaning, bindFrom, unfoldAt}
 use Rattle.model.specs.Intern.{func, Sym, Scope, Env}
 use Rattle.model.specs.Materialize.{Builder, idGiven, argEnv}
 use Rattle.laws.proofs.Apart.{none-some}
-use Rattle.laws.proofs.Members.{In, clash, in-left, in-right, in-either}
+use Rattle.laws.specs.Members.{In}
+use Rattle.laws.proofs.Members.{clash, in-left, in-right, in-either}
 use Rattle.laws.proofs.ArgLists.{ArgList, symsIn}
 use Rattle.theory.proofs.Meaning.Mean.{Val, bindSyms, mean}
 use Rattle.theory.proofs.Meaning.Coincide.{mean-arg, coincide, bindSyms-other}

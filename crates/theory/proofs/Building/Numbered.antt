@@ -22,11 +22,11 @@ use Rattle.model.specs.Shape.{Reader, fits, agrees, shapes, shapeOf, bothWays, 
 use Rattle.model.specs.Binding.{argsOf}
 use Rattle.model.specs.Unfold.{arg, Meaning, meaning, bindFrom}
 use Rattle.model.specs.Materialize.{argLit}
-use Rattle.laws.proofs.Members.{In, not-in-isIn, neither-or, both-and}
+use Rattle.laws.specs.Members.{In, Once}
+use Rattle.laws.proofs.Members.{not-in-isIn, neither-or, both-and}
 use Rattle.laws.proofs.ArgLists.{ArgList, symsIn, optsIn, AllOpts, next-arg}
 use Rattle.theory.proofs.Meaning.Mean.{Val, bindSyms}
 use Rattle.theory.proofs.Acceptance.Checked.{FitsWith}
-use Rattle.laws.proofs.Once.{Once}
 use Rattle.theory.proofs.Building.Written.{read-id}
 
 -- ---- the numbered list

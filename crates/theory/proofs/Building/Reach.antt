@@ -16,7 +16,7 @@ use Rattle.model.specs.Schedule.{isArg, relOf, visit, localDepOrder, bodyOnly, 
 use Rattle.model.specs.Schedule.{neighbours, schedule}
 use Rattle.laws.proofs.Induction.{strong}
 use Rattle.laws.proofs.Down.{down-step}
-use Rattle.laws.proofs.Members.{In, Every}
+use Rattle.laws.specs.Members.{In, Every}
 use Rattle.laws.proofs.Walks.{under-holds, every-none, every-if, every-rel, visit-every, body-every, collect-every}
 use Rattle.laws.proofs.Walks.{order-every}
 use Rattle.laws.proofs.ArgLists.{ArgList, symsIn}

@@ -21,7 +21,8 @@ use Rattle.model.specs.Intern.{Node, constant, unparsed, argument, func, operat
 use Rattle.model.specs.Gate.{Graph, symOf, usage, shouldHoist}
 use Rattle.model.specs.Schedule.{isArg, schedule}
 use Rattle.model.specs.Materialize.{Builder, valDefOf, idGiven, member, define, processScope}
-use Rattle.laws.proofs.Members.{In, and-both, Every}
+use Rattle.laws.specs.Members.{In, Every}
+use Rattle.laws.proofs.Members.{and-both}
 use Rattle.laws.proofs.ArgLists.{ArgList}
 use Rattle.laws.proofs.Trees.{def-size}
 use Rattle.theory.proofs.Meaning.Mean.{Val}

@@ -20,7 +20,8 @@ use Rattle.model.specs.Unfold.{lam, made, Meaning, meaning, bindFrom, unfoldKin
 use Rattle.model.specs.Unfold.{unfoldLast}
 use Rattle.model.specs.Materialize.{valUseOf, valDefOf}
 use Rattle.laws.proofs.Apart.{false-true}
-use Rattle.laws.proofs.Members.{In, clash, in-isIn, not-in-isIn, neither-or}
+use Rattle.laws.specs.Members.{In}
+use Rattle.laws.proofs.Members.{clash, in-isIn, not-in-isIn, neither-or}
 use Rattle.laws.proofs.ArgLists.{symsIn, optsIn}
 use Rattle.theory.proofs.Acceptance.Checked.{FitsWith, Checked, CheckedIn, checked-head, checked-kids}
 use Rattle.theory.proofs.Acceptance.Checked.{plain-join, nil-checked}

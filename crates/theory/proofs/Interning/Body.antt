@@ -20,7 +20,8 @@ use Rattle.model.specs.Binding.{argIds}
 use Rattle.model.specs.Unfold.{Unfolded, Unfoldeds, Meaning, bindFrom, unfoldAll}
 use Rattle.model.specs.Intern.{func, Sym, Scope, State, Env, Kids, resolve, openScope, finish, allocArgs, internFunc}
 use Rattle.laws.proofs.Holds.{Holds, holds-bind, holds-map}
-use Rattle.laws.proofs.Members.{In, clash}
+use Rattle.laws.specs.Members.{In}
+use Rattle.laws.proofs.Members.{clash}
 use Rattle.laws.proofs.ArgLists.{symsIn, optsIn, boundBy, withOpts-syms}
 use Rattle.theory.proofs.Meaning.Mean.{Val, bindSyms, meanAll, mean}
 use Rattle.theory.proofs.Meaning.Coincide.{coincide, bindSyms-other}

@@ -21,7 +21,8 @@ use Rattle.model.specs.Binding.{kind}
 use Rattle.model.specs.Intern.{operation, Sym, Scope, State, Env, Kids, finish, recall, remember, pick, newProjections}
 use Rattle.model.specs.Intern.{pairProjection, internGeneral, internField}
 use Rattle.laws.proofs.Holds.{Holds, holds-bind, holds-map}
-use Rattle.laws.proofs.Members.{In, in-one}
+use Rattle.laws.specs.Members.{In}
+use Rattle.laws.proofs.Members.{in-one}
 use Rattle.theory.proofs.Acceptance.Records.{field-fits}
 use Rattle.theory.proofs.Interning.Good.{plain-of, depsAt, recAt, symCount, PairsOk, Plain, SymOk}
 use Rattle.theory.proofs.Interning.Inv.{Args, argSyms, FieldOk, Inv, env-later, grow-none, grow-same}

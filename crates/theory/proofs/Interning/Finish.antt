@@ -22,7 +22,8 @@ use Rattle.model.specs.Intern.{Node, constant, unparsed, argument, func, operat
 use Rattle.model.specs.Intern.{lookupIn, lookup, unionDeps, push, alloc, finish}
 use Rattle.laws.proofs.Apart.{none-some}
 use Rattle.laws.proofs.Holds.{Holds, holds-guard}
-use Rattle.laws.proofs.Members.{In, and-both, same-true, sameRec-true, without-keeps, without-cases}
+use Rattle.laws.specs.Members.{In}
+use Rattle.laws.proofs.Members.{and-both, same-true, sameRec-true, without-keeps, without-cases}
 use Rattle.theory.proofs.Interning.Good.{recAt, kidsAt, depsAt, nodeAt, symCount, isPlain, noArg, PairsOk, Plain}
 use Rattle.theory.proofs.Interning.Good.{NodeOk, SymOk, plain-of}
 use Rattle.theory.proofs.Interning.Inv.{Args, argSyms, InAny, Inv, Fits, Grow, grow-none, grow-then, fits-back}

@@ -20,11 +20,10 @@ use Rattle.model.specs.Intern.{argument, func, Sym, Scope, State, Env, push, al
 use Rattle.model.specs.Intern.{resolve}
 use Rattle.laws.proofs.Apart.{false-true}
 use Rattle.laws.proofs.Holds.{Holds, holds-bind, holds-guard}
-use Rattle.laws.proofs.Members.{In}
+use Rattle.laws.specs.Members.{In, Once}
 use Rattle.laws.proofs.ArgLists.{ArgList, symsIn}
 use Rattle.theory.proofs.Meaning.Mean.{Val, bindSyms, mean}
 use Rattle.theory.proofs.Meaning.Coincide.{mean-arg}
-use Rattle.laws.proofs.Once.{Once}
 use Rattle.theory.proofs.Interning.Good.{depsAt, nodeAt, symCount, scopeCount, SymOk}
 use Rattle.theory.proofs.Interning.Inv.{Args, HasArg, argSyms, keys, LamApart, Inv, EnvOk, lt-or, grow-none}
 use Rattle.theory.proofs.Interning.Inv.{grow-then, Fits, fits-back}

@@ -19,8 +19,8 @@ use Rattle.model.specs.Binding.{Kind, kind, valUse, valDef, block, lambda, fiel
 use Rattle.model.specs.Intern.{Node, constant, unparsed, argument, func, operation, Sym, symAt, Scope, rootScope, State}
 use Rattle.model.specs.Intern.{thunked}
 use Rattle.laws.proofs.Apart.{false-true}
-use Rattle.laws.proofs.Members.{In, clash}
-use Rattle.laws.proofs.Once.{Once}
+use Rattle.laws.specs.Members.{In, Once}
+use Rattle.laws.proofs.Members.{clash}
 use Rattle.laws.proofs.ArgLists.{ArgList, symsIn, optsIn, boundBy, AllOpts}
 
 -- ---- the parts of a symbol, by its number

@@ -19,7 +19,7 @@ use Rattle.model.specs.Unfold.{unfoldAt, unfoldAll}
 use Rattle.model.specs.Intern.{Sym, Scope, State, Outs, rootScope, start, recall, internForest, internLast}
 use Rattle.model.specs.Call.{interned}
 use Rattle.laws.proofs.Holds.{Holds, holds-map}
-use Rattle.laws.proofs.Members.{In}
+use Rattle.laws.specs.Members.{In}
 use Rattle.theory.proofs.Meaning.Mean.{Val, meanAll, mean}
 use Rattle.theory.proofs.Acceptance.Checked.{CheckedIn}
 use Rattle.theory.proofs.Acceptance.Accept.{accepted}

@@ -21,7 +21,8 @@ use Rattle.model.specs.Tree.{rec}
 use Rattle.model.specs.Binding.{argIds}
 use Rattle.model.specs.Intern.{func, Sym, Scope, State, Env, symAt, rootScope, climb, dropFirst, recall, resolve}
 use Rattle.laws.proofs.Induction.{strong}
-use Rattle.laws.proofs.Members.{In, anyIn-false}
+use Rattle.laws.specs.Members.{In}
+use Rattle.laws.proofs.Members.{anyIn-false}
 use Rattle.laws.proofs.ArgLists.{ArgList, symsIn}
 use Rattle.theory.proofs.Interning.Good.{recAt, kidsAt, depsAt, scopeAt, nodeAt, symCount, scopeCount, noArg}
 use Rattle.theory.proofs.Interning.Good.{argsAt, aroundAt, out, Goods}

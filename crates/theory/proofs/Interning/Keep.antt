@@ -23,7 +23,7 @@ use Rattle.model.specs.Unfold.{Unfolded, made, Meaning, unfoldAll, unfoldLast, 
 use Rattle.model.specs.Intern.{Node, constant, unparsed, operation, Sym, Scope, State, Env, Outs, Kids, finish, nodeOf}
 use Rattle.model.specs.Intern.{internLast, internGeneral}
 use Rattle.laws.proofs.Holds.{Holds, holds-bind, holds-map}
-use Rattle.laws.proofs.Members.{In}
+use Rattle.laws.specs.Members.{In}
 use Rattle.theory.proofs.Meaning.Mean.{Val, meanAll, mean}
 use Rattle.theory.proofs.Meaning.Coincide.{mean-plain}
 use Rattle.theory.proofs.Acceptance.Checked.{CheckedIn}

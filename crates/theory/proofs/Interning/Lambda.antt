@@ -26,7 +26,8 @@ use Rattle.model.specs.Unfold.{Unfolded, Unfoldeds, lam, more, done}
 use Rattle.model.specs.Intern.{Node, constant, unparsed, argument, func, operation, Sym, Scope, State, symAt, rootScope}
 use Rattle.model.specs.Intern.{lookup, unionDeps, push, placement, alloc, finish, bindArgs, withOpts}
 use Rattle.laws.proofs.Holds.{Holds, holds-guard}
-use Rattle.laws.proofs.Members.{In, clash, without-keeps, without-cases, in-or-not, in-one}
+use Rattle.laws.specs.Members.{In}
+use Rattle.laws.proofs.Members.{clash, without-keeps, without-cases, in-or-not, in-one}
 use Rattle.laws.proofs.ArgLists.{symsIn, optsIn, boundBy, withOpts-syms, withOpts-opts, withOpts-length}
 use Rattle.theory.proofs.Meaning.Mean.{Val, bindSyms, meanAll, mean}
 use Rattle.theory.proofs.Meaning.Coincide.{mean-lam, coincide, bindSyms-other, AgreeOn}

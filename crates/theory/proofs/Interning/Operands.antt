@@ -21,7 +21,8 @@ use Rattle.model.specs.Unfold.{more, unfoldAt, unfoldItem, unfoldLast}
 use Rattle.model.specs.Intern.{Sym, Scope, State, Env, Out, resolve, openThunk, closeThunk, dropFirst, thunked, branch}
 use Rattle.model.specs.Intern.{rootScope, bindDef, internScoped}
 use Rattle.laws.proofs.Holds.{Holds, holds-bind, holds-map}
-use Rattle.laws.proofs.Members.{In, clash}
+use Rattle.laws.specs.Members.{In}
+use Rattle.laws.proofs.Members.{clash}
 use Rattle.theory.proofs.Meaning.Mean.{meanAll}
 use Rattle.theory.proofs.Acceptance.Checked.{Checked, CheckedIn, checked-head, checked-place}
 use Rattle.theory.proofs.Interning.Good.{PairOk, PairsOk, out, depsAt, scopeCount, symCount}

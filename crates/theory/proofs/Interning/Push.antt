@@ -14,7 +14,8 @@ use lib.ListN.{length, length-append, List·getD-append}
 use lib.Seq.{getD-append-seam}
 use Rattle.model.specs.Tree.{Rec}
 use Rattle.model.specs.Intern.{Node, func, Sym, Scope, State, symAt, noSym, climb, placement, unionDeps, enter, push}
-use Rattle.laws.proofs.Members.{In, union-left, union-right, union-cases}
+use Rattle.laws.specs.Members.{In}
+use Rattle.laws.proofs.Members.{union-left, union-right, union-cases}
 use Rattle.laws.proofs.ArgLists.{ArgList}
 use Rattle.theory.proofs.Interning.Good.{recAt, kidsAt, depsAt, scopeAt, nodeAt, symCount, scopeCount, noArg}
 use Rattle.theory.proofs.Interning.Good.{argsAt, out, SymOk}

@@ -25,7 +25,8 @@ use Rattle.model.specs.Answer.{good}
 use Rattle.model.specs.Tree.{Trees}
 use Rattle.model.specs.Intern.{State, Env, resolve, internAll}
 use Rattle.laws.proofs.Holds.{holds-good}
-use Rattle.laws.proofs.Members.{In, in-or-not}
+use Rattle.laws.specs.Members.{In}
+use Rattle.laws.proofs.Members.{in-or-not}
 use Rattle.theory.proofs.Interning.Good.{symCount}
 use Rattle.theory.proofs.Interning.Inv.{keys}
 use Rattle.theory.proofs.Bounds.Sound.{Sound}

@@ -15,7 +15,7 @@ use lib.ListN.{length, getD, List·getD-append}
 use lib.Seq.{getD-append-seam}
 use Rattle.model.specs.Binding.{argIds}
 use Rattle.model.specs.Intern.{func, Sym, Scope, State, rootScope, openScope}
-use Rattle.laws.proofs.Members.{In}
+use Rattle.laws.specs.Members.{In}
 use Rattle.laws.proofs.ArgLists.{ArgList, symsIn}
 use Rattle.theory.proofs.Interning.Good.{recAt, kidsAt, depsAt, scopeAt, nodeAt, symCount, scopeCount, noArg}
 use Rattle.theory.proofs.Interning.Good.{argsIn, argsAt, aroundAt, out, PairOk, lam-of}

@@ -20,7 +20,8 @@ use Rattle.model.specs.Unfold.{unfoldKind, unfoldAt, unfoldAll, unfoldLast}
 use Rattle.model.specs.Intern.{Sym, Scope, State, Env, Kids, resolve, read, thunked, bindDef, internKind, intern}
 use Rattle.model.specs.Intern.{internScoped, internAll}
 use Rattle.laws.proofs.Holds.{Holds, holds-bind, holds-guard, holds-map}
-use Rattle.laws.proofs.Members.{In, clash, isIn-true, in-right, or-neither, anyIn-false}
+use Rattle.laws.specs.Members.{In}
+use Rattle.laws.proofs.Members.{clash, isIn-true, in-right, or-neither, anyIn-false}
 use Rattle.theory.proofs.Acceptance.Checked.{Checked, CheckedIn, checked-head, checked-tail, checked-kids}
 use Rattle.theory.proofs.Acceptance.Checked.{checked-own, checked-use}
 use Rattle.theory.proofs.Acceptance.Records.{kind-shape, fits-at, def-child, field-child, field-rec, lam-child}

@@ -22,7 +22,8 @@ use Rattle.model.specs.Intern.{Node, constant, unparsed, argument, func, operat
 use Rattle.laws.proofs.Apart.{false-true}
 use Rattle.laws.proofs.Induction.{strong}
 use Rattle.laws.proofs.Down.{down-step, under-low}
-use Rattle.laws.proofs.Members.{In, clash}
+use Rattle.laws.specs.Members.{In}
+use Rattle.laws.proofs.Members.{clash}
 use Rattle.laws.proofs.ArgLists.{ArgList, symsIn, optsIn}
 use Rattle.theory.proofs.Meaning.Mean.{Val, Mean, bindSyms, meanAll, meanNode, meanStep, mean}
 use Rattle.theory.proofs.Interning.Good.{recAt, kidsAt, depsAt, nodeAt, isPlain, noArg, Plain, NodeOk, SymOk}

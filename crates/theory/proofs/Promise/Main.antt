@@ -21,7 +21,7 @@ use Rattle.model.specs.Materialize.{materialize}
 use Rattle.model.specs.Call.{interned, treeOf, bytesOf}
 use Rattle.laws.proofs.Checks.{Passes, passes-checked}
 use Rattle.laws.proofs.Holds.{Holds}
-use Rattle.laws.proofs.Members.{In}
+use Rattle.laws.specs.Members.{In}
 use Rattle.theory.proofs.Acceptance.Checked.{Checked}
 use Rattle.theory.proofs.Acceptance.Bytes.{accept-serialised}
 use Rattle.theory.proofs.Interning.Good.{symCount}

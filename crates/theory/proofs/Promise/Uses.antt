@@ -14,7 +14,8 @@ use Rattle.model.specs.Tree.{Tree, Trees, node, nil, cons}
 use Rattle.model.specs.Binding.{idOf, inside, after, rebound, reboundIn, unbound, unboundIn}
 use Rattle.model.specs.Demand3.{NoUse, NoUses}
 use Rattle.laws.proofs.Clear.{Clear, clear-left, clear-right}
-use Rattle.laws.proofs.Members.{In, clash, isIn-true, in-left, in-right, in-either, or-neither, anyIn-false}
+use Rattle.laws.specs.Members.{In}
+use Rattle.laws.proofs.Members.{clash, isIn-true, in-left, in-right, in-either, or-neither, anyIn-false}
 
 -- ids in force, and the same with i among them
 pub record Apart (i : ℕ) (ids more : List ℕ) : Type 0 where

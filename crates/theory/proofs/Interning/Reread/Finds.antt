@@ -19,7 +19,8 @@ use Rattle.model.specs.Intern.{Node, Sym, State, Out, symAt, noSym, isKey, look
 use Rattle.model.specs.Intern.{alloc, finish}
 use Rattle.laws.proofs.Apart.{none-some}
 use Rattle.laws.proofs.Holds.{Holds, holds-guard}
-use Rattle.laws.proofs.Members.{In, both-and, same-refl}
+use Rattle.laws.specs.Members.{In}
+use Rattle.laws.proofs.Members.{both-and, same-refl}
 use Rattle.theory.proofs.Interning.Good.{symCount}
 use Rattle.theory.proofs.Bounds.Steps.{enter-low, enter-length}
 use Rattle.theory.proofs.Interning.Inv.{InAny}
