@@ -1,6 +1,7 @@
 //! The proved main call beside the original; see `USAGE`.
 
 mod compare;
+mod count;
 mod measure;
 
 use std::process::ExitCode;
@@ -10,6 +11,9 @@ usage: beside compare KIND COUNT [SEED]   accepted forests of a kind through bot
        beside damaged COUNT [SEED]        refused forests through both
        beside measure COUNT [SEED]        time of both, by class
        beside growth                      time of both, as scripts grow
+       beside forests KIND COUNT SEED     the forests whose time is measured, in hex
+       beside count SIDE                  forests in hex from standard input, each once through the original or the call,
+                                          for tools/count_instructions.py
 A difference is printed with its forest, and the status is 1.";
 
 fn main() -> ExitCode {
@@ -48,6 +52,12 @@ fn run(words: &[&str]) -> Option<bool> {
             measure::growth();
             Some(true)
         }
+        ["forests", kind, count, seed] => {
+            let kind = cse_reference::generate::Kind::parse(kind)?;
+            count::forests(kind, count.parse().ok()?, seed.parse().ok()?);
+            Some(true)
+        }
+        ["count", side] => Some(count::count(count::Side::parse(side)?)),
         _ => None,
     }
 }

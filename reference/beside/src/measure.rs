@@ -43,7 +43,7 @@ const CLASSES: [Kind; 5] = [
 /// How often each forest is sent through each side; the quickest counts.
 const ROUNDS: u32 = 7;
 
-pub fn classes(count: u64, seed: u64) {
+pub fn classes(count: usize, seed: u64) {
     println!("class: forests; original, main call: median and 90th percentile in µs; times faster: median, 10th percentile");
     for kind in CLASSES {
         class(kind, count, seed);
@@ -99,19 +99,11 @@ fn grown(script: &str) {
     );
 }
 
-fn class(kind: Kind, count: u64, seed: u64) {
+fn class(kind: Kind, count: usize, seed: u64) {
     let (mut theirs, mut ours, mut ratios) = (Vec::new(), Vec::new(), Vec::new());
     let mut out = vec![0; MAX_WRITTEN];
     let mut work = vec![0; WORK_WORDS];
-    let mut seed = seed;
-    while (ours.len() as u64) < count {
-        let bytes = accepted(seed, kind).to_bytes();
-        seed += 1;
-        if !answer(&bytes, MAX_WRITTEN, WORK_WORDS).is_ok_and(|answer| answer.number == 0) {
-            continue;
-        }
-        let forest = accept(&bytes).expect("a forest with an answer is accepted");
-        debug_assert!(forest.trees.iter().all(|tree| nesting(tree) <= MAX_NESTING));
+    for (forest, bytes) in written(kind, seed).take(count) {
         let (their, our) = times(&forest, &bytes, &mut out, &mut work);
         ratios.push(their.as_secs_f64() / our.as_secs_f64());
         theirs.push(micros(their));
@@ -132,6 +124,20 @@ fn class(kind: Kind, count: u64, seed: u64) {
         at(&ratios, 50),
         at(&ratios, 10),
     );
+}
+
+/// The forests of a kind that are written, with their bytes, by seeds from `seed` on.
+pub fn written(kind: Kind, seed: u64) -> impl Iterator<Item = (Forest, Vec<u8>)> {
+    (seed..).filter_map(move |seed| {
+        let bytes = accepted(seed, kind).to_bytes();
+        let answer = answer(&bytes, MAX_WRITTEN, WORK_WORDS).ok()?;
+        if answer.number != 0 {
+            return None;
+        }
+        let forest = accept(&bytes).expect("a forest with an answer is accepted");
+        debug_assert!(forest.trees.iter().all(|tree| nesting(tree) <= MAX_NESTING));
+        Some((forest, bytes))
+    })
 }
 
 /// The original's time and the main call's.
