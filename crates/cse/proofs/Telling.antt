@@ -19,8 +19,8 @@ use Rattle.model.specs.Intern.{State}
 use Rattle.model.specs.Call.{treeOf, bytesOf, writtenOf, check1, check13, check14, numbersOf, numbers, outWith}
 use Rattle.model.specs.Call.{interned, written, run}
 use Rattle.model.specs.Call as call
-use Rattle.writer.specs.Over.{over}
-use Rattle.serialise.specs.Serialise as plan
+use Rattle.output.specs.Output.{over}
+use Rattle.serialise.specs.Serialise.{plannedBytes}
 use Rattle.planner.specs.declared.Plan.{Plan}
 use Rattle.interner.specs.declared.Step.{Step}
 use Rattle.tables.specs.Tables.{first}
@@ -112,8 +112,8 @@ module _ (bs ws : List ℕ) (o : ℕ × State) (p : Plan) (h : PlanOf bs ws (tre
   pub tells-many : 256 < p .rows → Tells (measured (length out) o) out (variants.Refused 13 0) out
   tells-many l = tells-refused _ out 13 0 (measured-many (length out) o (omega (arith, h .count)))
 
-  module _ (size : ℕ) (few : p .rows ≤ 256) (long : size ≡ length (plan.treeOf bs ws 7176 (p .rows))) where
-    bytes-are : bytesOf o ≡ plan.treeOf bs ws 7176 (p .rows)
+  module _ (size : ℕ) (few : p .rows ≤ 256) (long : size ≡ length (plannedBytes bs ws 7176 (p .rows))) where
+    bytes-are : bytesOf o ≡ plannedBytes bs ws 7176 (p .rows)
     unfolding bytesOf serialise many rowsOf
     bytes-are = ap (forestOf 1) (append-nil (rows (treeOf o)) ∙ sym (h .plan few))
 
@@ -134,7 +134,7 @@ module _ (bs ws : List ℕ) (o : ℕ × State) (p : Plan) (h : PlanOf bs ws (tre
           (omega (arith, h .deepest few)))
 
       pub tells-good : (symbols readings : ℕ) (out′ : List ℕ) → p .deepest ≤ 64 → length (o .1 .syms) ≡ symbols →
-          o .1 .readings ≡ readings → out′ ≡ over out 0 (plan.treeOf bs ws 7176 (p .rows)) →
+          o .1 .readings ≡ readings → out′ ≡ over out 0 (plannedBytes bs ws 7176 (p .rows)) →
           Tells (measured (length out) o) out (variants.Written size symbols readings) out′
       unfolding writtenOf
       tells-good symbols readings out′ l s r e =

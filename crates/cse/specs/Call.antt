@@ -11,8 +11,7 @@ use Rattle.model.specs.Tree.{Tree, size, depth, rows}
 use Rattle.model.specs.Intern.{State}
 use Rattle.model.specs.Call.{Numbers, numbersOf, outWith, check13, check14, writtenOf, treeOf}
 use Rattle.model.specs.Call as call
-use Rattle.plan.specs.Plan.{planFrom}
-use Rattle.serialise.specs.Serialise.{AllWritable, plannedRows}
+use Rattle.plan.specs.Plan.{planFrom, AllWritable, plannedRows}
 use Rattle.planner.specs.declared.Plan.{Plan}
 use Rattle.cse.specs.declared.Answer.{Answer}
 use Rattle.cse.specs.declared.Answer.the-variants.{Written, Refused}

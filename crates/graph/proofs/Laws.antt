@@ -1,15 +1,15 @@
--- Laws of the graph in the words. In order: a symbol's parts; its children, which are lower; the tests of it; thunks.
+-- Laws of the graph in the words. In order: a symbol's parts; its children, which are lower; the tests of it.
 -- Assumes nothing.
 use Prim.Native.Nat.{ℕ, zero, suc, _+_, _<_, _≤_}
 use mathlib.Core.Path.{_≡_, refl, sym, ap, subst, _∙_}
-use mathlib.Core.Bool.{Bool, true, false, _&&_, _||_, or-false}
+use mathlib.Core.Bool.{Bool, true, false}
 use mathlib.Core.Logic.{inl, inr}
 use mathlib.Core.List.{List}
 use native.Mathlib.Omega.{arith}
 use lib.Dec.{eqb, ltb}
 use lib.ListN.{length, getD, List·getD-eq-default}
-use borrow.Author.Tests.{ne-eqb, ltb-true, ltb-false}
-use Rattle.model.specs.Intern.{Sym, noSym, symAt, thunked}
+use borrow.Author.Tests.{ltb-true, ltb-false}
+use Rattle.model.specs.Intern.{Sym, noSym, symAt}
 use Rattle.model.specs.Gate.{symOf}
 use Rattle.model.specs.Schedule.{isArg, isOutside, relOf}
 use Rattle.laws.proofs.Falls.{Under}
@@ -121,40 +121,3 @@ module _ (ws : List ℕ) (n m cs d : ℕ) (a : Bool) (arg : Tests ws n m (λ h. 
   pub outsider-rel : a ≡ false → (r : Rel) → Related ws n m d cs r → (b : Bool) → b ≡ isOutside (relIn r) →
       Tests ws n m (isOutsider cs d) b
   outsider-rel e r h b f bs slots = rw (sym (arg bs slots) ∙ e) (f ∙ ap isOutside (h bs slots))
-
--- ---- thunks
-
--- the condition of an IF, and the first operand of any other record, are no thunks
-pub first-eager : (op : ℕ) → thunked op 0 ≡ false
-unfolding thunked
-first-eager op = go (eqb op 0x95) (eqb op 0xED || eqb op 0xEC)
-  where
-    go : (a b : Bool) → ((a && false) || (b && false)) ≡ false
-    go true true = refl
-    go true false = refl
-    go false true = refl
-    go false false = refl
-
-module _ (op j : ℕ) where
-  pub thunk-eager : j ≡ 0 → false ≡ thunked op j
-  thunk-eager e = rw e (sym (first-eager op))
-
-  pub thunk-first : op ≡ 0x95 → j ≡ 1 → true ≡ thunked op j
-  unfolding thunked
-  thunk-first e f = rw (e, f)
-
-  pub thunk-second : op ≡ 0x95 → (j ≡ 1 → ⊥) → eqb j 2 ≡ thunked op j
-  unfolding thunked
-  thunk-second e f = rw (e, ne-eqb j 1 f) (sym (or-false (eqb j 2)))
-
-  pub thunk-and : op ≡ 0xED → eqb j 1 ≡ thunked op j
-  unfolding thunked
-  thunk-and e = rw e
-
-  pub thunk-or : op ≡ 0xEC → eqb j 1 ≡ thunked op j
-  unfolding thunked
-  thunk-or e = rw e
-
-  pub thunk-none : (op ≡ 0x95 → ⊥) → (op ≡ 0xED → ⊥) → (op ≡ 0xEC → ⊥) → false ≡ thunked op j
-  unfolding thunked
-  thunk-none a b c = rw (ne-eqb op 0x95 a, ne-eqb op 0xED b, ne-eqb op 0xEC c)

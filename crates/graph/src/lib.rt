@@ -1,8 +1,7 @@
-// The graph in the work words: symbols and scopes, tests of a symbol that hang on both, and which operands are thunks.
+// The graph in the work words: symbols and scopes, and tests of a symbol that hang on both.
 use scopes::Rel;
 ghost use mathlib.Core.Path.{_≡_};
 ghost use Prim.Native.Nat.{_<_};
-ghost use Rattle.model.specs.Intern.{thunked};
 ghost use Rattle.model.specs.Gate.{symOf};
 ghost use Rattle.model.specs.Schedule.{isArg, isOutside};
 ghost use Rattle.scopes.specs.Relation.{relIn};
@@ -58,27 +57,4 @@ pub fn is_outsider(work: &[u32], g: Graph, cs: usize, d: usize) -> bool
         return false;
     }
     is_outside(relation(work, g, d, cs))
-}
-
-// Whether operand j (from 0) opens a thunk: operands 1 and 2 of IF, operand 1 of && and of ||.
-// Rules out: the condition of an IF; an operand of another record.
-pub fn is_thunked(opcode: u8, j: usize) -> bool
-    ensures { λ r. ⌜ r ≡ thunked opcode j ⌝ }
-{
-    if j == 0 {
-        return false;
-    }
-    if opcode == 0x95 {
-        if j == 1 {
-            return true;
-        }
-        return j == 2;
-    }
-    if opcode == 0xED {
-        return j == 1;
-    }
-    if opcode == 0xEC {
-        return j == 1;
-    }
-    false
 }

@@ -272,7 +272,7 @@ fn operands(
     let mut top = at.top;
     let mut j = 0;
     while j < count {
-        let thunk = graph::is_thunked(op, j);
+        let thunk = shape::is_thunked(op, j);
         let next = k.next;
         let before = k.st;
         let here = small::child_at(at, j, top);

@@ -15,9 +15,10 @@ use Rattle.key.specs.declared.Symbol.{Symbol}
 use Rattle.key.specs.Key.{partsOf, symbolAt}
 use Rattle.symbols.specs.Symbols.{recOf, nodeOf, symOf, symsOf, Sound}
 use Rattle.symbols.proofs.Laws.{sym-at}
-use Rattle.text.specs.Text.{numeral, Wrote}
+use Rattle.output.specs.Output.{Wrote}
+use Rattle.text.specs.Text.{numeral}
 use Rattle.text.proofs.Numbers.{decimal-length, numeral-decimal}
-use Rattle.text.proofs.Wrote.{wrote-as, wrote-then, wrote-both}
+use Rattle.output.proofs.Wrote.{wrote-as, wrote-then, wrote-both}
 use Rattle.text.proofs.Refusal.{newline}
 use Rattle.lines.specs.Lines.{columns}
 

@@ -19,9 +19,8 @@ use Rattle.symbols.proofs.Words.{words-length}
 use Rattle.symbols.proofs.Laws.{syms-length, sym-at}
 use Rattle.gate.specs.Gate.{usesAt}
 use Rattle.gate.proofs.Words.{count-append}
-use Rattle.writer.specs.Over.{over}
-use Rattle.text.specs.Text.{Wrote}
-use Rattle.text.proofs.Wrote.{wrote-none, wrote-as, wrote-then, wrote-both}
+use Rattle.output.specs.Output.{over, Wrote}
+use Rattle.output.proofs.Wrote.{wrote-none, wrote-as, wrote-then, wrote-both}
 use Rattle.text.proofs.Refusal.{newline}
 use Rattle.lines.specs.Lines.{Listable}
 use Rattle.lines.proofs.Line.{line-length}

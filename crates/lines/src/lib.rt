@@ -12,8 +12,7 @@ ghost use Rattle.model.specs.Lister.{decimal, tagOf, opcodeShown, yesNo, line, 
 ghost use Rattle.record.specs.Record.{Laid};
 ghost use Rattle.key.specs.Key.{partsOf};
 ghost use Rattle.symbols.specs.Symbols.{recOf, nodeOf, symsOf, Sound};
-ghost use Rattle.writer.specs.Over.{over};
-ghost use Rattle.text.specs.Text.{Wrote};
+ghost use Rattle.output.specs.Output.{over, Wrote};
 ghost use Rattle.lines.specs.Lines.{columns, Listable};
 
 // A number, below 10^9 as every number of a line is, and the byte after it.
@@ -23,7 +22,7 @@ fn put_number(out: &mut [u8], at: usize, n: u32, after: u8) -> usize
     ensures { λ r. ⌜ Wrote (now (out .entry)) at (decimal n ++ (after ∷ [])) (now (out .exit)) r ⌝ }
 {
     let next = text::put_decimal(out, at, n as u64);
-    text::put_one(out, next, after)
+    output::put_byte(out, next, after)
 }
 
 // The letter of a node's kind.
@@ -77,7 +76,7 @@ fn put_columns(forest: &[u8], out: &mut [u8], at: usize, s: usize, node: Node) -
     let a = put_number(out, at, s as u32, b' ');
     let b = text::put_two(out, a, tag(node), b' ');
     let c = text::put_hex(out, b, opcode_shown(forest, node));
-    text::put_one(out, c, b' ')
+    output::put_byte(out, c, b' ')
 }
 
 // The line of symbol s, which is used `uses` times. Rules out: the scope as usage; the opcode of a constant shown.
@@ -125,7 +124,7 @@ pub fn put_symbols(forest: &[u8], work: &[u32], n: usize, out: &mut [u8]) -> usi
     ensures { λ r. ⌜ now (out .exit) ≡
         over (now (out .entry)) 0 (symbolLines (symsOf (now (forest .entry)) (now (work .entry)) n)) ⌝ }
 {
-    let a = text::put_text(out, 0, b"symbols ");
+    let a = output::put_bytes(out, 0, b"symbols ");
     let b = put_number(out, a, n as u32, b'\n');
     put_lines(forest, work, n, out, b)
 }

@@ -25,8 +25,7 @@ use Rattle.tables.specs.Tables.{first}
 use Rattle.interner.specs.State.{absOf, Rep}
 use Rattle.interner.specs.Step.{outOf}
 use Rattle.gate.specs.Gate.{Tallied}
-use Rattle.writer.specs.Over.{over}
-use Rattle.text.specs.Text.{Wrote}
+use Rattle.output.specs.Output.{over, Wrote}
 use Rattle.lines.specs.Lines.{Listable}
 use Rattle.cse.proofs.Buildable.{symbols-sound}
 

@@ -13,9 +13,10 @@ use Rattle.model.specs.Answer as answer
 use Rattle.model.specs.Intern.{State}
 use Rattle.model.specs.Call.{Written, interned, run, outAfter, workAfter}
 use Rattle.model.specs.Lister.{linesOf, lister, symbolLines, refusalLine}
-use Rattle.writer.proofs.Over.{over-front}
-use Rattle.text.specs.Text.{refusal, Wrote}
-use Rattle.text.proofs.Wrote.{wrote-as}
+use Rattle.output.proofs.Over.{over-front}
+use Rattle.output.specs.Output.{Wrote}
+use Rattle.text.specs.Text.{refusal}
+use Rattle.output.proofs.Wrote.{wrote-as}
 use Rattle.text.proofs.Refusal.{refusal-line}
 use Rattle.cse.proofs.Telling.{run-enough}
 use Rattle.listing.specs.Listing.{Listed}

@@ -11,7 +11,7 @@ ghost use Rattle.model.specs.Intern.{State};
 ghost use Rattle.model.specs.Call.{interned};
 ghost use Rattle.model.specs.Lister.{symbolLines};
 ghost use Rattle.gate.specs.Gate.{Stored, Tallied};
-ghost use Rattle.text.specs.Text.{Wrote};
+ghost use Rattle.output.specs.Output.{Wrote};
 ghost use Rattle.cse.specs.Call.{Unused};
 ghost use Rattle.listing.specs.Listing.{Listed};
 

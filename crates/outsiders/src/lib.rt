@@ -108,7 +108,7 @@ fn offer_operand(
         ⌜ ((bs : List ℕ) → Listed bs (now (work .entry)) (g .symbols) (g .scopes)
         (offered cs (operands (a .thunks) (a .opcode) j (d ∷ []))) (now (list .entry)) n (now (list .exit)) r) ⌝ }
 {
-    if graph::is_thunked(a.opcode, j) {
+    if shape::is_thunked(a.opcode, j) {
         if a.thunks {
             return offer(work, g, cs, d, list, n);
         }

@@ -1,5 +1,5 @@
 -- Planned rows in words. In order: a row's three words; a row stored is loaded again, and words elsewhere are kept; the
--- words that a plan hangs on; one row more at a plan's end; what joined plans stand for.
+-- words that a plan hangs on; one row more at a plan's end; joined plans.
 -- Assumes nothing.
 use Prim.Native.Nat.{ℕ, zero, suc, _+_, _*_, _≤_, _<_}
 use mathlib.Core.Path.{_≡_, refl, ap, ap₂, _∙_}
@@ -8,7 +8,7 @@ use native.Mathlib.Omega.{arith}
 use lib.ListN.{length, getD, set, length-set}
 use lib.Seq.{getD-set-same, getD-set-other}
 use Rattle.model.specs.Tree.{Row}
-use Rattle.plan.specs.Plan.{put3, storePlanned, plannedOf, plannedAt, planFrom, rowFor, rowsFor}
+use Rattle.plan.specs.Plan.{put3, storePlanned, plannedOf, plannedAt, planFrom, rowFor, rowsFor, AllWritable}
 use Rattle.plan.specs.declared.Planned.{Planned}
 use Rattle.plan.specs.declared.Planned.the-variants.{Copy, Field, ValUse, ValDef, Block, Lambda}
 
@@ -111,9 +111,14 @@ plan-more ws at n p h =
     ∙ ap₂ (λ (ps : List Planned) (q : Planned). ps ++ (q ∷ []))
     (plan-kept ws at n (at + 3 * n) p (omega arith)) (stored-loaded ws (at + 3 * n) p h))
 
--- ---- what joined plans stand for
+-- ---- joined plans: what they stand for; that they can be written
 
 pub rows-append : (bs : List ℕ) (ps qs : List Planned) → rowsFor bs (ps ++ qs) ≡ rowsFor bs ps ++ rowsFor bs qs
 unfolding rowsFor
 rows-append bs [] qs = refl
 rows-append bs (p ∷ ps) qs = ap (λ (rs : List Row). rowFor bs p ∷ rs) (rows-append bs ps qs)
+
+pub writable-append : (bs : List ℕ) (ps qs : List Planned) → AllWritable bs ps → AllWritable bs qs →
+    AllWritable bs (ps ++ qs)
+writable-append bs [] qs h k = k
+writable-append bs (p ∷ ps) qs h k = (h .0, writable-append bs ps qs (h .1) k)

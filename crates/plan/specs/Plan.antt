@@ -1,12 +1,16 @@
--- A plan's rows in work words, and the rows of a written tree that they stand for.
+-- A plan's rows in work words. In order: a row in words; the rows of a written tree that they stand for; rows that can
+-- be written.
 -- Assumes nothing.
-use Prim.Native.Nat.{ℕ, zero, suc, _+_}
+use Prim.Native.Nat.{ℕ, zero, suc, _+_, _<_}
+use mathlib.Core.Path.{_≡_}
 use mathlib.Core.Bool.{Bool, true, false}
 use mathlib.Core.List.{List, [], _∷_, _++_}
 use lib.Dec.{eqb}
 use lib.ListN.{length, getD, set}
 use Rattle.model.specs.Bytes.{put32}
 use Rattle.model.specs.Tree.{rec, Row}
+use Rattle.model.specs.Shape.{aId, aOpt, _then_, times, whole}
+use Rattle.model.specs.Forest.{recordCount}
 use Rattle.model.specs.Binding.{argsOf}
 use Rattle.model.specs.Materialize.{argLit}
 use Rattle.record.specs.Record.{rowAt}
@@ -61,3 +65,28 @@ rowFor bs (Lambda i last) =
 unfoldable pub rowsFor : List ℕ → List Planned → List Row
 rowsFor bs [] = []
 rowsFor bs (p ∷ ps) = rowFor bs p ∷ rowsFor bs ps
+
+-- the n rows planned from word `at` on
+abbrev pub plannedRows : List ℕ → List ℕ → ℕ → ℕ → List Row
+plannedRows bs ws at n = rowsFor bs (planFrom ws at n)
+
+-- ---- rows that can be written
+
+-- a lambda whose arguments can be numbered after `last`: its literal is its arguments, and their numbers fit
+pub record Renumbered (r : Row) (last : ℕ) : Type 0 where
+  pub args : whole (times (r .rec .aux) (aId then aOpt)) (r .rec .lit) ≡ true
+  pub fit : last + r .rec .aux < 4294967296
+
+-- a planned row that can be written
+abbrev pub Writable : List ℕ → Planned → Type 0
+Writable bs (Copy i) = i < recordCount bs
+Writable bs (Field f) = f < 256
+Writable bs (ValUse id) = Unit {0}
+Writable bs (ValDef id) = Unit {0}
+Writable bs (Block kids) = kids < 65536
+Writable bs (Lambda i last) = (i < recordCount bs) × Renumbered (rowAt bs i) last
+
+-- and so each row of a plan
+abbrev pub AllWritable : List ℕ → List Planned → Type 0
+AllWritable bs [] = Unit {0}
+AllWritable bs (p ∷ ps) = Writable bs p × AllWritable bs ps

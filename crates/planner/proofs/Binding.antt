@@ -23,8 +23,7 @@ use Rattle.symbols.specs.Symbols.{kidsAt}
 use Rattle.symbols.proofs.Words.{words-at}
 use Rattle.graph.specs.declared.Graph.{Graph}
 use Rattle.plan.specs.declared.Planned.the-variants as planned
-use Rattle.plan.specs.Plan.{rowFor}
-use Rattle.serialise.specs.Serialise.{Writable}
+use Rattle.plan.specs.Plan.{rowFor, Writable}
 use Rattle.planner.specs.declared.Plan.{Plan}
 use Rattle.planner.specs.Grew.{Grew}
 use Rattle.planner.specs.Building.{Lambdas, Buildable, Stands, Maps}

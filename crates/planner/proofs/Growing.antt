@@ -7,11 +7,9 @@ use mathlib.Core.List.{List, [], _∷_, _++_, append-assoc, append-nil}
 use native.Mathlib.Omega.{arith}
 use lib.ListN.{length, length-append}
 use Rattle.model.specs.Tree.{Row}
-use Rattle.plan.specs.Plan.{storePlanned, planFrom, rowFor, rowsFor}
+use Rattle.plan.specs.Plan.{storePlanned, planFrom, rowFor, rowsFor, Writable, plannedRows}
 use Rattle.plan.specs.declared.Planned.{Planned}
-use Rattle.plan.proofs.Laws.{stored-other, stored-length, plan-more, rows-append}
-use Rattle.serialise.specs.Serialise.{Writable, plannedRows}
-use Rattle.serialise.proofs.Rows.{writable-append}
+use Rattle.plan.proofs.Laws.{stored-other, stored-length, plan-more, rows-append, writable-append}
 use Rattle.planner.specs.declared.Plan.{Plan}
 use Rattle.planner.specs.Grew.{Kept, Grew}
 

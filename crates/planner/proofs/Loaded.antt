@@ -28,9 +28,8 @@ use Rattle.symbols.specs.Symbols.{keyRec, recOf, nodeOf}
 use Rattle.symbols.specs.Sourced.{Sourced}
 use Rattle.plan.specs.declared.Planned.{Planned}
 use Rattle.plan.specs.declared.Planned.the-variants.{Copy, Field}
-use Rattle.plan.specs.Plan.{rowFor}
+use Rattle.plan.specs.Plan.{rowFor, Writable}
 use Rattle.plan.specs.Plan as plan
-use Rattle.serialise.specs.Serialise.{Writable}
 use Rattle.planner.specs.declared.Plan.{Plan}
 use Rattle.planner.specs.Grew.{Grew}
 use Rattle.planner.specs.Building.{Opens, Buildable, Stands, rowOf}

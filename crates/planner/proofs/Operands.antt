@@ -18,7 +18,7 @@ use Rattle.laws.specs.Members.{In, Every}
 use Rattle.laws.proofs.Apart.{false-true}
 use Rattle.laws.proofs.Building.{op-left, op-eager, op-thunk}
 use Rattle.key.specs.declared.Operation.{Operation}
-use Rattle.graph.proofs.Laws.{first-eager}
+use Rattle.shape.proofs.Thunks.{first-eager}
 use Rattle.plan.specs.declared.Planned.the-variants.{Copy, Field}
 use Rattle.planner.specs.declared.Opened.{Opened}
 use Rattle.planner.specs.declared.Opened.the-variants.{Same, Thunk}

@@ -7,8 +7,7 @@ use mathlib.Core.List.{List, _++_}
 use lib.ListN.{length, getD}
 use Rattle.model.specs.Tree.{Row, Tree, Trees, nil, cons, rows, rowsOf, depth}
 use Rattle.laws.specs.Frame.{Agree}
-use Rattle.plan.specs.Plan.{planFrom}
-use Rattle.serialise.specs.Serialise.{AllWritable, plannedRows}
+use Rattle.plan.specs.Plan.{planFrom, AllWritable, plannedRows}
 use Rattle.planner.specs.declared.Plan.{Plan}
 
 -- all words but the plan's

@@ -10,8 +10,7 @@ ghost use lib.ListN.{length, getD, take, replicate};
 ghost use lib.Seq.{sets};
 ghost use Rattle.laws.specs.Range.{range};
 ghost use Rattle.record.specs.Record.{Laid};
-ghost use Rattle.plan.specs.Plan.{rowFor};
-ghost use Rattle.serialise.specs.Serialise.{Writable};
+ghost use Rattle.plan.specs.Plan.{rowFor, Writable};
 ghost use Rattle.planner.specs.Grew.{Grew};
 ghost use Rattle.planner.specs.Building.{Buildable, rowOf, branchesOf, openedAt};
 ghost use Rattle.planner.specs.Building.{more, Member, Members, AnyMember};
@@ -128,7 +127,7 @@ pub fn operand_scope(opcode: u8, o: Operation, j: usize) -> Opened
     if o.branches == 0 {
         return Opened::Same;
     }
-    if graph::is_thunked(opcode, j) {
+    if shape::is_thunked(opcode, j) {
         if j == 1 {
             return Opened::Thunk(o.first);
         }

@@ -13,8 +13,8 @@ use Rattle.model.specs.Binding.{optOf, argsOf}
 use Rattle.model.specs.Materialize.{argLit}
 use Rattle.shape.specs.Args.{Left, ArgEnd, nextArg}
 use Rattle.shape.proofs.Args.{args-step, left-next, left-stands, left-none, stands-within, turn-next, turn-args}
-use Rattle.writer.specs.Over.{over}
-use Rattle.writer.proofs.Over.{over-over, over-nil, over-then}
+use Rattle.output.specs.Output.{over}
+use Rattle.output.proofs.Over.{over-over, over-nil, over-then}
 
 put32-length : (n : ℕ) → length (put32 n) ≡ 4
 unfolding put32

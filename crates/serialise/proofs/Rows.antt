@@ -1,4 +1,4 @@
--- Planned rows written one by one. In order: a lambda's row and a field's; lengths; plans joined; what is left of a
+-- Planned rows written one by one. In order: a lambda's row and a field's; lengths; what is left of a
 -- plan from row i on; one turn of the loops that write the records and the directory; the whole tree from its parts.
 -- Assumes nothing.
 use Prim.Native.Nat.{ℕ, zero, suc, _+_, _*_, _-_, _%_, _<_, _≤_}
@@ -16,10 +16,12 @@ use Rattle.laws.proofs.Lengths.{row-length, directory-length, bodies-length, fo
 use Rattle.record.specs.Record.{rowAt}
 use Rattle.plan.specs.declared.Planned.{Planned}
 use Rattle.plan.specs.declared.Planned.the-variants.{Field, Lambda}
-use Rattle.plan.specs.Plan.{plannedAt, planFrom, rowFor, rowsFor}
-use Rattle.writer.specs.Over.{over, fixed, Put}
-use Rattle.writer.proofs.Over.{over-over, over-nil, over-then}
-use Rattle.serialise.specs.Serialise.{Renumbered, Writable, AllWritable, plannedRows, treeOf}
+use Rattle.plan.specs.Plan.{plannedAt, planFrom, rowFor, rowsFor, Renumbered, Writable, AllWritable, plannedRows}
+use Rattle.output.specs.Output.{over, Wrote}
+use Rattle.writer.specs.Writer.{fixed}
+use Rattle.output.proofs.Wrote.{wrote-as, wrote-then}
+use Rattle.output.proofs.Over.{over-over, over-nil, over-then}
+use Rattle.serialise.specs.Serialise.{plannedBytes}
 use Rattle.serialise.proofs.Args.{lit-length}
 
 -- ---- a lambda's row: its arguments numbered anew take as many bytes as they took
@@ -37,21 +39,11 @@ module _ (bs : List ℕ) (i last : ℕ) where
   unfolding rowFor rowBytes fixed put16
   lambda-bytes = rw args-length
 
-  pub lambda-put : {out o₁ o₂ lit : List ℕ} {at aux next₁ next₂ : ℕ} → Renumbered (rowAt bs i) last
-      → at + rowLen (rowAt bs i) ≤ length out → aux ≡ rowAt bs i .rec .aux → lit ≡ rowAt bs i .rec .lit
-      → next₁ ≡ at + 5 → o₁ ≡ over out at (fixed 12 0xD9 1 aux)
-      → next₂ ≡ next₁ + length lit → o₂ ≡ over o₁ next₁ (argLit last (argsOf aux lit))
-      → Put out at (rowFor bs (Lambda i last)) o₂ next₂
-  unfolding fixed put16 rowFor rowLen
-  lambda-put {out} {o₁} {o₂} {lit} {at} {aux} {next₁} {next₂} h fit e f e₁ w₁ e₂ w₂ =
-      let r = rowAt bs i .rec in
-      let l = lambda-length h in
-      let v₁ : o₁ ≡ over out at (fixed 12 0xD9 1 (r .aux)) = rw e at w₁ in
-      let v₂ : o₂ ≡ over o₁ next₁ (argLit last (argsOf (r .aux) (r .lit))) = rw (e, f) at w₂ in
-      record {
-        ends = omega (arith, ap length f);
-        holds = over-then out o₁ o₂ at next₁ _ _ v₁ v₂ e₁ (omega arith) ∙ ap (over out at) (sym lambda-bytes);
-      }
+  pub lambda-put : {out o₁ o₂ lit : List ℕ} {at aux next₁ next₂ : ℕ} → aux ≡ rowAt bs i .rec .aux
+      → lit ≡ rowAt bs i .rec .lit → Wrote out at (fixed 12 0xD9 1 aux) o₁ next₁
+      → Wrote o₁ next₁ (argLit last (argsOf aux lit)) o₂ next₂
+      → Wrote out at (rowBytes (rowFor bs (Lambda i last))) o₂ next₂
+  lambda-put e f w₁ w₂ = wrote-as (rw (e, f) (sym lambda-bytes)) (wrote-then w₁ w₂)
 
 -- a field below 256 is written as it is
 pub field-row : (bs : List ℕ) (f : ℕ) → f < 256 → rowFor bs (Field f) ≡ rowFor [] (Field (f % 256))
@@ -65,15 +57,8 @@ unfolding planFrom rowsFor
 planned-length bs ws at zero = refl
 planned-length bs ws at (suc n) = ap suc (planned-length bs ws (at + 3) n)
 
-pub tree-length : (bs ws : List ℕ) (at n : ℕ) → length (treeOf bs ws at n) ≡ 4 + 4 * n + total (plannedRows bs ws at n)
+pub tree-length : (bs ws : List ℕ) (at n : ℕ) → length (plannedBytes bs ws at n) ≡ 4 + 4 * n + total (plannedRows bs ws at n)
 tree-length bs ws at n = omega (arith, forest-length 1 (plannedRows bs ws at n), planned-length bs ws at n)
-
--- ---- plans joined
-
-pub writable-append : (bs : List ℕ) (ps qs : List Planned) → AllWritable bs ps → AllWritable bs qs →
-    AllWritable bs (ps ++ qs)
-writable-append bs [] qs h k = k
-writable-append bs (p ∷ ps) qs h k = (h .0, writable-append bs ps qs (h .1) k)
 
 -- ---- what is left of a plan
 
@@ -143,13 +128,12 @@ module _ (bs ws : List ℕ) (at n i : ℕ) (p : Planned) (h : i < n) (e : p ≡ 
   -- ---- one turn: row i is written, and what is left is written after it
 
   pub bodies-turn : (out o₁ : List ℕ) (place next : ℕ) → place + total (leftRows bs ws at n i) ≤ length out
-      → Put out place (rowFor bs p) o₁ next
+      → Wrote out place (rowBytes (rowFor bs p)) o₁ next
       → over o₁ next (bodies (leftRows bs ws at n (i + 1)))
       ≡ over out place (bodies (leftRows bs ws at n i))
   unfolding bodies
   bodies-turn out o₁ place next fit w =
-      let e : next ≡ place + length (rowBytes (rowFor bs p)) = omega (arith, w .ends, row-length (rowFor bs p)) in
-      ap₂ (λ (o : List ℕ) (k : ℕ). over o k later) (w .holds) e
+      ap₂ (λ (o : List ℕ) (k : ℕ). over o k later) (w .holds) (w .ends)
       ∙ (over-over out place (rowBytes (rowFor bs p)) later room
       ∙ ap (λ (rs : List Row). over out place (bodies rs)) (sym rows-next))
     where
@@ -195,10 +179,10 @@ module _ (bs ws : List ℕ) (at n : ℕ) where
   rs : List Row
   rs = plannedRows bs ws at n
 
-  pub tree-parts : (o₀ : List ℕ) {o₁ o₂ o₃ o₄ : List ℕ} {trees start : ℕ} → length (treeOf bs ws at n) ≤ length o₀
+  pub tree-parts : (o₀ : List ℕ) {o₁ o₂ o₃ o₄ : List ℕ} {trees start : ℕ} → length (plannedBytes bs ws at n) ≤ length o₀
       → trees ≡ 2 → o₁ ≡ over o₀ 0 (put16 1) → o₂ ≡ over o₁ trees (put16 n)
       → o₃ ≡ over o₂ 4 (directory (4 + 4 * n) (plannedRows bs ws at n))
-      → start ≡ 4 + 4 * n → o₄ ≡ over o₃ start (bodies (plannedRows bs ws at n)) → o₄ ≡ over o₀ 0 (treeOf bs ws at n)
+      → start ≡ 4 + 4 * n → o₄ ≡ over o₃ start (bodies (plannedRows bs ws at n)) → o₄ ≡ over o₀ 0 (plannedBytes bs ws at n)
   unfolding forestOf put16 rs
   tree-parts o₀ {o₁} {o₂} {o₃} {o₄} {trees} {start} fit e w₁ w₂ w₃ f w₄ =
       let t = tree-length bs ws at n in

@@ -5,16 +5,16 @@ ghost use mathlib.Core.Bool.{true};
 ghost use Prim.Native.Nat.{_+_, _*_, _<_, _≤_};
 ghost use lib.ListN.{length};
 ghost use Rattle.model.specs.Shape.{aId, aOpt, _then_, times, whole};
-ghost use Rattle.model.specs.Tree.{rowLen, directory, bodies};
+ghost use Rattle.model.specs.Tree.{rowBytes, rowLen, directory, bodies};
 ghost use Rattle.model.specs.Binding.{argsOf};
 ghost use Rattle.model.specs.Forest.{recordCount};
 ghost use Rattle.model.specs.Materialize.{argLit};
 ghost use Rattle.laws.specs.Rows.{total};
 ghost use Rattle.record.specs.Record.{Laid, rowAt};
 ghost use Rattle.plan.specs.declared.Planned.the-variants.{Lambda};
-ghost use Rattle.plan.specs.Plan.{planFrom, rowFor};
-ghost use Rattle.writer.specs.Over.{over, Put};
-ghost use Rattle.serialise.specs.Serialise.{Renumbered, Writable, AllWritable, plannedRows, treeOf};
+ghost use Rattle.plan.specs.Plan.{planFrom, rowFor, Renumbered, Writable, AllWritable, plannedRows};
+ghost use Rattle.output.specs.Output.{over, Wrote};
+ghost use Rattle.serialise.specs.Serialise.{plannedBytes};
 use plan::Planned;
 
 // The arguments of the literal `lit`, their ids replaced by the numbers after `last`.
@@ -23,8 +23,7 @@ fn put_args(out: &mut [u8], at: usize, lit: &[u8], n: usize, last: u32) -> usize
     requires { ⌜ whole (times n (aId then aOpt)) (now lit) ≡ true ⌝ }
     requires { ⌜ at + length (now lit) ≤ length (now out) ⌝ }
     requires { ⌜ last + n < 4294967296 ⌝ }
-    ensures { λ r. ⌜ r ≡ at + length (now (lit .entry)) ⌝ }
-    ensures { λ r. ⌜ now (out .exit) ≡ over (now (out .entry)) at (argLit last (argsOf n (now (lit .entry)))) ⌝ }
+    ensures { λ r. ⌜ Wrote (now (out .entry)) at (argLit last (argsOf n (now (lit .entry)))) (now (out .exit)) r ⌝ }
 {
     let mut place = 0;
     let mut id = last;
@@ -32,8 +31,8 @@ fn put_args(out: &mut [u8], at: usize, lit: &[u8], n: usize, last: u32) -> usize
     while j < n {
         let end = shape::arg_end(lit, place);
         id += 1;
-        let next = writer::put_32(out, at + place, id);
-        writer::put_part(out, next, &lit[place + 4..end]);
+        let next = output::put_32(out, at + place, id);
+        output::put_bytes(out, next, &lit[place + 4..end]);
         place = end;
         j += 1;
     }
@@ -46,7 +45,7 @@ fn put_lambda(forest: &[u8], out: &mut [u8], at: usize, i: u32, last: u32) -> us
     requires { ⌜ i < recordCount (now forest) ⌝ }
     requires { ⌜ Renumbered (rowAt (now forest) i) last ⌝ }
     requires { ⌜ at + rowLen (rowAt (now forest) i) ≤ length (now out) ⌝ }
-    ensures { λ r. ⌜ Put (now (out .entry)) at (rowFor (now (forest .entry)) (Lambda i last)) (now (out .exit)) r ⌝ }
+    ensures { λ r. ⌜ Wrote (now (out .entry)) at (rowBytes (rowFor (now (forest .entry)) (Lambda i last))) (now (out .exit)) r ⌝ }
 {
     let aux = record::aux(forest, i as usize);
     let lit = record::literal(forest, i as usize);
@@ -59,7 +58,7 @@ fn put_row(forest: &[u8], out: &mut [u8], at: usize, p: Planned) -> usize
     requires { ⌜ Laid (now forest) ⌝ }
     requires { ⌜ Writable (now forest) p ⌝ }
     requires { ⌜ at + rowLen (rowFor (now forest) p) ≤ length (now out) ⌝ }
-    ensures { λ r. ⌜ Put (now (out .entry)) at (rowFor (now (forest .entry)) p) (now (out .exit)) r ⌝ }
+    ensures { λ r. ⌜ Wrote (now (out .entry)) at (rowBytes (rowFor (now (forest .entry)) p)) (now (out .exit)) r ⌝ }
 {
     match p {
         Planned::Copy(i) => writer::put_copy(forest, out, at, i),
@@ -94,7 +93,7 @@ pub fn tree_length(forest: &[u8], work: &[u32], at: usize, n: usize) -> usize
     requires { ⌜ AllWritable (now forest) (planFrom (now work) at n) ⌝ }
     requires { ⌜ at + 3 * n ≤ length (now work) ⌝ }
     requires { ⌜ n ≤ 256 ⌝ }
-    ensures { λ r. ⌜ r ≡ length (treeOf (now (forest .entry)) (now (work .entry)) at n) ⌝ }
+    ensures { λ r. ⌜ r ≡ length (plannedBytes (now (forest .entry)) (now (work .entry)) at n) ⌝ }
 {
     let mut sum = 4 + 4 * n;
     let mut i = 0;
@@ -120,8 +119,8 @@ fn put_directory(forest: &[u8], work: &[u32], at: usize, n: usize, out: &mut [u8
     let mut i = 0;
     while i < n {
         let size = row_len(forest, plan::load(work, at + 3 * i));
-        let next = writer::put_16(out, 4 + 4 * i, offset);
-        writer::put_16(out, next, size);
+        let next = output::put_16(out, 4 + 4 * i, offset);
+        output::put_16(out, next, size);
         offset += size;
         i += 1;
     }
@@ -161,14 +160,14 @@ pub fn write_tree(forest: &[u8], work: &[u32], at: usize, n: usize, out: &mut [u
     requires { ⌜ AllWritable (now forest) (planFrom (now work) at n) ⌝ }
     requires { ⌜ at + 3 * n ≤ length (now work) ⌝ }
     requires { ⌜ n ≤ 256 ⌝ }
-    requires { ⌜ length (treeOf (now forest) (now work) at n) ≤ length (now out) ⌝ }
-    requires { ⌜ length (treeOf (now forest) (now work) at n) ≤ 65535 ⌝ }
-    ensures { λ r. ⌜ r ≡ length (treeOf (now (forest .entry)) (now (work .entry)) at n) ⌝ }
+    requires { ⌜ length (plannedBytes (now forest) (now work) at n) ≤ length (now out) ⌝ }
+    requires { ⌜ length (plannedBytes (now forest) (now work) at n) ≤ 65535 ⌝ }
+    ensures { λ r. ⌜ r ≡ length (plannedBytes (now (forest .entry)) (now (work .entry)) at n) ⌝ }
     ensures { λ r. ⌜ now (out .exit) ≡ over (now (out .entry)) 0
-        (treeOf (now (forest .entry)) (now (work .entry)) at n) ⌝ }
+        (plannedBytes (now (forest .entry)) (now (work .entry)) at n) ⌝ }
 {
-    let trees = writer::put_16(out, 0, 1);
-    writer::put_16(out, trees, n);
+    let trees = output::put_16(out, 0, 1);
+    output::put_16(out, trees, n);
     let start = put_directory(forest, work, at, n, out);
     put_bodies(forest, work, at, n, out, start)
 }

@@ -1,6 +1,6 @@
 // Checks 4 and 5 of one record: its children, aux and literal against its shape, and its opcode against its shape.
-// Then the arguments in a lambda's literal. In order: the table of shapes; opcodes; ids, arguments. The parts of a
-// literal are in parts.rt.
+// Then which operands are thunks, and the arguments in a lambda's literal. In order: the table of shapes; opcodes; ids,
+// arguments. The parts of a literal are in parts.rt.
 mod parts;
 
 use parts::Part;
@@ -25,6 +25,7 @@ ghost use Rattle.model.specs.Bytes.{u32};
 ghost use Rattle.model.specs.Tree.{rec};
 ghost use Rattle.model.specs.Shape.{aArg, bothWays};
 ghost use Rattle.model.specs.Shape as model;
+ghost use Rattle.model.specs.Intern.{thunked};
 ghost use Rattle.shape.specs.Args.{ArgEnd};
 
 // ---- the table of shapes
@@ -124,6 +125,29 @@ pub fn agrees(shape: u8, opcode: u8) -> bool
         16 => opcode == 0x86, // Tuple
         _ => free_agrees(shape, opcode),
     }
+}
+
+// Whether operand j (from 0) opens a thunk: operands 1 and 2 of IF, operand 1 of && and of ||.
+// Rules out: the condition of an IF; an operand of another record.
+pub fn is_thunked(opcode: u8, j: usize) -> bool
+    ensures { λ r. ⌜ r ≡ thunked opcode j ⌝ }
+{
+    if j == 0 {
+        return false;
+    }
+    if opcode == 0x95 {
+        if j == 1 {
+            return true;
+        }
+        return j == 2;
+    }
+    if opcode == 0xED {
+        return j == 1;
+    }
+    if opcode == 0xEC {
+        return j == 1;
+    }
+    false
 }
 
 // ---- ids and arguments

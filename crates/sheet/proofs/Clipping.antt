@@ -12,9 +12,9 @@ use lib.ListN.{length, take, drop, getD, replicate}
 use lib.Seq.{take-all, take-suc, take-nil, take-at, take-append-le, take-append-add, length-take-le}
 use borrow.Author.Tests.{ltb-true, ltb-false}
 use Rattle.model.specs.Lister.{hexByte}
-use Rattle.writer.proofs.Over.{over-front}
-use Rattle.text.specs.Text.{Wrote}
-use Rattle.text.proofs.Wrote.{wrote-none, wrote-as, wrote-length, wrote-then}
+use Rattle.output.proofs.Over.{over-front}
+use Rattle.output.specs.Output.{Wrote}
+use Rattle.output.proofs.Wrote.{wrote-none, wrote-as, wrote-length, wrote-then}
 use Rattle.sheet.specs.Clip.{Clipped, hexBytes}
 
 pub clipped-none : (out : List ℕ) (at : ℕ) → at ≤ length out → Clipped out at [] out at

@@ -4,7 +4,7 @@ use Prim.Native.Nat.{ℕ, _-_}
 use mathlib.Core.List.{List, [], _∷_, _++_}
 use lib.ListN.{length, take}
 use Rattle.model.specs.Lister.{hexByte}
-use Rattle.text.specs.Text.{Wrote}
+use Rattle.output.specs.Output.{Wrote}
 
 -- of s, what has room was written over `out` at `at`: the output afterwards, and the place after it
 abbrev pub Clipped : List ℕ → ℕ → List ℕ → List ℕ → ℕ → Type 0

@@ -14,9 +14,9 @@ pub fn put_text(out: &mut [u8], at: usize, text: &[u8]) -> usize
 {
     let room = out.len() - at;
     if room < text.len() {
-        return text::put_text(out, at, &text[..room]);
+        return output::put_bytes(out, at, &text[..room]);
     }
-    text::put_text(out, at, text)
+    output::put_bytes(out, at, text)
 }
 
 // A byte. Rules out: the byte one place on; the place that was given.

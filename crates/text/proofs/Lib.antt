@@ -1,4 +1,3 @@
 -- Laws of text, for this crate and for those that call it. Assumes nothing.
 pub mod Numbers
-pub mod Wrote
 pub mod Refusal

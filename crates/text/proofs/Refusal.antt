@@ -7,9 +7,10 @@ use native.Mathlib.Omega.{arith}
 use lib.ListN.{length}
 use Rattle.model.specs.Text.{text}
 use Rattle.model.specs.Lister.{refusalLine}
-use Rattle.text.specs.Text.{numeral, refusal, Wrote}
+use Rattle.output.specs.Output.{Wrote}
+use Rattle.text.specs.Text.{numeral, refusal}
 use Rattle.text.proofs.Numbers.{numeral-length, numeral-decimal}
-use Rattle.text.proofs.Wrote.{wrote-leaves, wrote-then}
+use Rattle.output.proofs.Wrote.{wrote-leaves, wrote-then}
 
 pub refusal-line : (n p : ℕ) → n < 1000000000 → p < 1000000000 → refusal n p ≡ refusalLine n p
 unfolding refusal refusalLine

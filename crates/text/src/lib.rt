@@ -1,37 +1,20 @@
 // Text written over an output, front to back.
-// In order: bytes; a number in decimal; a byte in hexadecimal; the line of a refusal.
+// In order: two bytes; a number in decimal; a byte in hexadecimal; the line of a refusal.
 ghost use mathlib.Core.Path.{_≡_};
 ghost use mathlib.Core.List.{[], _∷_};
 ghost use Prim.Native.Nat.{_+_, _<_, _≤_};
 ghost use lib.ListN.{length};
 ghost use Rattle.model.specs.Lister.{hexDigit, hexByte};
-ghost use Rattle.text.specs.Text.{numeral, refusal, Wrote};
-
-// ---- bytes
-
-// A byte. Rules out: the byte after it touched; the place that was given as the next.
-pub fn put_one(out: &mut [u8], at: usize, b: u8) -> usize
-    requires { ⌜ at + 1 ≤ length (now out) ⌝ }
-    ensures { λ r. ⌜ Wrote (now (out .entry)) at (b ∷ []) (now (out .exit)) r ⌝ }
-{
-    writer::put_byte(out, at, b)
-}
+ghost use Rattle.output.specs.Output.{Wrote};
+ghost use Rattle.text.specs.Text.{numeral, refusal};
 
 // Two bytes. Rules out: the second first; the first alone.
 pub fn put_two(out: &mut [u8], at: usize, first: u8, second: u8) -> usize
     requires { ⌜ at + 2 ≤ length (now out) ⌝ }
     ensures { λ r. ⌜ Wrote (now (out .entry)) at (first ∷ second ∷ []) (now (out .exit)) r ⌝ }
 {
-    let next = put_one(out, at, first);
-    put_one(out, next, second)
-}
-
-// Bytes in a row. Rules out: all but the last; the first over and over.
-pub fn put_text(out: &mut [u8], at: usize, text: &[u8]) -> usize
-    requires { ⌜ at + length (now text) ≤ length (now out) ⌝ }
-    ensures { λ r. ⌜ Wrote (now (out .entry)) at (now (text .entry)) (now (out .exit)) r ⌝ }
-{
-    writer::put_part(out, at, text)
+    let next = output::put_byte(out, at, first);
+    output::put_byte(out, next, second)
 }
 
 // ---- a number in decimal
@@ -49,10 +32,10 @@ pub fn put_decimal(out: &mut [u8], at: usize, n: u64) -> usize
     ensures { λ r. ⌜ Wrote (now (out .entry)) at (numeral n) (now (out .exit)) r ⌝ }
 {
     if n < 10 {
-        return put_one(out, at, digit(n));
+        return output::put_byte(out, at, digit(n));
     }
     let next = put_decimal(out, at, n / 10);
-    put_one(out, next, digit(n % 10))
+    output::put_byte(out, next, digit(n % 10))
 }
 
 // ---- a byte in hexadecimal
@@ -85,9 +68,9 @@ pub fn put_refusal(out: &mut [u8], number: u64, place: u64) -> usize
     requires { ⌜ 53 ≤ length (now out) ⌝ }
     ensures { λ r. ⌜ Wrote (now (out .entry)) 0 (refusal number place) (now (out .exit)) r ⌝ }
 {
-    let a = put_text(out, 0, b"refused ");
+    let a = output::put_bytes(out, 0, b"refused ");
     let b = put_decimal(out, a, number);
-    let c = put_text(out, b, b" at ");
+    let c = output::put_bytes(out, b, b" at ");
     let d = put_decimal(out, c, place);
-    put_one(out, d, b'\n')
+    output::put_byte(out, d, b'\n')
 }

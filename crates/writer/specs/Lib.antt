@@ -1,2 +1,2 @@
 -- What the contracts cite. Assumes nothing.
-pub mod Over
+pub mod Writer

@@ -21,9 +21,9 @@ put-hex-requires c κs =
     let e = number-ends _ _ (w .put-number .ensures) in
     omega (arith, s .pre, w .put-number .kept, v .put-two .kept, v .put-two .ensures .ends)
 
-put-one-requires : tie.Need-put-one-requires
+put-byte-requires : tie.Need-put-byte-requires
 unfolding hexByte
-put-one-requires c κs =
+put-byte-requires c κs =
     let x = c .before .before .before in
     let v = x .before .before .before .before .before in
     let w = v .before .before .before .before .before in
@@ -42,9 +42,9 @@ returns c =
     let w = v .before .before .before .before .before in
     let bs = now (w .before .before .before .before .args .forest) in
     columns-parts _ _ _ (v .before .tag .ensures bs) (x .before .opcode-shown .ensures)
-    (w .put-number .ensures) (v .put-two .ensures) (x .put-hex .ensures) (y .put-one .ensures)
+    (w .put-number .ensures) (v .put-two .ensures) (x .put-hex .ensures) (y .put-byte .ensures)
 
 pub put-columns-spec : {M : Type 1} → statement M
 put-columns-spec =
     tie.close (tie.spec (λ c. search needs) (λ c κs. search needs) (λ c κs. search needs) put-two-requires
-    (λ c κs. search needs) put-hex-requires put-one-requires (λ c. search needs) returns)
+    (λ c κs. search needs) put-hex-requires put-byte-requires (λ c. search needs) returns)

@@ -6,7 +6,7 @@ use denote.Ref.{now}
 use lib.ListN.{length}
 use Rattle.model.specs.Lister.{linesFrom, allSlots}
 use Rattle.symbols.specs.Symbols.{symsOf}
-use Rattle.text.specs.Text.{Wrote}
+use Rattle.output.specs.Output.{Wrote}
 use Rattle.lines.proofs.Lines.{uses-few, lines-start, lines-turn, lines-end, lines-all}
 use Rattle.lines.proofs.put_lines.Statement.{statement}
 use Rattle.lines.proofs.put_lines.Tie as tie

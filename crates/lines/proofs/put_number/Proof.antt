@@ -14,8 +14,8 @@ put-decimal-requires c κs =
     let e = ap length (numeral-decimal (s .args .n) (s .pre .0)) in
     omega (arith, s .pre .1, decimal-length (s .args .n))
 
-put-one-requires : tie.Need-put-one-requires
-put-one-requires c κs =
+put-byte-requires : tie.Need-put-byte-requires
+put-byte-requires c κs =
     let w = c .before .before .before in
     let s = w .before .before .before in
     let e = ap length (numeral-decimal (s .args .n) (s .pre .0)) in
@@ -26,8 +26,8 @@ returns c =
     let y = c .before .before in
     let w = y .before .before .before .before in
     let s = w .before .before .before in
-    number-parts _ _ (s .pre .0) (w .put-decimal .ensures) (y .put-one .ensures)
+    number-parts _ _ (s .pre .0) (w .put-decimal .ensures) (y .put-byte .ensures)
 
 pub put-number-spec : {M : Type 1} → statement M
 put-number-spec =
-    tie.close (tie.spec put-decimal-requires put-one-requires (λ c. search needs) returns)
+    tie.close (tie.spec put-decimal-requires put-byte-requires (λ c. search needs) returns)

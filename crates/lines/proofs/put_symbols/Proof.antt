@@ -17,16 +17,16 @@ put-number-requires : tie.Need-put-number-requires
 put-number-requires c κs =
     let w = c .before .before .before in
     let s = w .before .before .before .before .before .before in
-    (omega (arith, s .pre .0 .few), omega (arith, s .pre .1, w .put-text .kept, w .put-text .ensures .ends))
+    (omega (arith, s .pre .0 .few), omega (arith, s .pre .1, w .put-bytes .kept, w .put-bytes .ensures .ends))
 
 put-lines-requires : tie.Need-put-lines-requires
 put-lines-requires c κs =
     let v = c .before .before .before in
     let w = v .before .before .before .before in
     let s = w .before .before .before .before .before .before in
-    let e₁ = w .put-text .ensures .ends in
+    let e₁ = w .put-bytes .ensures .ends in
     let e₂ = number-ends _ _ (v .put-number .ensures) in
-    (s .pre .0, omega (arith, s .pre .0 .few, s .pre .1, w .put-text .kept, v .put-number .kept))
+    (s .pre .0, omega (arith, s .pre .0 .few, s .pre .1, w .put-bytes .kept, v .put-number .kept))
 
 returns : tie.Need-returns
 unfolding text
@@ -34,7 +34,7 @@ returns c =
     let x = c .before .before in
     let v = x .before .before .before .before in
     let w = v .before .before .before .before in
-    symbols-parts _ _ _ (w .put-text .ensures) (v .put-number .ensures) (x .put-lines .ensures)
+    symbols-parts _ _ _ (w .put-bytes .ensures) (v .put-number .ensures) (x .put-lines .ensures)
 
 pub put-symbols-spec : {M : Type 1} → statement M
 put-symbols-spec =

@@ -3,12 +3,14 @@ use Prim.Native.Nat.{_+_, _-_, _≤_}
 use mathlib.Core.Path.{_≡_, refl, sym, _∙_}
 use native.Mathlib.Omega.{arith}
 use lib.ListN.{length, drop, length-take}
+use Rattle.model.specs.Bytes.{put32}
 use Rattle.model.specs.Binding.{argsOf}
 use Rattle.model.specs.Materialize.{argLit}
 use Rattle.shape.specs.Args.{Left}
 use Rattle.shape.proofs.Args.{left-first, turn-id, turn-stands, turn-next}
-use Rattle.writer.specs.Over.{over}
-use Rattle.serialise.proofs.Args.{turn-over, args-start, args-end, left-end}
+use Rattle.output.proofs.Wrote.{wrote-part}
+use Rattle.output.specs.Output.{over}
+use Rattle.serialise.proofs.Args.{lit-length, turn-over, args-start, args-end, left-end}
 use Rattle.serialise.proofs.put_args.Statement.{statement}
 use Rattle.serialise.proofs.put_args.Tie as tie
 
@@ -45,31 +47,33 @@ put-32-requires c κs =
     let l = c .before .before .before .loop in
     omega (arith, l .inv .3, turn-id (c .before .before .loop-test .taken) (l .inv .4))
 
-add-put-part : tie.Need-add-put-part Inv-loop μ-loop
-add-put-part c =
+add-put-bytes : tie.Need-add-put-bytes Inv-loop μ-loop
+add-put-bytes c =
     let l = c .before .before .before .before .before .before .before .loop in
     omega (arith, l .inv .3, turn-id (c .before .before .before .before .before .before .loop-test .taken) (l .inv .4))
 
-sub-put-part : tie.Need-sub-put-part Inv-loop μ-loop
-sub-put-part c = omega (arith, c .before .before .before .before .before .arg-end .ensures .is)
+sub-put-bytes : tie.Need-sub-put-bytes Inv-loop μ-loop
+sub-put-bytes c = omega (arith, c .before .before .before .before .before .arg-end .ensures .is)
 
-part-put-part-start : tie.Need-part-put-part-start Inv-loop μ-loop
-part-put-part-start c = omega (arith, c .before .before .before .before .before .arg-end .ensures .is)
+part-put-bytes-start : tie.Need-part-put-bytes-start Inv-loop μ-loop
+part-put-bytes-start c = omega (arith, c .before .before .before .before .before .arg-end .ensures .is)
 
-part-put-part-end : tie.Need-part-put-part-end Inv-loop μ-loop
-part-put-part-end c = omega (arith, c .before .before .before .before .before .arg-end .ensures .within)
+part-put-bytes-end : tie.Need-part-put-bytes-end Inv-loop μ-loop
+part-put-bytes-end c = omega (arith, c .before .before .before .before .before .arg-end .ensures .within)
 
-put-part-requires : tie.Need-put-part-requires Inv-loop μ-loop
-put-part-requires c κs =
+put-bytes-requires : tie.Need-put-bytes-requires Inv-loop μ-loop
+unfolding put32
+put-bytes-requires c κs =
     let f = c .before .before .before .before .before .before in
     let l = f .before .before .loop in
     let e = f .arg-end in
     let w = c .before .before .before .before .put-32 in
     let lit = f .before .before .before .before .before .args .lit .now in
     let t = length-take (e .result - (l .place + 4)) (drop (l .place + 4) lit) in
-    omega (arith, l .inv .3, w .kept .0, w .ensures .0, e .ensures .is, e .ensures .within)
+    omega (arith, l .inv .3, w .kept .0, w .ensures .ends, e .ensures .is, e .ensures .within)
 
 loop-again : tie.Need-loop-again Inv-loop μ-loop
+unfolding put32
 loop-again c =
     let f = c .before .before .before .before .before .before .before .before .before in
     let a = f .before .before .before .before .before .args in
@@ -77,14 +81,14 @@ loop-again c =
     let h = f .before .loop-test .taken in
     let e = f .arg-end .ensures in
     let w = c .before .before .before .before .before .before .before .put-32 in
-    let v = c .before .before .put-part in (
+    let v = c .before .before .put-bytes in (
       omega arith,
       omega arith,
       e .within,
       v .kept .0 ∙ (w .kept .0 ∙ l .inv .3),
       turn-next h (l .inv .4) e,
       turn-over h (l .inv .4) e (l .id) (a .at) (w .result) (l .out) (w .last .0) (v .last .0)
-          (w .ensures .0) (omega arith) (w .ensures .1) (v .ensures .1) ∙ l .inv .5,
+          (w .ensures .ends) (omega arith) (w .ensures .holds) (v .ensures .holds) ∙ l .inv .5,
     )
 
 same-length : tie.Need-same-length Inv-loop μ-loop
@@ -92,14 +96,17 @@ same-length c = c .before .loop .inv .3
 
 returns : tie.Need-returns Inv-loop μ-loop
 returns c =
-    let a = c .before .before .before .before .args in
+    let s = c .before .before .before .before in
+    let a = s .args in
     let l = c .before .loop in
     let h : a .n ≤ l .j = omega arith in
+    let e = left-end (a .lit .now) (a .n) (l .j) (l .place) h (l .inv .4) in
     let done = args-end (a .lit .now) (a .n) (l .j) (l .place) h (l .out) (a .at + l .place) (l .id) in
-    (omega (arith, left-end (a .lit .now) (a .n) (l .j) (l .place) h (l .inv .4)), sym done ∙ l .inv .5)
+    let m = lit-length (a .n) (a .lit .now) 0 (a .last) (record { is = s .pre .0 }) (omega arith) in
+    wrote-part (omega (arith, s .pre)) (omega arith) (sym done ∙ l .inv .5)
 
 pub put-args-spec : {M : Type 1} → statement M
 put-args-spec =
     tie.close (tie.spec Inv-loop μ-loop loop-holds arg-end-requires (λ c. omega arith) add-put-32 put-32-requires
-    add-put-part sub-put-part part-put-part-start part-put-part-end put-part-requires (λ c. omega arith)
+    add-put-bytes sub-put-bytes part-put-bytes-start part-put-bytes-end put-bytes-requires (λ c. omega arith)
     (λ c. omega arith) loop-again (λ c. omega arith) same-length returns)

@@ -5,9 +5,10 @@ use mathlib.Core.List.{List}
 use native.Mathlib.Omega.{arith}
 use lib.ListN.{length}
 use Rattle.model.specs.Tree.{Row, bodies}
-use Rattle.writer.specs.Over.{over}
+use Rattle.output.specs.Output.{over}
 use Rattle.laws.specs.Rows.{total}
-use Rattle.serialise.specs.Serialise.{AllWritable, plannedRows}
+use Rattle.laws.proofs.Lengths.{row-length}
+use Rattle.plan.specs.Plan.{rowFor, AllWritable, plannedRows}
 use Rattle.serialise.proofs.Rows.{left, leftRows, writable-all, rows-all, next-row}
 use Rattle.serialise.proofs.Rows.{total-none, bodies-none, bodies-turn}
 use Rattle.serialise.proofs.put_bodies.Statement.{statement}
@@ -55,7 +56,7 @@ loop-again c =
       omega arith,
       w .kept .1 .0 ∙ l .inv .1,
       x .after,
-      omega (arith, w .ensures .ends, l .inv .3, x .adds),
+      omega (arith, w .ensures .ends, row-length (rowFor (a .forest .now) (p .result)), l .inv .3, x .adds),
       turn (omega arith) (p .ensures) (l .out) (w .last .1 .0) (l .place) (w .result)
           (omega (arith, s .pre, l .inv .1, l .inv .3)) (w .ensures) ∙ l .inv .4,
     )

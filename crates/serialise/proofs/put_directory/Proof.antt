@@ -4,10 +4,11 @@ use mathlib.Core.Path.{_≡_, refl, sym, ap, _∙_}
 use mathlib.Core.List.{List}
 use native.Mathlib.Omega.{arith}
 use lib.ListN.{length}
+use Rattle.model.specs.Bytes.{put16}
 use Rattle.model.specs.Tree.{Row, directory}
-use Rattle.writer.specs.Over.{over}
+use Rattle.output.specs.Output.{over}
 use Rattle.laws.specs.Rows.{total}
-use Rattle.serialise.specs.Serialise.{AllWritable, plannedRows}
+use Rattle.plan.specs.Plan.{AllWritable, plannedRows}
 use Rattle.serialise.proofs.Rows.{left, leftRows, writable-all, rows-all, next-row}
 use Rattle.serialise.proofs.Rows.{directory-none, directory-turn}
 use Rattle.serialise.proofs.put_directory.Statement.{statement}
@@ -50,14 +51,16 @@ put-16-requires c κs =
     (omega (arith, l .inv .1, s .pre), omega (arith, l .inv .3, s .pre))
 
 put-16-requires-2 : tie.Need-put-16-requires-2 Inv-loop μ-loop
+unfolding put16
 put-16-requires-2 c κs =
     let f = c .before .before .before .before .before in
     let q = f .before .before .before .before .before .before .before .pre in
     let l = f .before .before .before .loop in
     let w = c .before .before .before .put-16 in
-    (omega (arith, l .inv .1, q, w .kept .0, w .ensures .0), f .row-len .ensures .1)
+    (omega (arith, l .inv .1, q, w .kept .0, w .ensures .ends), f .row-len .ensures .1)
 
 loop-again : tie.Need-loop-again Inv-loop μ-loop
+unfolding put16
 loop-again c =
     let f = c .before .before .before .before .before .before .before .before in
     let s = f .before .before .before .before .before .before .before in
@@ -75,7 +78,7 @@ loop-again c =
       x .after,
       omega (arith, z .ensures .0, l .inv .3),
       turn (omega arith) (p .ensures) (l .out) (w .last .0) (v .last .0) (l .offset) (z .result) (w .result)
-          (z .ensures .0) (w .ensures .0) (omega (arith, s .pre, l .inv .1)) (w .ensures .1) (v .ensures .1)
+          (z .ensures .0) (w .ensures .ends) (omega (arith, s .pre, l .inv .1)) (w .ensures .holds) (v .ensures .holds)
           ∙ l .inv .4,
     )
 

@@ -4,7 +4,9 @@ use native.Mathlib.Omega.{arith}
 use borrow.Author.Needs.{needs}
 use lib.ListN.{length}
 use denote.Ref.{now}
+use Rattle.model.specs.Bytes.{put16}
 use Rattle.model.specs.Tree.{rowLen}
+use Rattle.writer.specs.Writer.{fixed}
 use Rattle.serialise.proofs.Rows.{lambda-put}
 use Rattle.serialise.proofs.put_lambda.Statement.{statement}
 use Rattle.serialise.proofs.put_lambda.Tie as tie
@@ -14,7 +16,7 @@ unfolding rowLen
 put-fixed-requires c κs = omega (arith, c .before .before .before .before .before .pre)
 
 put-args-requires : tie.Need-put-args-requires
-unfolding rowLen
+unfolding rowLen fixed put16
 put-args-requires c κs =
     let s = c .before .before .before .before .before .before .before .before .before in
     let a = c .before .before .before .before .before .before .aux .ensures in
@@ -22,7 +24,7 @@ put-args-requires c κs =
     let w = c .before .before .before .put-fixed in
     let r = s .pre .1 .1 .0 in
     let fit = s .pre .1 .1 .1 in
-    (rw (a, l) (r .args), (omega (arith, fit, w .ensures .0, w .kept .0, ap length l), omega (arith, a, r .fit)))
+    (rw (a, l) (r .args), (omega (arith, fit, w .ensures .ends, w .kept .0, ap length l), omega (arith, a, r .fit)))
 
 returns : tie.Need-returns
 returns c =
@@ -30,8 +32,8 @@ returns c =
     let s = f .before .before .before .before in
     let w = c .before .before .before .before .before .before .put-fixed .ensures in
     let v = c .before .before .put-args .ensures in
-    lambda-put (now (s .args .forest)) (s .args .i) (s .args .last) (s .pre .1 .1 .0) (s .pre .1 .1 .1)
-    (f .before .aux .ensures) (f .literal .ensures) (w .0) (w .1) (v .0) (v .1)
+    lambda-put (now (s .args .forest)) (s .args .i) (s .args .last) (f .before .aux .ensures)
+    (f .literal .ensures) w v
 
 pub put-lambda-spec : {M : Type 1} → statement M
 put-lambda-spec =

@@ -7,11 +7,11 @@ use borrow.Author.Needs.{needs}
 use lib.ListN.{length}
 use denote.Ref.{now}
 use Rattle.model.specs.Bytes.{put32}
-use Rattle.model.specs.Tree.{Row, rowLen}
+use Rattle.model.specs.Tree.{Row, rowBytes, rowLen}
 use Rattle.plan.specs.declared.Planned.{Planned}
-use Rattle.plan.specs.Plan.{rowFor}
-use Rattle.writer.specs.Over.{Put}
-use Rattle.serialise.specs.Serialise.{Writable}
+use Rattle.plan.specs.Plan.{rowFor, Writable}
+use Rattle.output.specs.Output.{Wrote}
+use Rattle.output.proofs.Wrote.{wrote-as}
 use Rattle.serialise.proofs.Rows.{lambda-length, field-row}
 use Rattle.serialise.proofs.put_row.Statement.{statement}
 use Rattle.serialise.proofs.put_row.Tie as tie
@@ -21,8 +21,9 @@ module _ (bs out : List ℕ) (at : ℕ) {p q : Planned} (e : p ≡ q) where
   room : at + rowLen (rowFor bs p) ≤ length out → at + rowLen (rowFor bs q) ≤ length out
   room = subst (λ (z : Planned). at + rowLen (rowFor bs z) ≤ length out) e
 
-  as-row : {r : Row} {o : List ℕ} {next : ℕ} → rowFor bs q ≡ r → Put out at r o next → Put out at (rowFor bs p) o next
-  as-row {o = o} {next = next} f = subst (λ (z : Row). Put out at z o next) (sym (ap (rowFor bs) e ∙ f))
+  as-row : {r : Row} {o : List ℕ} {next : ℕ} → rowFor bs q ≡ r → Wrote out at (rowBytes r) o next
+      → Wrote out at (rowBytes (rowFor bs p)) o next
+  as-row f = wrote-as (ap rowBytes (sym (ap (rowFor bs) e ∙ f)))
 
 put-copy-requires : tie.Need-put-copy-requires
 put-copy-requires c κs =

@@ -8,8 +8,7 @@ use denote.Ref.{now}
 use Rattle.model.specs.Bytes.{put32}
 use Rattle.model.specs.Tree.{rowLen}
 use Rattle.plan.specs.declared.Planned.{Planned}
-use Rattle.plan.specs.Plan.{rowFor}
-use Rattle.serialise.specs.Serialise.{Writable}
+use Rattle.plan.specs.Plan.{rowFor, Writable}
 use Rattle.serialise.proofs.Rows.{lambda-length}
 use Rattle.serialise.proofs.row_len.Statement.{statement}
 use Rattle.serialise.proofs.row_len.Tie as tie

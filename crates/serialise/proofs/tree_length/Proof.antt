@@ -5,7 +5,7 @@ use mathlib.Core.List.{List}
 use native.Mathlib.Omega.{arith}
 use Rattle.model.specs.Tree.{Row}
 use Rattle.laws.specs.Rows.{total}
-use Rattle.serialise.specs.Serialise.{AllWritable, plannedRows}
+use Rattle.plan.specs.Plan.{AllWritable, plannedRows}
 use Rattle.serialise.proofs.Rows.{left, leftRows, writable-all, rows-all, total-none, next-row, tree-length}
 use Rattle.serialise.proofs.tree_length.Statement.{statement}
 use Rattle.serialise.proofs.tree_length.Tie as tie

@@ -5,12 +5,12 @@ use borrow.Author.Needs.{needs}
 use borrow.Fn.Kinds.{In}
 use borrow.Fn.PlainCycle.{Measures, is, falls, and}
 use Rattle.text.proofs.Numbers.{numeral-one, numeral-least, numeral-more, numeral-before}
-use Rattle.text.proofs.Wrote.{wrote-as, wrote-then}
+use Rattle.output.proofs.Wrote.{wrote-as, wrote-then}
 use Rattle.text.proofs.put_decimal.Reads as put-decimal
 use Rattle.text.proofs.put_decimal.Kinds as put-decimal-kinds
 use Rattle.text.proofs.+put_decimal.Lts-put_decimal as put-decimal-lts
 use Rattle.text.proofs.digit.Reads as digit-reads
-use Rattle.text.proofs.put_one.Reads as put-one-reads
+use Rattle.output.proofs.put_byte.Reads as put-byte-reads
 use Rattle.text.proofs.+put_decimal.{statement}
 use Rattle.text.proofs.+put_decimal.Tie.{close}
 
@@ -27,8 +27,8 @@ pub +put-decimal-spec : {M : Type 1} → statement M
 +put-decimal-spec = close μ-put-decimal (λ t. put-decimal-lts.spec (
   digit-reads.Asked,
   digit-reads.Learnt,
-  put-one-reads.Asked,
-  put-one-reads.Learnt,
+  put-byte-reads.Asked,
+  put-byte-reads.Learnt,
   put-decimal-below t,
   put-decimal.Post,
 )
@@ -41,7 +41,7 @@ pub +put-decimal-spec : {M : Type 1} → statement M
     (λ c. search needs)
     (λ c. let d = c .before .before .before in
     let i = d .before .before in
-    wrote-as (numeral-one _ _ (i .if1 .taken) (d .digit .ensures)) (c .before .before .put-one .ensures))
+    wrote-as (numeral-one _ _ (i .if1 .taken) (d .digit .ensures)) (c .before .before .put-byte .ensures))
     (λ c κs. let i = c .before in
     let s = i .before .before in
     let e = numeral-before (s .args .n) (i .if1 .left) (omega (arith, s .fits .n)) in
@@ -57,4 +57,4 @@ pub +put-decimal-spec : {M : Type 1} → statement M
     let w = d .before .before .before .before in
     let i = w .before .before in
     wrote-as (numeral-more _ _ (i .if1 .left) (omega (arith, i .before .before .fits .n)) (d .digit2 .ensures))
-    (wrote-then (w .put-decimal .ensures) (c .before .before .put-one2 .ensures))))
+    (wrote-then (w .put-decimal .ensures) (c .before .before .put-byte2 .ensures))))

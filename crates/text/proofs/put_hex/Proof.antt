@@ -4,7 +4,7 @@ use mathlib.Core.List.{[], _∷_}
 use Prim.Native.Nat.{ℕ}
 use borrow.Author.Needs.{needs}
 use Rattle.model.specs.Lister.{hexByte}
-use Rattle.text.proofs.Wrote.{wrote-as}
+use Rattle.output.proofs.Wrote.{wrote-as}
 use Rattle.text.proofs.put_hex.Statement.{statement}
 use Rattle.text.proofs.put_hex.Tie as tie
 

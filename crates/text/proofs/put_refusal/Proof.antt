@@ -14,17 +14,17 @@ unfolding text
 put-decimal-requires c κs =
     let w = c .before .before .before in
     let s = w .before .before .before .before in
-    let room = room-1 (s .args .number) (s .args .place) (s .pre) (w .put-text .ensures) in
+    let room = room-1 (s .args .number) (s .args .place) (s .pre) (w .put-bytes .ensures) in
     omega (arith, room, numeral-length (s .args .number))
 
-put-text-requires-2 : tie.Need-put-text-requires-2
+put-bytes-requires-2 : tie.Need-put-bytes-requires-2
 unfolding text
-put-text-requires-2 c κs =
+put-bytes-requires-2 c κs =
     let v = c .before .before .before .before in
     let w = v .before .before .before .before in
     let s = w .before .before .before .before in
     let a = s .args in
-    omega (arith, room-2 (a .number) (a .place) (s .pre) (w .put-text .ensures) (v .put-decimal .ensures))
+    omega (arith, room-2 (a .number) (a .place) (s .pre) (w .put-bytes .ensures) (v .put-decimal .ensures))
 
 put-decimal-requires-2 : tie.Need-put-decimal-requires-2
 unfolding text
@@ -34,19 +34,19 @@ put-decimal-requires-2 c κs =
     let w = v .before .before .before .before in
     let s = w .before .before .before .before in
     let a = s .args in
-    let room = room-3 (a .number) (a .place) (s .pre) (w .put-text .ensures) (v .put-decimal .ensures)
-    (x .put-text2 .ensures) in
+    let room = room-3 (a .number) (a .place) (s .pre) (w .put-bytes .ensures) (v .put-decimal .ensures)
+    (x .put-bytes2 .ensures) in
     omega (arith, room, numeral-length (a .place))
 
-put-one-requires : tie.Need-put-one-requires
+put-byte-requires : tie.Need-put-byte-requires
 unfolding text
-put-one-requires c κs =
+put-byte-requires c κs =
     let z = c .before .before .before in
     let x = z .before .before .before .before in
     let v = x .before .before .before .before .before in
     let w = v .before .before .before .before in
-    room-4 _ _ (w .before .before .before .before .pre) (w .put-text .ensures) (v .put-decimal .ensures)
-    (x .put-text2 .ensures) (z .put-decimal2 .ensures)
+    room-4 _ _ (w .before .before .before .before .pre) (w .put-bytes .ensures) (v .put-decimal .ensures)
+    (x .put-bytes2 .ensures) (z .put-decimal2 .ensures)
 
 returns : tie.Need-returns
 unfolding text
@@ -56,10 +56,10 @@ returns c =
     let x = z .before .before .before .before in
     let v = x .before .before .before .before .before in
     let w = v .before .before .before .before in
-    refusal-parts _ _ (w .before .before .before .before .pre) (w .put-text .ensures) (v .put-decimal .ensures)
-    (x .put-text2 .ensures) (z .put-decimal2 .ensures) (y .put-one .ensures)
+    refusal-parts _ _ (w .before .before .before .before .pre) (w .put-bytes .ensures) (v .put-decimal .ensures)
+    (x .put-bytes2 .ensures) (z .put-decimal2 .ensures) (y .put-byte .ensures)
 
 pub put-refusal-spec : {M : Type 1} → statement M
 put-refusal-spec =
     tie.close (tie.spec (λ c. search needs) (λ c κs. search needs) put-decimal-requires (λ c. search needs)
-    put-text-requires-2 put-decimal-requires-2 put-one-requires (λ c. search needs) returns)
+    put-bytes-requires-2 put-decimal-requires-2 put-byte-requires (λ c. search needs) returns)

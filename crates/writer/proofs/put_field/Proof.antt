@@ -1,20 +1,20 @@
 -- `writer::put_field` meets its contract. Assumes nothing.
 use borrow.Author.Needs.{needs}
-use native.Mathlib.Omega.{arith}
 use Rattle.model.specs.Bytes.{put16}
-use Rattle.model.specs.Tree.{rowBytes, rowLen}
+use Rattle.model.specs.Tree.{rowBytes}
 use Rattle.plan.specs.Plan.{rowFor}
-use Rattle.writer.specs.Over.{fixed}
-use Rattle.writer.proofs.Over.{over-then}
+use Rattle.writer.specs.Writer.{fixed}
+use Rattle.output.proofs.Wrote.{wrote-then}
 use Rattle.writer.proofs.put_field.Statement.{statement}
 use Rattle.writer.proofs.put_field.Tie as tie
 
 returns : tie.Need-returns
-unfolding rowFor rowBytes rowLen fixed put16
+unfolding rowFor rowBytes fixed put16
 returns c =
     let x = c .before .before .before .before .before .before .put-fixed .ensures in
     let y = c .before .before .put-byte .ensures in
-    record { ends = omega arith; holds = over-then _ _ _ _ _ _ _ (x .1) (y .1) (x .0) (omega arith) }
+    wrote-then x y
 
 pub put-field-spec : {M : Type 1} → statement M
+unfolding fixed put16
 put-field-spec = tie.close (tie.spec (λ c κs. search needs) (λ c κs. search needs) (λ c. search needs) returns)

@@ -23,7 +23,7 @@ use Rattle.intern.proofs.+field+in_thunk+lambda+operands+subtree.Lts-op
 use Rattle.bindings.proofs.bind_def.Reads as bind-def-reads
 use Rattle.intern.proofs.small.child_at.Reads as child-at-reads
 use Rattle.intern.proofs.small.failed.Reads as failed-reads
-use Rattle.graph.proofs.is_thunked.Reads as thunked-reads
+use Rattle.shape.proofs.is_thunked.Reads as thunked-reads
 use Rattle.intern.proofs.small.unread.Reads as unread-reads
 use Rattle.intern.proofs.small.with_child.Reads as with-child-reads
 use Rattle.intern.proofs.+field+in_thunk+lambda+operands+subtree.Proof.Measures.{weight-between, weight-thunked}

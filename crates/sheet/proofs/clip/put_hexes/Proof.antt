@@ -4,7 +4,7 @@ use mathlib.Core.Path.{ap}
 use native.Mathlib.Omega.{arith}
 use lib.ListN.{length, take}
 use lib.Seq.{take-all}
-use Rattle.text.proofs.Wrote.{wrote-length}
+use Rattle.output.proofs.Wrote.{wrote-length}
 use Rattle.sheet.specs.Clip.{Clipped, hexBytes}
 use Rattle.sheet.proofs.Clipping.{clipped-as, hex-start, hex-turn}
 use Rattle.sheet.proofs.clip.put_hexes.Statement.{statement}

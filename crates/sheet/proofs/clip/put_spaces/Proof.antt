@@ -3,7 +3,7 @@ use Prim.Native.Nat.{ℕ, _≤_, _-_}
 use mathlib.Core.Path.{_≡_, ap}
 use native.Mathlib.Omega.{arith}
 use lib.ListN.{replicate}
-use Rattle.text.proofs.Wrote.{wrote-length}
+use Rattle.output.proofs.Wrote.{wrote-length}
 use Rattle.sheet.specs.Clip.{Clipped}
 use Rattle.sheet.proofs.Clipping.{clipped-none, clipped-as, spaces-turn}
 use Rattle.sheet.proofs.clip.put_spaces.Statement.{statement}

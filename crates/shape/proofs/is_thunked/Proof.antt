@@ -1,7 +1,7 @@
--- `graph::is_thunked` meets its contract. Assumes nothing.
-use Rattle.graph.proofs.Laws.{thunk-eager, thunk-first, thunk-second, thunk-and, thunk-or, thunk-none}
-use Rattle.graph.proofs.is_thunked.Statement.{statement}
-use Rattle.graph.proofs.is_thunked.Tie as tie
+-- `shape::is_thunked` meets its contract. Assumes nothing.
+use Rattle.shape.proofs.Thunks.{thunk-eager, thunk-first, thunk-second, thunk-and, thunk-or, thunk-none}
+use Rattle.shape.proofs.is_thunked.Statement.{statement}
+use Rattle.shape.proofs.is_thunked.Tie as tie
 
 pub is-thunked-spec : {M : Type 1} → statement M
 is-thunked-spec =

@@ -1,12 +1,13 @@
--- `writer::put_32` meets its contract. Assumes nothing.
+-- `output::put_32` meets its contract. Assumes nothing.
 use borrow.Author.Needs.{needs}
 use mathlib.Core.Path.{refl}
 use native.Mathlib.Omega.{arith}
 use lib.ListN.{length-set}
 use Rattle.model.specs.Bytes.{put32}
-use Rattle.writer.proofs.Over.{set4-over}
-use Rattle.writer.proofs.put_32.Statement.{statement}
-use Rattle.writer.proofs.put_32.Tie as tie
+use Rattle.output.proofs.Over.{set4-over}
+use Rattle.output.proofs.Wrote.{wrote-part}
+use Rattle.output.proofs.put_32.Statement.{statement}
+use Rattle.output.proofs.put_32.Tie as tie
 
 slice-write-out-2 : tie.Need-slice-write-out-2
 slice-write-out-2 c = simp length-set (omega arith)
@@ -19,7 +20,7 @@ slice-write-out-4 c = simp length-set (omega arith)
 
 returns : tie.Need-returns
 unfolding put32
-returns c = (refl, set4-over (c .args .out .now) (c .args .at) _ _ _ _ (c .pre))
+returns c = wrote-part (omega arith) refl (set4-over (c .args .out .now) (c .args .at) _ _ _ _ (c .pre))
 
 pub put-32-spec : {M : Type 1} → statement M
 put-32-spec =

@@ -1,21 +1,19 @@
--- Laws of `Wrote`. In order: nothing; what the writer's functions wrote; the room left; one part after another.
+-- Laws of `Wrote`. In order: nothing; from its parts; the room left; one part after another.
 -- Assumes nothing.
 use Prim.Native.Nat.{ℕ, _+_, _≤_}
 use mathlib.Core.Path.{_≡_, sym, ap, _∙_, subst}
 use mathlib.Core.List.{List, [], _++_, append-assoc}
 use native.Mathlib.Omega.{arith}
 use lib.ListN.{length, length-append}
-use Rattle.writer.specs.Over.{over}
-use Rattle.writer.proofs.Over.{over-nil, over-length, over-then}
-use Rattle.text.specs.Text.{Wrote}
+use Rattle.output.specs.Output.{over, Wrote}
+use Rattle.output.proofs.Over.{over-nil, over-length, over-then}
 
 pub wrote-none : (out : List ℕ) (at : ℕ) → at ≤ length out → Wrote out at [] out at
 wrote-none out at h = record { ends = omega arith; fits = h; holds = sym (over-nil out at) }
 
--- as the writer's contracts say it
 pub wrote-part : {out : List ℕ} {at : ℕ} {bytes out′ : List ℕ} {next : ℕ} → at + length bytes ≤ length out →
-    (next ≡ at + length bytes) × (out′ ≡ over out at bytes) → Wrote out at bytes out′ next
-wrote-part h e = record { ends = e .0; fits = omega arith; holds = e .1 }
+    next ≡ at + length bytes → out′ ≡ over out at bytes → Wrote out at bytes out′ next
+wrote-part h e f = record { ends = e; fits = omega arith; holds = f }
 
 -- the same bytes
 pub wrote-as : {out : List ℕ} {at : ℕ} {bytes bytes′ out′ : List ℕ} {next : ℕ} → bytes ≡ bytes′ →

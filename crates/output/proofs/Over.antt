@@ -7,7 +7,7 @@ use native.Mathlib.Omega.{arith}
 use native.Mathlib.Numerals.{add-one}
 use lib.ListN.{length, take, drop, set, length-append, take-append-drop, length-drop}
 use lib.Seq.{length-take-le, sets-eq, take-length, paste, take-at, drop-at, drop-drop}
-use Rattle.writer.specs.Over.{over}
+use Rattle.output.specs.Output.{over}
 
 -- from the start on: the bytes, and what stood past them
 pub over-front : (out bytes : List ℕ) → over out 0 bytes ≡ bytes ++ drop (length bytes) out

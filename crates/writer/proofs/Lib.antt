@@ -1,2 +1,0 @@
--- Laws that the proofs of the functions cite, and those of other crates. Assumes nothing.
-pub mod Over
