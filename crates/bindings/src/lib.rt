@@ -1,5 +1,6 @@
 // Ids in force with their symbols, in work words: two words to an entry, the newest entry last.
 // In order: the symbol of an id; one more entry; what a lambda and a definition bind.
+use regions::BINDINGS;
 ghost use mathlib.Core.Path.{_≡_};
 ghost use Prim.Native.Nat.{_+_, _*_, _<_, _≤_};
 ghost use lib.ListN.{length};
@@ -9,6 +10,7 @@ ghost use Rattle.model.specs.Intern.{resolve};
 ghost use Rattle.laws.specs.Range.{range};
 ghost use Rattle.shape.specs.Args.{Left};
 ghost use Rattle.walk.specs.Walk.{recAt, Sound};
+ghost use Rattle.regions.specs.Regions.{WORDS};
 ghost use Rattle.bindings.specs.Bindings.{envOf, bound, pairsOf, boundAll};
 ghost use Rattle.bindings.specs.Made.{ArgsBound, DefBound};
 
@@ -20,8 +22,8 @@ pub fn resolve(work: &[u32], n: usize, id: u32) -> u32
     let mut k = n;
     while 0 < k {
         k -= 1;
-        if work[8456 + 2 * k] == id {
-            return work[8456 + 2 * k + 1];
+        if work[BINDINGS + 2 * k] == id {
+            return work[BINDINGS + 2 * k + 1];
         }
     }
     0
@@ -33,8 +35,8 @@ pub fn bind(work: &mut [u32], k: usize, id: u32, symbol: u32)
     requires { ⌜ 8456 + 2 * k + 1 < length (now work) ⌝ }
     ensures { λ _. ⌜ now (work .exit) ≡ bound (now (work .entry)) k id symbol ⌝ }
 {
-    work[8456 + 2 * k] = id;
-    work[8456 + 2 * k + 1] = symbol;
+    work[BINDINGS + 2 * k] = id;
+    work[BINDINGS + 2 * k + 1] = symbol;
 }
 
 // ---- what a lambda and a definition bind
@@ -42,7 +44,7 @@ pub fn bind(work: &mut [u32], k: usize, id: u32, symbol: u32)
 // Binds the n arguments of a literal to the symbols from `first` on, above top entries.
 fn bind_all(lit: &[u8], work: &mut [u32], n: usize, top: usize, first: u32)
     requires { ⌜ Left n (now lit) 0 ⌝ }
-    requires { ⌜ (n ≤ 15) × (top + n ≤ 1200) × (10856 ≤ length (now work)) × (first ≤ 512) ⌝ }
+    requires { ⌜ (n ≤ 15) × (top + n ≤ 1200) × (WORDS ≤ length (now work)) × (first ≤ 512) ⌝ }
     ensures { λ _. ⌜ now (work .exit)
         ≡ boundAll (now (work .entry)) top (pairsOf (argsOf n (now (lit .entry))) (range first n)) ⌝ }
 {
@@ -63,7 +65,7 @@ fn bind_all(lit: &[u8], work: &mut [u32], n: usize, top: usize, first: u32)
 pub fn bind_args(forest: &[u8], work: &mut [u32], i: usize, top: usize, first: u32) -> usize
     requires { ⌜ Sound (now forest) ⌝ }
     requires { ⌜ (i < recordCount (now forest)) × (recAt (now forest) i .shape ≡ 12) ⌝ }
-    requires { ⌜ (top + 15 ≤ 1200) × (10856 ≤ length (now work)) × (first ≤ 512) ⌝ }
+    requires { ⌜ (top + 15 ≤ 1200) × (WORDS ≤ length (now work)) × (first ≤ 512) ⌝ }
     ensures { λ r. ⌜ ArgsBound (now (forest .entry)) i top first (now (work .entry)) (now (work .exit)) r ⌝ }
 {
     let n = record::wide(record::aux(forest, i));
@@ -76,7 +78,7 @@ pub fn bind_args(forest: &[u8], work: &mut [u32], i: usize, top: usize, first: u
 // Rules out: a lambda's arguments bound; the symbol under another record's id.
 pub fn bind_def(forest: &[u8], work: &mut [u32], i: usize, top: usize, symbol: u32) -> usize
     requires { ⌜ Sound (now forest) ⌝ }
-    requires { ⌜ (i < recordCount (now forest)) × (top < 1200) × (10856 ≤ length (now work)) ⌝ }
+    requires { ⌜ (i < recordCount (now forest)) × (top < 1200) × (WORDS ≤ length (now work)) ⌝ }
     ensures { λ r. ⌜ DefBound (now (forest .entry)) i top symbol (now (work .entry)) (now (work .exit)) r ⌝ }
 {
     if record::shape(forest, i) != 10 {

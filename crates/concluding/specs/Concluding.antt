@@ -10,6 +10,7 @@ use lib.ListN.{length, getD, take}
 use Rattle.model.specs.Forest.{recordCount}
 use Rattle.model.specs.Intern.{unionDeps, symAt}
 use Rattle.record.specs.Record.{rowAt}
+use Rattle.regions.specs.Regions.{WORDS}
 use Rattle.key.specs.declared.Node.{Node}
 use Rattle.key.specs.declared.Node.the-variants.{Const, Unparsed, Op}
 use Rattle.key.specs.Key.{choose, partsOf, symbolAt}
@@ -69,7 +70,7 @@ readsAgain bs ws n i held =
 pub record Stored (bs ws : List ℕ) (s : ℕ) : Type 0 where
   pub few : s < 512
   pub from : partsOf (symbolAt ws s .node) .source < recordCount bs
-  pub words : 8456 ≤ length ws
+  pub words : WORDS ≤ length ws
 
 -- record i is a SelectField, and its input is pending at `held`
 pub record Input (bs ws : List ℕ) (i held : ℕ) : Type 0 where

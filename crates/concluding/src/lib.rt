@@ -6,7 +6,7 @@ use key::Func;
 use key::Leaf;
 use key::Node;
 use key::Operation;
-use symbols::PENDING;
+use regions::PENDING;
 use tables::Tables;
 ghost use mathlib.Core.Path.{_≡_};
 ghost use mathlib.Core.Bool.{false, _||_};
@@ -21,6 +21,7 @@ ghost use Rattle.model.specs.Intern.{finish, nodeOf, func, withOpts, internFiel
 ghost use Rattle.laws.specs.Range.{range};
 ghost use Rattle.record.specs.Record.{Laid, rowAt};
 ghost use Rattle.walk.specs.Walk.{Sound};
+ghost use Rattle.regions.specs.Regions.{WORDS};
 ghost use Rattle.tables.specs.Tables.{Open};
 ghost use Rattle.symbols.specs.Words.{pendingFrom};
 ghost use Rattle.symbols.specs.Symbols.{symsOf};
@@ -209,7 +210,7 @@ pub fn field(
 
 // The symbol of the last of `count` pending children. Rules out: that of a block's first definition; a new symbol.
 pub fn last(work: &[u32], st: State, held: usize, count: usize) -> Step
-    requires { ⌜ (0 < count) × (held + count ≤ 256) × (8456 ≤ length (now work)) ⌝ }
+    requires { ⌜ (0 < count) × (held + count ≤ 256) × (WORDS ≤ length (now work)) ⌝ }
     ensures { λ r. ⌜ r ≡ given st (last (pendingFrom (now (work .entry)) held count)) ⌝ }
 {
     interner::given(st, work[PENDING + held + count - 1])

@@ -16,6 +16,7 @@ ghost use Rattle.model.specs.Call.{treeOf, interned, written, numbers, outAfter
 ghost use Rattle.model.specs.Intern as intern;
 ghost use Rattle.model.specs.Demand3.{Demand3};
 ghost use Rattle.record.specs.Record.{Laid};
+ghost use Rattle.regions.specs.Regions.{WORDS};
 ghost use Rattle.tables.specs.Tables.{first};
 ghost use Rattle.interner.specs.State.{absOf, Rep};
 ghost use Rattle.cse.specs.Call.{five, numbersIn, Tells, measured, cleared, Unused, PlanOf, Ready, Planned};
@@ -99,7 +100,7 @@ fn planned(forest: &[u8], work: &mut [u32], st: State, root: usize) -> Plan
 // Rules out: 13 where interning meets 11; symbols or readings of the written tree instead of the forest's.
 fn accepted(forest: &[u8], out: &mut [u8], work: &mut [u32]) -> Answer
     requires { ⌜ accept (now forest) ≡ good (treesOf (now forest)) ⌝ }
-    requires { ⌜ 10856 ≤ length (now work) ⌝ }
+    requires { ⌜ WORDS ≤ length (now work) ⌝ }
     ensures { λ r. ⌜ Tells (written (now (forest .entry)) (length (now (out .entry)))) (now (out .entry)) r
         (now (out .exit)) ⌝ }
     ensures { λ r. ⌜ Unused (now (work .entry)) (now (work .exit)) ⌝ }
@@ -115,7 +116,7 @@ fn accepted(forest: &[u8], out: &mut [u8], work: &mut [u32]) -> Answer
 
 // Any forest, once the work words suffice. Rules out: a forest interned that a check refuses; another place.
 fn pass(forest: &[u8], out: &mut [u8], work: &mut [u32]) -> Answer
-    requires { ⌜ 10856 ≤ length (now work) ⌝ }
+    requires { ⌜ WORDS ≤ length (now work) ⌝ }
     ensures { λ r. ⌜ Tells (written (now (forest .entry)) (length (now (out .entry)))) (now (out .entry)) r
         (now (out .exit)) ⌝ }
     ensures { λ r. ⌜ Unused (now (work .entry)) (now (work .exit)) ⌝ }

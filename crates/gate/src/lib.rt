@@ -1,7 +1,7 @@
 // Usage and the gate (gate.rs): how often a symbol is used, and whether it may be hoisted. The count of symbol s is
 // word 8,456 + s, its mark word 8,968 + s.
 // In order: words cleared, uses noted; what is reached from the root, counted; all uses counted; the gate.
-use symbols::SLOTS;
+use regions::SLOTS;
 ghost use mathlib.Core.Path.{_≡_};
 ghost use Prim.Native.Nat.{ℕ, suc, _+_, _*_, _<_, _≤_};
 ghost use lib.ListN.{length};

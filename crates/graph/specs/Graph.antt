@@ -7,6 +7,7 @@ use mathlib.Core.List.{List}
 use lib.ListN.{length}
 use Rattle.model.specs.Gate.{Graph, symOf}
 use Rattle.model.specs.Schedule.{isArg, isOutside, relOf}
+use Rattle.regions.specs.Regions.{WORDS}
 use Rattle.key.specs.Key.{symbolAt}
 use Rattle.symbols.specs.Symbols.{symsOf, AllSound}
 use Rattle.scopes.specs.declared.Rel.{Rel}
@@ -18,7 +19,7 @@ use Rattle.scopes.specs.Relation.{relIn}
 -- n symbols and m scopes stand in the words
 pub record Arena (bs ws : List ℕ) (n m : ℕ) : Type 0 where
   pub few : n ≤ 512
-  pub words : 10856 ≤ length ws
+  pub words : WORDS ≤ length ws
   pub sound : AllSound bs ws 2560 n
   pub some-scope : 0 < m
   pub few-scopes : m ≤ 2049
@@ -28,7 +29,7 @@ pub record Arena (bs ws : List ℕ) (n m : ℕ) : Type 0 where
 -- what of this the scopes of symbols hang on
 pub record Scoped (ws : List ℕ) (n m : ℕ) : Type 0 where
   pub few : n ≤ 512
-  pub words : 10856 ≤ length ws
+  pub words : WORDS ≤ length ws
   pub few-scopes : m ≤ 2049
   pub nested : Nested ws m
   pub placed : (s : ℕ) → s < n → symbolAt ws s .scope < m

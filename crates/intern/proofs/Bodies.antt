@@ -20,6 +20,7 @@ use Rattle.record.specs.Record.{rowAt}
 use Rattle.shape.proofs.Fitting.{fits-func}
 use Rattle.walk.specs.Walk.{treesFrom, recAt, kidsAt, treeAt, Sound}
 use Rattle.walk.proofs.Bridge.{row-fits, records-few, kids-there}
+use Rattle.regions.specs.Regions.{WORDS}
 use Rattle.scopes.specs.Scopes.{scopeWord, levelOf, lambdaWord, withLambda}
 use Rattle.bindings.specs.Bindings.{envOf}
 use Rattle.bindings.specs.Made.{ArgsBound}
@@ -152,7 +153,7 @@ module _ (bs ws : List ℕ) (t : Tables) (st : State) (i : ℕ) (at : Here) (sou
       level-low : levelOf (scopeWord ws₁ (at .scope)) < 63
       level-low = omega (arith, ap levelOf scope-word, stands .level, deep)
 
-      pub enter-room : (10856 ≤ length ws₁) × (at .scope < made .st .scopes) × (made .st .scopes ≤ 2048) × (n ≤ 15)
+      pub enter-room : (WORDS ≤ length ws₁) × (at .scope < made .st .scopes) × (made .st .scopes ≤ 2048) × (n ≤ 15)
           × (levelOf (scopeWord ws₁ (at .scope)) < 63)
       enter-room = (b .rep .words, scope-low, scopes-few, omega (arith, en, fitting .1), level-low)
 
@@ -169,7 +170,7 @@ module _ (bs ws : List ℕ) (t : Tables) (st : State) (i : ℕ) (at : Here) (sou
         other : (k : ℕ) → (k ≡ 5120 + m → ⊥) → getD ws₂ k 0 ≡ getD ws₁ k 0
         other k h = rw opened (getD-set-other ws₁ (5120 + m) k (lambdaWord ws₁ (at .scope) first n) 0 h)
 
-        pub enter-bind : (at .top + 15 ≤ 1200) × (10856 ≤ length ws₂) × (first ≤ 512)
+        pub enter-bind : (at .top + 15 ≤ 1200) × (WORDS ≤ length ws₂) × (first ≤ 512)
         enter-bind = (
           omega (arith, stands .top, deep, lt, records-few bs sound),
           omega (arith, long, b .rep .words),

@@ -23,6 +23,7 @@ use Rattle.walk.specs.Walk.{Sound}
 use Rattle.walk.proofs.Bridge.{tree-count}
 use Rattle.walk.proofs.Walking.{trees-there, trees-whole}
 use Rattle.codec.proofs.Accepting.{Passed, accept-passed}
+use Rattle.regions.specs.Regions.{WORDS}
 use Rattle.symbols.specs.Words.{pendingFrom}
 use Rattle.scopes.specs.Scopes.{scopeWord, levelOf}
 use Rattle.bindings.specs.Bindings.{envOf}
@@ -159,7 +160,7 @@ module _ (bs ws : List ℕ) (accepted : accept bs ≡ good (treesOf bs)) where
         }
 
         module _ (ok : k .number ≡ 0) where
-          pub forest-last : (0 < count) × (0 + count ≤ 256) × (8456 ≤ length ws₂)
+          pub forest-last : (0 < count) × (0 + count ≤ 256) × (WORDS ≤ length ws₂)
           forest-last = (
             omega (arith, is, header-of bs (forest-sound .laid .header) .trees-least),
             v .pending ok,

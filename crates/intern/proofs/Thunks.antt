@@ -15,6 +15,7 @@ use Rattle.model.specs.Forest.{recordCount}
 use Rattle.model.specs.Intern.{Out, Env, openThunk, closeThunk, internScoped, intern}
 use Rattle.model.specs.Intern as intern
 use Rattle.walk.specs.Walk.{treeAt}
+use Rattle.regions.specs.Regions.{WORDS}
 use Rattle.scopes.specs.Scopes.{scopeWord, levelOf, thunkWord, withThunk}
 use Rattle.bindings.specs.Bindings.{envOf}
 use Rattle.bindings.proofs.Laws.{env-words}
@@ -90,7 +91,7 @@ module _ (bs ws : List ℕ) (t : Tables) (st : State) (i : ℕ) (at : Here) (lt 
   unfolding depth
   tables-room = omega (arith, h .room)
 
-  pub thunk-room : (10856 ≤ length ws) × (at .scope < st .scopes) × (st .scopes ≤ 2048) × (t .depth < 64)
+  pub thunk-room : (WORDS ≤ length ws) × (at .scope < st .scopes) × (st .scopes ≤ 2048) × (t .depth < 64)
       × (st .entries ≤ 512)
   thunk-room = (
     h .stands .rep .words,

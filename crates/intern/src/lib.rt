@@ -7,7 +7,7 @@ mod small;
 use concluding::Branches;
 use interner::State;
 use interner::Step;
-use symbols::PENDING;
+use regions::PENDING;
 use tables::Tables;
 ghost use mathlib.Core.Path.{_≡_};
 ghost use Prim.Native.Nat.{_<_, _≤_};
@@ -16,6 +16,7 @@ ghost use Rattle.model.specs.Answer.{good};
 ghost use Rattle.model.specs.Forest.{recordCount, treesOf};
 ghost use Rattle.model.specs.Accept.{accept};
 ghost use Rattle.walk.specs.Walk.{recAt, Sound};
+ghost use Rattle.regions.specs.Regions.{WORDS};
 ghost use Rattle.tables.specs.Tables.{Open};
 ghost use Rattle.interner.specs.State.{Rep};
 ghost use Rattle.concluding.specs.Concluding.{Branched};
@@ -331,7 +332,7 @@ fn in_thunk(forest: &[u8], work: &mut [u32], t: Tables, i: usize, at: Here, st: 
 // The root's symbol: the last tree is the root. Rules out: the first tree's symbol; words from 10,856 on changed.
 pub fn forest(forest: &[u8], work: &mut [u32]) -> Step
     requires { ⌜ accept (now forest) ≡ good (treesOf (now forest)) ⌝ }
-    requires { ⌜ 10856 ≤ length (now work) ⌝ }
+    requires { ⌜ WORDS ≤ length (now work) ⌝ }
     ensures { λ r. ⌜ Interned (now (forest .entry)) (now (work .entry)) (now (work .exit)) r ⌝ }
 {
     let st = interner::start(work);

@@ -160,4 +160,4 @@ module _ (bs ws : List ℕ) (st : State) (cur : ℕ) (node : Node) (held count :
   pub sought-entries : Entries bs ws (st .entries)
   sought-entries =
       entries-sound bs ws (st .slots) (st .symbols) (st .entries) (rep .sound) (rep .few-slots) (rep .few-symbols)
-      (omega (arith, rep .few-entries, rep .few-symbols)) (rep .below) (rep .marked)
+      (omega (arith, rep .few-entries, rep .few-symbols)) (rep .below) (rep .hinted)

@@ -178,7 +178,7 @@ module _ (bs ws : List ℕ) (st : State) (p : ℕ) (rep : Rep bs ws st) (low : p
           few-memo = omega (arith, memo-room);
           few-readings = old .few-readings;
           below = old .below;
-          marked = old .marked;
+          hinted = old .hinted;
           sound = old .sound;
           sourced = old .sourced;
           nested = old .nested;

@@ -27,7 +27,7 @@ use Rattle.symbols.proofs.Laws.{syms-length, made-length, made-before, made-bet
 use Rattle.symbols.proofs.Laws.{made-kids, sound-made}
 use Rattle.symbols.proofs.Words.{words-length}
 use Rattle.tables.specs.declared.Tables.{Tables}
-use Rattle.tables.specs.Tables.{mark, markOf, Open}
+use Rattle.tables.specs.Tables.{hint, hintOf, Open}
 use Rattle.tables.proofs.Stack.{tables-agree}
 use Rattle.scopes.specs.Scopes.{scopesOf, outward, Placed}
 use Rattle.scopes.proofs.Laws.{scopes-length}
@@ -151,8 +151,8 @@ module _ (bs ws : List ℕ) (st : State) (cur : ℕ) (node : Node) (held count l
       own = ap (λ (z : Symbol). z .levels) (made-symbol ws (st .symbols) held y room);
     }
 
-    marked-new : markOf bs ws₁ (st .symbols) ≡ mark (recOf bs node .opcode) (pendingFrom ws held count)
-    marked-new =
+    hinted-new : hintOf bs ws₁ (st .symbols) ≡ hint (recOf bs node .opcode) (pendingFrom ws held count)
+    hinted-new =
         rw (made-kids ws (st .symbols) held y room, made-symbol ws (st .symbols) held y room)
 
     deps-new : depsAt bs ws₁ (st .symbols) ≡ deps
@@ -204,7 +204,7 @@ module _ (bs ws : List ℕ) (st : State) (cur : ℕ) (node : Node) (held count l
       few-memo = rep .few-memo;
       few-readings = rep .few-readings;
       below = λ k lt. let h = old .below k lt in omega (arith, h);
-      marked = old .marked;
+      hinted = old .hinted;
       sound = rw (add-one (st .symbols))
           (sound-made ws (st .symbols) held y room bs (st .slots) (omega arith) (rep .sound) (fresh .from)
           (fresh .lower));
@@ -232,7 +232,7 @@ module _ (bs ws : List ℕ) (st : State) (cur : ℕ) (node : Node) (held count l
         more = omega arith;
       };
       stored = stored;
-      marked = marked-new;
+      hinted = hinted-new;
       is = abs-pushed;
     }
 

@@ -16,7 +16,7 @@ use Rattle.symbols.specs.Sourced.{AllSourced}
 use Rattle.symbols.proofs.Laws.{syms-agree, sound-agree}
 use Rattle.tables.specs.declared.Tables.{Tables}
 use Rattle.tables.specs.Tables.{Open}
-use Rattle.tables.proofs.Stack.{tables-agree, marked-agree}
+use Rattle.tables.proofs.Stack.{tables-agree, hinted-agree}
 use Rattle.scopes.specs.Scopes.{scopeWord, levelOf}
 use Rattle.scopes.proofs.Open as open′
 use Rattle.memo.specs.Memo.{memoOf}
@@ -91,8 +91,8 @@ module _ (bs ws ws′ : List ℕ) (st : State) (rep : Rep bs ws st) (same : Same
     few-memo = rep .few-memo;
     few-readings = rep .few-readings;
     below = λ k lt. rw (same .entries (7176 + k) (omega arith) (omega arith)) (rep .below k lt);
-    marked = marked-agree bs ws ws′ (st .slots) (st .symbols) (st .entries) (rep .sound) (rep .below) (same .symbols)
-        (same .slots) (same .entries) (rep .marked);
+    hinted = hinted-agree bs ws ws′ (st .slots) (st .symbols) (st .entries) (rep .sound) (rep .below) (same .symbols)
+        (same .slots) (same .entries) (rep .hinted);
     sound = λ i lt.
         sound-agree bs ws ws′ (st .slots) (same .slots) i (λ k l r. same .symbols k (omega arith) (omega arith))
         (rep .sound i lt);

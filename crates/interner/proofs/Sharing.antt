@@ -21,8 +21,8 @@ use Rattle.symbols.specs.Symbols.{recOf, nodeOf}
 use Rattle.symbols.proofs.Laws.{syms-length}
 use Rattle.symbols.proofs.Same.{key-opcode}
 use Rattle.tables.specs.declared.Tables.{Tables}
-use Rattle.tables.specs.Tables.{mark, markOf, tablesOf, Open}
-use Rattle.tables.proofs.Stack.{entered-tables, entered-below, entered-marked}
+use Rattle.tables.specs.Tables.{hint, hintOf, tablesOf, Open}
+use Rattle.tables.proofs.Stack.{entered-tables, entered-below, entered-hinted}
 use Rattle.interner.specs.declared.State.{State}
 use Rattle.interner.specs.declared.Step.{Step}
 use Rattle.interner.specs.State.{absOf, Rep}
@@ -73,7 +73,7 @@ module _ (bs ws : List ℕ) (t : Tables) (st : State) (s m : ℕ) (rep : Rep bs 
       ∙ ap (λ (z : intern.State). withTables z (enter s (tablesOf ws t (st .entries))))
       (abs-same bs ws ws₁ t st rep opened same-entered)
 
-  rep-entered : st .entries < st .symbols → m ≡ markOf bs ws s → Rep bs ws₁ (entered st)
+  rep-entered : st .entries < st .symbols → m ≡ hintOf bs ws s → Rep bs ws₁ (entered st)
   rep-entered more own =
       let old = rep-same bs ws ws₁ st rep same-entered in
       record {
@@ -87,8 +87,8 @@ module _ (bs ws : List ℕ) (t : Tables) (st : State) (s m : ℕ) (rep : Rep bs 
         few-memo = old .few-memo;
         few-readings = old .few-readings;
         below = entered-below t (st .entries) opened ws s m small room (st .symbols) (rep .below) low;
-        marked = entered-marked t (st .entries) opened ws s m small room bs (st .slots) (st .symbols) (rep .sound)
-            (rep .few-slots) (rep .few-symbols) (rep .below) low (rep .marked) own;
+        hinted = entered-hinted t (st .entries) opened ws s m small room bs (st .slots) (st .symbols) (rep .sound)
+            (rep .few-slots) (rep .few-symbols) (rep .below) low (rep .hinted) own;
         sound = old .sound;
         sourced = old .sourced;
         nested = old .nested;
@@ -225,14 +225,14 @@ module _ (bs ws : List ℕ) (t : Tables) (st : State) (cur : ℕ) (node : Node) 
         (done .is t opened)
         ∙ sym push-shared
 
-    own-mark : (p : Parts) → p ≡ partsOf node →
-        m ≡ mark (rowAt bs (p .source) .rec .opcode) (pendingFrom ws held count) → m ≡ markOf bs ws₁ (st .symbols)
-    own-mark p is h =
+    own-hint : (p : Parts) → p ≡ partsOf node →
+        m ≡ hint (rowAt bs (p .source) .rec .opcode) (pendingFrom ws held count) → m ≡ hintOf bs ws₁ (st .symbols)
+    own-hint p is h =
         h
-        ∙ ap (λ (z : Parts). mark (rowAt bs (z .source) .rec .opcode) (pendingFrom ws held count)) is
-        ∙ ap (λ (o : ℕ). mark o (pendingFrom ws held count))
+        ∙ ap (λ (z : Parts). hint (rowAt bs (z .source) .rec .opcode) (pendingFrom ws held count)) is
+        ∙ ap (λ (o : ℕ). hint o (pendingFrom ws held count))
         (sym (key-opcode bs (partsOf node .source) (partsOf node .field)))
-        ∙ sym (done .marked)
+        ∙ sym (done .hinted)
 
     step-shared : stepTo st node count (st .symbols) ≡ given (entered st₁) (st .symbols)
     step-shared =
@@ -240,7 +240,7 @@ module _ (bs ws : List ℕ) (t : Tables) (st : State) (cur : ℕ) (node : Node) 
         ∙ ap (λ (z : State). given (entered z) (st .symbols)) (sym (done .state))
 
     pub shared-answers : (p : Parts) → p ≡ partsOf node →
-        m ≡ mark (rowAt bs (p .source) .rec .opcode) (pendingFrom ws held count) →
+        m ≡ hint (rowAt bs (p .source) .rec .opcode) (pendingFrom ws held count) →
         (ws′ : List ℕ) → ws′ ≡ ws₂ →
         Answers bs ws t st (allocOf bs ws t st cur node held count true) ws′ (stepTo st node count (st .symbols))
     shared-answers p is h ws′ d =
@@ -248,7 +248,7 @@ module _ (bs ws : List ℕ) (t : Tables) (st : State) (cur : ℕ) (node : Node) 
         (stepTo st node count (st .symbols))) (sym d)
         (subst (Answers bs ws t st (allocOf bs ws t st cur node held count true) ws₂) (sym step-shared) (record {
           rep = rep-entered bs ws₁ t st₁ (st .symbols) m (done .rep) still-open room-entry newest
-              (omega (arith, pushed-symbols done, pushed-entries done, rep .few-entries)) (own-mark p is h);
+              (omega (arith, pushed-symbols done, pushed-entries done, rep .few-entries)) (own-hint p is h);
           leaves = leaves-then ws ws₁ ws₂ st st₁ (entered st₁) (done .leaves)
               (leaves-entered bs ws₁ t st₁ (st .symbols) m (done .rep) still-open room-entry newest);
           low = omega (arith, pushed-symbols done);

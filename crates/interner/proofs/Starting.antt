@@ -8,6 +8,7 @@ use lib.ListN.{length, set, length-set}
 use lib.Seq.{getD-set-same, getD-set-other}
 use Rattle.model.specs.Intern.{start}
 use Rattle.laws.proofs.Apart.{none-some}
+use Rattle.regions.specs.Regions.{WORDS}
 use Rattle.symbols.specs.Symbols.{symsOf}
 use Rattle.tables.specs.Tables.{first}
 use Rattle.tables.proofs.Stack.{first-open, first-tables}
@@ -21,7 +22,7 @@ use Rattle.interner.specs.State.{absOf, Rep, Started}
 abbrev pub firstState : State
 firstState = record { entries = 0; symbols = 0; slots = 0; scopes = 1; memo = 0; readings = 0 }
 
-module _ (ws : List ℕ) (words : 10856 ≤ length ws) where
+module _ (ws : List ℕ) (words : WORDS ≤ length ws) where
   abbrev ws₁ : List ℕ
   ws₁ = set ws 5120 0
 
@@ -44,7 +45,7 @@ module _ (ws : List ℕ) (words : 10856 ≤ length ws) where
     few-memo = omega arith;
     few-readings = omega arith;
     below = λ k lt. absurd (omega arith);
-    marked = λ k lt. absurd (omega arith);
+    hinted = λ k lt. absurd (omega arith);
     sound = λ i lt. absurd (omega arith);
     sourced = λ s lt. absurd (omega arith);
     nested = nested-outermost ws (omega arith);

@@ -8,10 +8,11 @@ use lib.ListN.{length, getD}
 use Rattle.model.specs.Intern as intern
 use Rattle.laws.specs.Slots.{slotsIn}
 use Rattle.laws.specs.Members.{Once}
+use Rattle.regions.specs.Regions.{WORDS}
 use Rattle.symbols.specs.Symbols.{symsOf, AllSound}
 use Rattle.symbols.specs.Sourced.{AllSourced}
 use Rattle.tables.specs.declared.Tables.{Tables}
-use Rattle.tables.specs.Tables.{tablesOf, first, Open, Below, Marked}
+use Rattle.tables.specs.Tables.{tablesOf, first, Open, Below, Hinted}
 use Rattle.scopes.specs.Scopes.{scopesOf, Nested}
 use Rattle.memo.specs.Memo.{memoOf, keysIn, MemoBelow}
 use Rattle.interner.specs.declared.State.{State}
@@ -27,7 +28,7 @@ absOf bs ws t st = record {
 }
 
 pub record Rep (bs ws : List ℕ) (st : State) : Type 0 where
-  pub words : 10856 ≤ length ws
+  pub words : WORDS ≤ length ws
   pub few-symbols : st .symbols ≤ 512
   pub slots-used : slotsIn (symsOf bs ws (st .symbols)) ≡ st .slots
   pub few-slots : st .slots ≤ 2560
@@ -37,7 +38,7 @@ pub record Rep (bs ws : List ℕ) (st : State) : Type 0 where
   pub few-memo : st .memo ≤ 512
   pub few-readings : st .readings ≤ 2048
   pub below : Below ws (st .entries) (st .symbols)
-  pub marked : Marked bs ws (st .entries)
+  pub hinted : Hinted bs ws (st .entries)
   pub sound : AllSound bs ws (st .slots) (st .symbols)
   pub sourced : AllSourced bs ws (st .symbols)
   pub nested : Nested ws (st .scopes)

@@ -23,7 +23,7 @@ use Rattle.symbols.specs.Words.{pendingFrom}
 use Rattle.laws.specs.Range.{range}
 use Rattle.symbols.specs.Symbols.{symsOf, recOf, nodeOf, ownOf, depsOf}
 use Rattle.tables.specs.declared.Tables.{Tables}
-use Rattle.tables.specs.Tables.{mark, markOf, Open}
+use Rattle.tables.specs.Tables.{hint, hintOf, Open}
 use Rattle.levels.specs.Levels.{has}
 use Rattle.scopes.specs.Scopes.{scopesOf, scopeWord, parentOf, levelOf, argsIn, outward, Tracks}
 use Rattle.interner.specs.declared.State.{State}
@@ -133,7 +133,7 @@ pub record Pushed (bs ws : List ℕ) (st : State) (cur : ℕ) (node : Node) (hel
   pub leaves : Leaves ws ws′ st r
   pub state : r ≡ withSymbol st count
   pub stored : Stored ws ws′ (st .symbols) levels
-  pub marked : markOf bs ws′ (st .symbols) ≡ mark (recOf bs node .opcode) (pendingFrom ws held count)
+  pub hinted : hintOf bs ws′ (st .symbols) ≡ hint (recOf bs node .opcode) (pendingFrom ws held count)
   pub is : (t : Tables) → Open t (st .entries) → absOf bs ws′ t r
       ≡ push cur (recOf bs node) (pendingFrom ws held count) (newDeps bs ws st node held count) false (nodeOf bs node)
       (absOf bs ws t st)

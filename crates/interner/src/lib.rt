@@ -8,7 +8,7 @@ use key::Leaf;
 use key::Node;
 use key::Symbol;
 use memo::Projections;
-use symbols::PENDING;
+use regions::PENDING;
 use tables::Found;
 use tables::Tables;
 ghost use mathlib.Core.Path.{_≡_};
@@ -21,6 +21,7 @@ ghost use Rattle.scopes.specs.Scopes.{scopeWord, levelOf};
 ghost use Rattle.symbols.specs.Words.{pendingFrom};
 ghost use Rattle.model.specs.Intern.{pairProjection};
 ghost use Rattle.record.specs.Record.{Laid, rowAt};
+ghost use Rattle.regions.specs.Regions.{WORDS};
 ghost use Rattle.tables.specs.declared.Tables.{Tables};
 ghost use Rattle.tables.specs.Tables.{Open};
 ghost use Rattle.key.specs.Key.{partsOf};
@@ -52,7 +53,7 @@ pub struct Step {
 
 // Nothing is read yet: the outermost scope is open. Rules out: a scope's word left as it was; an entry.
 pub fn start(work: &mut [u32]) -> State
-    requires { ⌜ 10856 ≤ length (now work) ⌝ }
+    requires { ⌜ WORDS ≤ length (now work) ⌝ }
     ensures { λ r. ⌜ Started (now (work .entry)) (now (work .exit)) r ⌝ }
 {
     scopes::open_outermost(work);
@@ -155,10 +156,10 @@ pub fn alloc(
     let n = st.symbols;
     if n < 512 {
         let p = key::parts_of(node);
-        let mark = tables::mark_of(forest, work, p.source as usize, held, count);
+        let hint = tables::hint_of(forest, work, p.source as usize, held, count);
         let next = push(forest, work, st, cur, node, held, count, levels);
         let top = next.entries as usize;
-        tables::enter(work, top, n, mark);
+        tables::enter(work, top, n, hint);
         return n;
     }
     512
@@ -166,7 +167,7 @@ pub fn alloc(
 
 // The levels of the pending children from `held` on.
 fn levels_of(work: &[u32], held: usize, count: usize) -> u64
-    requires { ⌜ (held + count ≤ 256) × (10856 ≤ length (now work)) ⌝ }
+    requires { ⌜ (held + count ≤ 256) × (WORDS ≤ length (now work)) ⌝ }
     requires { ⌜ ((k : ℕ) → k < count → getD (now work) (8200 + held + k) 0 < 512) ⌝ }
     ensures { λ r.
         ⌜ ((j : ℕ) → has r j ≡ anyHas (now (work .entry)) j (pendingFrom (now (work .entry)) held count)) ⌝ }
@@ -184,7 +185,7 @@ fn levels_of(work: &[u32], held: usize, count: usize) -> u64
 
 // The levels of the symbol of a key: a lambda's own is taken out.
 fn key_levels(work: &[u32], node: Node, held: usize, count: usize) -> u64
-    requires { ⌜ (held + count ≤ 256) × (10856 ≤ length (now work)) ⌝ }
+    requires { ⌜ (held + count ≤ 256) × (WORDS ≤ length (now work)) ⌝ }
     requires { ⌜ ((k : ℕ) → k < count → getD (now work) (8200 + held + k) 0 < 512) ⌝ }
     requires { ⌜ partsOf node .second < 4096 ⌝ }
     ensures { λ r. ⌜ ((j : ℕ) → has r j ≡ keyLevels (now (work .entry)) node held count j) ⌝ }
@@ -195,8 +196,7 @@ fn key_levels(work: &[u32], node: Node, held: usize, count: usize) -> u64
         return all;
     }
     let body = p.second as usize;
-    let w = work[5120 + body];
-    levels::without(all, w / 67108864)
+    levels::without(all, scopes::level(work, body))
 }
 
 // The symbol of a node over the pending children from `held` on: the one that has its key, or a new one, or 512. Rules

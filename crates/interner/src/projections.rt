@@ -3,7 +3,7 @@ use crate::State;
 use crate::Step;
 use key::Node;
 use key::Operation;
-use symbols::PENDING;
+use regions::PENDING;
 use tables::Tables;
 ghost use mathlib.Core.Path.{_≡_};
 ghost use mathlib.Core.Option.{none};
@@ -11,6 +11,7 @@ ghost use Prim.Native.Nat.{_+_, _<_, _≤_};
 ghost use lib.ListN.{length, getD};
 ghost use Rattle.model.specs.Intern.{recall, pick, newProjections};
 ghost use Rattle.record.specs.Record.{Laid, rowAt};
+ghost use Rattle.regions.specs.Regions.{WORDS};
 ghost use Rattle.tables.specs.Tables.{Open};
 ghost use Rattle.memo.specs.Memo.{memoOf, remembered};
 ghost use Rattle.interner.specs.State.{absOf, Rep};
@@ -62,7 +63,7 @@ pub fn picked(st: State, field: u32, a: u32, b: u32) -> Step
 // The projections a and b of p are remembered, and `field` is picked. Rules out: a pair that is not counted; a and b
 // exchanged.
 pub fn remember(work: &mut [u32], st: State, p: u32, a: u32, b: u32, field: u32) -> Step
-    requires { ⌜ (st .memo < 512) × (8200 ≤ length (now work)) ⌝ }
+    requires { ⌜ (st .memo < 512) × (WORDS ≤ length (now work)) ⌝ }
     requires { ⌜ (p < 512) × (a < 512) × (b < 512) ⌝ }
     ensures { λ r.
         ⌜ (now (work .exit) ≡ remembered (now (work .entry)) (st .memo) p a b)

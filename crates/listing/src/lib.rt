@@ -10,6 +10,7 @@ ghost use Rattle.model.specs.Forest.{treesOf};
 ghost use Rattle.model.specs.Intern.{State};
 ghost use Rattle.model.specs.Call.{interned};
 ghost use Rattle.model.specs.Lister.{symbolLines};
+ghost use Rattle.regions.specs.Regions.{WORDS};
 ghost use Rattle.gate.specs.Gate.{Stored, Tallied};
 ghost use Rattle.output.specs.Output.{Wrote};
 ghost use Rattle.cse.specs.Call.{Unused};
@@ -27,7 +28,7 @@ fn count_uses(work: &mut [u32], n: usize)
 // Rules out: a symbol that the root does not reach left out; its uses not counted; words from 10,856 on touched.
 fn list_symbols(forest: &[u8], out: &mut [u8], work: &mut [u32]) -> usize
     requires { ⌜ accept (now forest) ≡ good (treesOf (now forest)) ⌝ }
-    requires { ⌜ (32768 ≤ length (now out)) × (10856 ≤ length (now work)) ⌝ }
+    requires { ⌜ (32768 ≤ length (now out)) × (WORDS ≤ length (now work)) ⌝ }
     ensures { λ r. ⌜ ((o : ℕ × State) → interned (now (forest .entry)) ≡ good o
         → Wrote (now (out .entry)) 0 (symbolLines (o .1 .syms)) (now (out .exit)) r) ⌝ }
     ensures { λ r. ⌜ Unused (now (work .entry)) (now (work .exit)) ⌝ }

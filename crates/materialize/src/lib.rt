@@ -11,7 +11,7 @@ use key::Operation;
 use plan::Planned;
 use planner::Opened;
 use planner::Plan;
-use symbols::SLOTS;
+use regions::SLOTS;
 ghost use mathlib.Core.Path.{_≡_};
 ghost use mathlib.Core.List.{_∷_, []};
 ghost use Prim.Native.Nat.{ℕ, _+_, _<_, _≤_};

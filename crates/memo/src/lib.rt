@@ -1,4 +1,5 @@
 // Projections remembered, in work words: a word to a pair, the newest last.
+use regions::MEMO;
 ghost use mathlib.Core.Path.{_≡_};
 ghost use Prim.Native.Nat.{_+_, _<_, _≤_};
 ghost use lib.ListN.{length};
@@ -20,7 +21,7 @@ pub fn recall(work: &[u32], n: usize, p: u32) -> Projections
     let mut k = n;
     while 0 < k {
         k -= 1;
-        let w = work[7688 + k];
+        let w = work[MEMO + k];
         if w % 512 == p {
             return Projections::Pair(w / 512 % 512, w / 262144);
         }
@@ -34,5 +35,5 @@ pub fn remember(work: &mut [u32], n: usize, p: u32, a: u32, b: u32)
     requires { ⌜ (p < 512) × (a < 512) × (b < 512) ⌝ }
     ensures { λ _. ⌜ now (work .exit) ≡ remembered (now (work .entry)) n p a b ⌝ }
 {
-    work[7688 + n] = p + 512 * a + 262144 * b;
+    work[MEMO + n] = p + 512 * a + 262144 * b;
 }

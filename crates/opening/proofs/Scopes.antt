@@ -103,7 +103,7 @@ module _ (bs ws : List ℕ) (st : State) (rep : Rep bs ws st) (few : st .scopes 
       few-memo = old .few-memo;
       few-readings = old .few-readings;
       below = old .below;
-      marked = old .marked;
+      hinted = old .hinted;
       sound = old .sound;
       sourced = old .sourced;
       nested = nested;

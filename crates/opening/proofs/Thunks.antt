@@ -72,7 +72,7 @@ module _ (bs ws : List ℕ) (t : Tables) (st : State) (top : ℕ) (is : Open t t
       few-memo = rep .few-memo;
       few-readings = rep .few-readings;
       below = λ k lt. rep .below k (omega (arith, start-low));
-      marked = λ k lt. rep .marked k (omega (arith, start-low));
+      hinted = λ k lt. rep .hinted k (omega (arith, start-low));
       sound = rep .sound;
       sourced = rep .sourced;
       nested = rep .nested;

@@ -4,6 +4,7 @@ use interner::State;
 ghost use mathlib.Core.Path.{_≡_};
 ghost use Prim.Native.Nat.{_+_, _<_, _≤_};
 ghost use lib.ListN.{length};
+ghost use Rattle.regions.specs.Regions.{WORDS};
 ghost use Rattle.scopes.specs.Scopes.{scopeWord, levelOf, withThunk, withLambda};
 ghost use Rattle.opening.specs.Opening.{withReadings, withReading, withScope, thunkClosed};
 
@@ -48,7 +49,7 @@ fn with_scope(st: State) -> State
 // A thunk inside scope `cur` is opened; the table of its own is pushed by the caller. Rules out: a thunk inside another
 // scope; a lambda's body.
 pub fn open_thunk(work: &mut [u32], st: State, cur: usize) -> State
-    requires { ⌜ 10856 ≤ length (now work) ⌝ }
+    requires { ⌜ WORDS ≤ length (now work) ⌝ }
     requires { ⌜ (cur < st .scopes) × (st .scopes ≤ 2048) ⌝ }
     ensures { λ r.
         ⌜ (now (work .exit) ≡ withThunk (now (work .entry)) (st .scopes) cur) × (r ≡ withScope st) ⌝ }
@@ -76,7 +77,7 @@ pub fn close_thunk(st: State, top: u32) -> State
 // The body of a lambda inside scope `cur` is opened, with `count` arguments from symbol `first` on. Rules out: a thunk,
 // out of which no symbol moves; a scope that is not counted.
 pub fn open_body(work: &mut [u32], st: State, cur: usize, first: u32, count: u32) -> State
-    requires { ⌜ 10856 ≤ length (now work) ⌝ }
+    requires { ⌜ WORDS ≤ length (now work) ⌝ }
     requires { ⌜ (cur < st .scopes) × (st .scopes ≤ 2048) ⌝ }
     requires { ⌜ (first < 512) × (count ≤ 15) ⌝ }
     requires { ⌜ levelOf (scopeWord (now work) cur) < 63 ⌝ }

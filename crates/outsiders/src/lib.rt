@@ -2,7 +2,7 @@
 // list that has it not.
 // In order: a search; one symbol; those of a list; those in words, thunks or others; the children of a symbol.
 use graph::Graph;
-use symbols::SLOTS;
+use regions::SLOTS;
 ghost use mathlib.Core.Path.{_≡_};
 ghost use mathlib.Core.List.{List, [], _∷_};
 ghost use Prim.Native.Nat.{ℕ, _<_, _≤_};

@@ -4,8 +4,8 @@
 // What nests: `visit`, `near` and `local` once a symbol, with no array. `free` (1.5 KB), `across` and `borrowed` (1 KB
 // each) open arrays, and nest once a scope: a free list is asked for only of a symbol in a deeper scope.
 use graph::Graph;
+use regions::SLOTS;
 use scopes::Rel;
-use symbols::SLOTS;
 ghost use mathlib.Core.Path.{_≡_};
 ghost use Prim.Native.Nat.{_+_, _<_, _≤_};
 ghost use lib.ListN.{length, take, replicate};

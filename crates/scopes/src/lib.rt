@@ -1,4 +1,5 @@
 // Scopes in work words: opening one, its parts, where a new symbol is placed, where a scope lies seen from another.
+use regions::SCOPES;
 ghost use mathlib.Core.Path.{_≡_};
 ghost use Prim.Native.Nat.{ℕ, _+_, _<_, _≤_};
 ghost use lib.ListN.{length, set};
@@ -38,7 +39,7 @@ pub fn open_outermost(work: &mut [u32])
     requires { ⌜ 5120 < length (now work) ⌝ }
     ensures { λ _. ⌜ now (work .exit) ≡ set (now (work .entry)) 5120 0 ⌝ }
 {
-    work[5120] = 0;
+    work[SCOPES] = 0;
 }
 
 // Scope m is opened as a thunk inside `cur`. Rules out: a lambda without arguments; a scope one level deeper.
@@ -48,7 +49,7 @@ pub fn open_thunk(work: &mut [u32], m: usize, cur: usize)
     ensures { λ _. ⌜ now (work .exit) ≡ withThunk (now (work .entry)) m cur ⌝ }
 {
     let depth = level(work, cur);
-    work[5120 + m] = packed(cur as u32, 0, 0, depth);
+    work[SCOPES + m] = packed(cur as u32, 0, 0, depth);
 }
 
 // Scope m is opened as the body of a lambda inside `cur`, with `count` arguments from symbol `first` on.
@@ -61,7 +62,7 @@ pub fn open_lambda(work: &mut [u32], m: usize, cur: usize, first: u32, count: u3
     ensures { λ _. ⌜ now (work .exit) ≡ withLambda (now (work .entry)) m cur first count ⌝ }
 {
     let depth = level(work, cur);
-    work[5120 + m] = packed(cur as u32, first, count + 1, depth + 1);
+    work[SCOPES + m] = packed(cur as u32, first, count + 1, depth + 1);
 }
 
 // ---- the parts of a scope
@@ -71,15 +72,15 @@ pub fn parent(work: &[u32], k: usize) -> usize
     requires { ⌜ 5120 + k < length (now work) ⌝ }
     ensures { λ r. ⌜ r ≡ parentOf (scopeWord (now (work .entry)) k) ⌝ }
 {
-    (work[5120 + k] % 4096) as usize
+    (work[SCOPES + k] % 4096) as usize
 }
 
 // The lambdas around scope k, its own among them. Rules out: those around its parent; the scopes around k.
 pub fn level(work: &[u32], k: usize) -> u32
     requires { ⌜ 5120 + k < length (now work) ⌝ }
-    ensures { λ r. ⌜ r ≡ levelOf (scopeWord (now (work .entry)) k) ⌝ }
+    ensures { λ r. ⌜ (r ≡ levelOf (scopeWord (now (work .entry)) k)) × (r < 64) ⌝ }
 {
-    work[5120 + k] / 67108864
+    work[SCOPES + k] / 67108864
 }
 
 // The arguments of scope k. Rules out: those of the nearest lambda; no arguments for a lambda that has none.
@@ -87,7 +88,7 @@ pub fn args(work: &[u32], k: usize) -> Arguments
     requires { ⌜ 5120 + k < length (now work) ⌝ }
     ensures { λ r. ⌜ symbolsOf r ≡ argsIn (scopeWord (now (work .entry)) k) ⌝ }
 {
-    let w = work[5120 + k];
+    let w = work[SCOPES + k];
     let code = w / 2097152 % 32;
     if code == 0 {
         return Arguments::Nothing;
@@ -102,7 +103,7 @@ fn leaves(work: &[u32], k: usize, levels: u64) -> bool
     requires { ⌜ 5120 + k < length (now work) ⌝ }
     ensures { λ r. ⌜ r ≡ leftBy levels (scopeWord (now (work .entry)) k) ⌝ }
 {
-    let w = work[5120 + k];
+    let w = work[SCOPES + k];
     if w / 2097152 % 32 == 0 {
         return false;
     }

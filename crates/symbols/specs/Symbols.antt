@@ -20,6 +20,7 @@ use Rattle.key.specs.declared.Node.the-variants.{Const, Unparsed, Arg, Lambda, 
 use Rattle.key.specs.Key.{Fits, partsOf, symbolAt, storeSymbol}
 use Rattle.symbols.specs.Words.{slotsFrom, pendingFrom}
 use Rattle.laws.specs.Range.{range}
+use Rattle.regions.specs.Regions.{WORDS}
 
 -- ---- a symbol's record and node
 
@@ -90,7 +91,7 @@ pub record Room (ws : List ℕ) (n held : ℕ) (y : Symbol) : Type 0 where
   pub few : n < 512
   pub slots : y .kids + y .count ≤ 2560
   pub pending : held + y .count ≤ 256
-  pub words : 8456 ≤ length ws
+  pub words : WORDS ≤ length ws
   pub fits : Fits y
 
 -- ---- what holds of the words of symbols

@@ -1,6 +1,8 @@
-// Symbols as model has them, over the work memory (key.rs, interner.rs). In order: where their words stand; a byte as a
-// number; records as keys have them, compared; one symbol more.
+// Symbols as model has them, over the work memory (key.rs, interner.rs). In order: a byte as a number;
+// records as keys have them, compared; one symbol more.
 use key::Symbol;
+use regions::PENDING;
+use regions::SLOTS;
 ghost use mathlib.Core.Path.{_≡_};
 ghost use mathlib.Core.List.{[], _∷_};
 ghost use Prim.Native.Nat.{_+_, _<_, _≤_};
@@ -12,11 +14,6 @@ ghost use Rattle.model.specs.Forest.{recordCount};
 ghost use Rattle.record.specs.Record.{Laid};
 ghost use Rattle.symbols.specs.Words.{wordsFrom};
 ghost use Rattle.symbols.specs.Symbols.{keyRec, made, Room};
-
-// Where the child slots start in the work memory, and the symbols of children read so far.
-pub const SLOTS: usize = 2560;
-
-pub const PENDING: usize = 8200;
 
 // A byte as a number. Rules out: its low bits alone; one more.
 pub fn wide(x: u8) -> u32

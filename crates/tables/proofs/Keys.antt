@@ -1,4 +1,4 @@
--- Comparing the key of a symbol with one that is sought. In order: children; keys; marks; `isKey` of model.
+-- Comparing the key of a symbol with one that is sought. In order: children; keys; hints; `isKey` of model.
 -- Assumes nothing.
 use Prim.Native.Nat.{ℕ, zero, suc, _+_, _*_, _<_, _≤_}
 use mathlib.Core.Path.{_≡_, refl, sym, ap, _∙_}
@@ -18,7 +18,7 @@ use Rattle.symbols.specs.Symbols.{keyRec, recOf, symsOf, kidsAt, Sound}
 use Rattle.symbols.proofs.Same.{same-all, same-differ, key-opcode}
 use Rattle.symbols.proofs.Words.{words-length, words-at}
 use Rattle.symbols.proofs.Laws.{rec-at, kids-at}
-use Rattle.tables.specs.Tables.{mark, markOf, sameKey}
+use Rattle.tables.specs.Tables.{hint, hintOf, sameKey}
 
 -- ---- children: runs of words, compared
 
@@ -65,31 +65,31 @@ module _ (bs ws : List ℕ) (s : ℕ) {y : Symbol} (loads : y ≡ symbolAt ws s)
         let k : same (kidsAt ws s) (pendingFrom ws held count) ≡ true = sym slots-same ∙ e in
         rw (k, and-true, ← ef, ← eg) h
 
--- ---- marks
+-- ---- hints
 
--- what `mark_of` says, where there are no children and where there are
+-- what `hint_of` says, where there are no children and where there are
 module _ (ws : List ℕ) (held : ℕ) where
-  pub mark-none : (opcode count : ℕ) → count ≡ 0 → opcode ≡ mark opcode (pendingFrom ws held count)
-  unfolding mark wordsFrom
-  mark-none opcode count e = rw e
+  pub hint-none : (opcode count : ℕ) → count ≡ 0 → opcode ≡ hint opcode (pendingFrom ws held count)
+  unfolding hint wordsFrom
+  hint-none opcode count e = rw e
 
-  pub mark-first : (opcode count : ℕ) → (count ≡ 0 → ⊥) →
-      opcode + 256 * getD ws (8200 + held) 0 ≡ mark opcode (pendingFrom ws held count)
-  unfolding mark wordsFrom
-  mark-first opcode zero h = absurd (h refl)
-  mark-first opcode (suc n) h = refl
+  pub hint-first : (opcode count : ℕ) → (count ≡ 0 → ⊥) →
+      opcode + 256 * getD ws (8200 + held) 0 ≡ hint opcode (pendingFrom ws held count)
+  unfolding hint wordsFrom
+  hint-first opcode zero h = absurd (h refl)
+  hint-first opcode (suc n) h = refl
 
   pub first-pending : (count : ℕ) → ((k : ℕ) → k < count → getD ws (8200 + held + k) 0 < 512) → (count ≡ 0 → ⊥) →
       getD ws (8200 + held) 0 < 512
   first-pending count low h =
       let e : 8200 + held + 0 ≡ 8200 + held = omega arith in rw e at (low 0 (omega arith))
 
--- equal keys have equal marks
+-- equal keys have equal hints
 module _ (bs ws : List ℕ) (i field held count s : ℕ) where
-  mark-same : sameKey bs ws i field held count s ≡ true →
-      markOf bs ws s ≡ mark (rowAt bs i .rec .opcode) (pendingFrom ws held count)
+  hint-same : sameKey bs ws i field held count s ≡ true →
+      hintOf bs ws s ≡ hint (rowAt bs i .rec .opcode) (pendingFrom ws held count)
   unfolding sameKey
-  mark-same e =
+  hint-same e =
       let r = recOf bs (symbolAt ws s .node) in
       let both = and-both (sameRec r (keyRec bs i field)) (same (kidsAt ws s) (pendingFrom ws held count)) e in
       let o : r .opcode ≡ rowAt bs i .rec .opcode =
@@ -97,13 +97,13 @@ module _ (bs ws : List ℕ) (i field held count s : ℕ) where
       let k : kidsAt ws s ≡ pendingFrom ws held count = same-true _ _ (both .1) in
       rw (o, k)
 
-  -- so an entry with another mark has another key
-  pub marks-differ : {m : ℕ} → m ≡ mark (rowAt bs i .rec .opcode) (pendingFrom ws held count) →
-      (markOf bs ws s ≡ m → ⊥) → sameKey bs ws i field held count s ≡ false
-  marks-differ {m} e h = go (sameKey bs ws i field held count s) refl
+  -- so an entry with another hint has another key
+  pub hints-differ : {m : ℕ} → m ≡ hint (rowAt bs i .rec .opcode) (pendingFrom ws held count) →
+      (hintOf bs ws s ≡ m → ⊥) → sameKey bs ws i field held count s ≡ false
+  hints-differ {m} e h = go (sameKey bs ws i field held count s) refl
     where
       go : (t : Bool) → sameKey bs ws i field held count s ≡ t → t ≡ false
-      go true g = absurd (h (mark-same g ∙ sym e))
+      go true g = absurd (h (hint-same g ∙ sym e))
       go false g = refl
 
 -- ---- `isKey` of model

@@ -1,4 +1,4 @@
--- What callers cite of the open tables. In order: the words that they hang on; the words that marks hang on; the first
+-- What callers cite of the open tables. In order: the words that they hang on; the words that hints hang on; the first
 -- table; opening one and dropping it; one entry more; entries that are sound.
 -- Assumes nothing.
 use Prim.Native.Nat.{ℕ, zero, suc, _+_, _*_, _-_, _<_, _≤_}
@@ -18,8 +18,8 @@ use Rattle.key.proofs.Laws.{symbol-agree}
 use Rattle.symbols.specs.Symbols.{AllSound}
 use Rattle.symbols.proofs.Laws.{kids-agree}
 use Rattle.tables.specs.declared.Tables.{Tables}
-use Rattle.tables.specs.Tables.{entrySymbol, entryMark, markOf, entries, tables, tablesOf, first, opened}
-use Rattle.tables.specs.Tables.{Open, Entries, Below, Marked}
+use Rattle.tables.specs.Tables.{entrySymbol, entryHint, hintOf, entries, tables, tablesOf, first, opened}
+use Rattle.tables.specs.Tables.{Open, Entries, Below, Hinted}
 
 -- ---- the words that tables hang on: their entries; and the starts below d
 
@@ -48,21 +48,21 @@ pub tables-agree : (ws ws′ : List ℕ) (t : Tables) (top : ℕ) → Open t top
 tables-agree ws ws′ t top open′ h =
     runs-agree ws ws′ (t .base) (t .base) top (t .depth) top h (λ e l r. refl) (open′ .starts) (omega arith)
 
--- ---- the words that marks hang on: the entries, their symbols, and the slots in use
+-- ---- the words that hints hang on: the entries, their symbols, and the slots in use
 
 module _ (bs ws ws′ : List ℕ) (used n : ℕ) where
-  mark-agree : AllSound bs ws used n → Agree ws ws′ 0 (5 * n) → Agree ws ws′ 2560 (2560 + used) →
-      (s : ℕ) → s < n → markOf bs ws′ s ≡ markOf bs ws s
-  mark-agree sound own slots s lt =
+  hint-agree : AllSound bs ws used n → Agree ws ws′ 0 (5 * n) → Agree ws ws′ 2560 (2560 + used) →
+      (s : ℕ) → s < n → hintOf bs ws′ s ≡ hintOf bs ws s
+  hint-agree sound own slots s lt =
       let e : symbolAt ws′ s ≡ symbolAt ws s =
       symbol-agree ws ws′ s (λ k l r. own k (omega arith) (omega arith)) in
       rw (e, kids-agree bs ws ws′ used slots s (sound s lt))
 
-  pub marked-agree : (top : ℕ) → AllSound bs ws used n → Below ws top n → Agree ws ws′ 0 (5 * n) →
-      Agree ws ws′ 2560 (2560 + used) → Agree ws ws′ 7176 (7176 + top) → Marked bs ws top → Marked bs ws′ top
-  marked-agree top sound below own slots entries marked k lt =
+  pub hinted-agree : (top : ℕ) → AllSound bs ws used n → Below ws top n → Agree ws ws′ 0 (5 * n) →
+      Agree ws ws′ 2560 (2560 + used) → Agree ws ws′ 7176 (7176 + top) → Hinted bs ws top → Hinted bs ws′ top
+  hinted-agree top sound below own slots entries hinted k lt =
       rw (entries (7176 + k) (omega arith) (omega arith))
-      (marked k lt ∙ sym (mark-agree sound own slots (entrySymbol ws k) (below k lt)))
+      (hinted k lt ∙ sym (hint-agree sound own slots (entrySymbol ws k) (below k lt)))
 
 -- ---- the first table
 
@@ -157,8 +157,8 @@ module _ (t : Tables) (top : ℕ) (is : Open t top) where
     new-symbol : entrySymbol entered top ≡ s
     new-symbol = omega (arith, new-word)
 
-    new-mark : entryMark entered top ≡ m
-    new-mark = omega (arith, new-word)
+    new-hint : entryHint entered top ≡ m
+    new-hint = omega (arith, new-word)
 
     -- the tables of model's `push`
     pub entered-tables : tablesOf entered t (top + 1) ≡ enter s (tablesOf ws t top)
@@ -188,13 +188,13 @@ module _ (t : Tables) (top : ℕ) (is : Open t top) where
         ⊎-elim (λ e. omega (arith, ap (entrySymbol entered) e ∙ new-symbol))
         (λ r. rw (others-kept (7176 + k) (omega arith) (omega arith)) (below k r)) (eq-or-lt-of-le le)
 
-    -- with its own mark, where the other entries have theirs
-    pub entered-marked : (bs : List ℕ) (used n : ℕ) → AllSound bs ws used n → used ≤ 2560 → n ≤ 512 →
-        Below ws top n → s < n → Marked bs ws top → m ≡ markOf bs ws s → Marked bs entered (top + 1)
-    entered-marked bs used n sound slots few below lt marked e k l =
+    -- with its own hint, where the other entries have theirs
+    pub entered-hinted : (bs : List ℕ) (used n : ℕ) → AllSound bs ws used n → used ≤ 2560 → n ≤ 512 →
+        Below ws top n → s < n → Hinted bs ws top → m ≡ hintOf bs ws s → Hinted bs entered (top + 1)
+    entered-hinted bs used n sound slots few below lt hinted e k l =
         let le : k ≤ top = omega arith in
         ⊎-elim (λ p. rw p newest)
-        (λ r. marked-agree bs ws entered used n top sound below own kids others-kept marked k r) (eq-or-lt-of-le le)
+        (λ r. hinted-agree bs ws entered used n top sound below own kids others-kept hinted k r) (eq-or-lt-of-le le)
       where
         own : Agree ws entered 0 (5 * n)
         own = agree-store ws (7176 + top) (s + 512 * m) 0 (5 * n) (omega arith)
@@ -202,18 +202,18 @@ module _ (t : Tables) (top : ℕ) (is : Open t top) where
         kids : Agree ws entered 2560 (2560 + used)
         kids = agree-store ws (7176 + top) (s + 512 * m) 2560 (2560 + used) (omega arith)
 
-        newest : entryMark entered top ≡ markOf bs entered (entrySymbol entered top)
+        newest : entryHint entered top ≡ hintOf bs entered (entrySymbol entered top)
         newest =
-            rw new-symbol (new-mark ∙ e ∙ sym (mark-agree bs ws entered used n sound own kids s lt))
+            rw new-symbol (new-hint ∙ e ∙ sym (hint-agree bs ws entered used n sound own kids s lt))
 
 -- ---- entries that are sound
 
 pub entries-sound : (bs ws : List ℕ) (used n top : ℕ) → AllSound bs ws used n → used ≤ 2560 → n ≤ 512 → top ≤ 512 →
-    Below ws top n → Marked bs ws top → Entries bs ws top
-entries-sound bs ws used n top sound slots few tops below marked = record {
+    Below ws top n → Hinted bs ws top → Entries bs ws top
+entries-sound bs ws used n top sound slots few tops below hinted = record {
   few = tops;
   below = λ k lt. let b : entrySymbol ws k < n = below k lt in omega arith;
   sound = λ k lt. let s = sound (entrySymbol ws k) (below k lt) in
       record { from = s .from; slots = let z = s .slots in omega (arith, z); lower = s .lower };
-  marked = marked;
+  hinted = hinted;
 }

@@ -22,22 +22,22 @@ abbrev pub foundOf : Found → Option ℕ
 foundOf (At s) = some s
 foundOf Nothing = none
 
--- ---- an entry: a symbol, and above it the mark of its key
+-- ---- an entry: a symbol, and above it the hint of its key
 
 abbrev pub entrySymbol : List ℕ → ℕ → ℕ
 entrySymbol ws k = getD ws (7176 + k) 0 % 512
 
-abbrev pub entryMark : List ℕ → ℕ → ℕ
-entryMark ws k = getD ws (7176 + k) 0 / 512
+abbrev pub entryHint : List ℕ → ℕ → ℕ
+entryHint ws k = getD ws (7176 + k) 0 / 512
 
 -- what equal keys have in common: the opcode and the first child
-unfoldable pub mark : ℕ → List ℕ → ℕ
-mark opcode [] = opcode
-mark opcode (k ∷ ks) = opcode + 256 * k
+unfoldable pub hint : ℕ → List ℕ → ℕ
+hint opcode [] = opcode
+hint opcode (k ∷ ks) = opcode + 256 * k
 
--- the mark of symbol s
-abbrev pub markOf : List ℕ → List ℕ → ℕ → ℕ
-markOf bs ws s = mark (recOf bs (symbolAt ws s .node) .opcode) (kidsAt ws s)
+-- the hint of symbol s
+abbrev pub hintOf : List ℕ → List ℕ → ℕ → ℕ
+hintOf bs ws s = hint (recOf bs (symbolAt ws s .node) .opcode) (kidsAt ws s)
 
 -- ---- entries and tables
 
@@ -77,16 +77,16 @@ pub record Open (t : Tables) (top : ℕ) : Type 0 where
 abbrev pub Below : List ℕ → ℕ → ℕ → Type 0
 Below ws top n = (k : ℕ) → k < top → entrySymbol ws k < n
 
--- the entries' marks are those of their symbols
-abbrev pub Marked : List ℕ → List ℕ → ℕ → Type 0
-Marked bs ws top = (k : ℕ) → k < top → entryMark ws k ≡ markOf bs ws (entrySymbol ws k)
+-- the entries' hints are those of their symbols
+abbrev pub Hinted : List ℕ → List ℕ → ℕ → Type 0
+Hinted bs ws top = (k : ℕ) → k < top → entryHint ws k ≡ hintOf bs ws (entrySymbol ws k)
 
--- `top` entries, which are symbols that stand, with their marks
+-- `top` entries, which are symbols that stand, with their hints
 pub record Entries (bs ws : List ℕ) (top : ℕ) : Type 0 where
   pub few : top ≤ 512
   pub below : Below ws top 512
   pub sound : (k : ℕ) → k < top → Sound bs ws 2560 (entrySymbol ws k)
-  pub marked : Marked bs ws top
+  pub hinted : Hinted bs ws top
 
 -- ---- keys
 

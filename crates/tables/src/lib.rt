@@ -1,8 +1,9 @@
 // The stack of open tables (interner.rs), and the search through it. Entry k of the tables is word 7,176 + k: a symbol,
-// and above it a mark of its key, so that most entries are passed over by one comparison.
-// In order: the stack; one entry more; marks; keys compared; the search.
-use symbols::PENDING;
-use symbols::SLOTS;
+// and above it a hint of its key, so that most entries are passed over by one comparison.
+// In order: the stack; one entry more; hints; keys compared; the search.
+use regions::ENTRIES;
+use regions::PENDING;
+use regions::SLOTS;
 ghost use mathlib.Core.Path.{_≡_};
 ghost use Prim.Native.Nat.{ℕ, _+_, _*_, _<_, _≤_};
 ghost use lib.ListN.{length, getD, set};
@@ -10,12 +11,11 @@ ghost use Rattle.model.specs.Lists.{same};
 ghost use Rattle.model.specs.Forest.{recordCount};
 ghost use Rattle.model.specs.Intern.{lookup};
 ghost use Rattle.record.specs.Record.{Laid, rowAt};
+ghost use Rattle.regions.specs.Regions.{WORDS};
 ghost use Rattle.symbols.specs.Words.{slotsFrom, pendingFrom};
 ghost use Rattle.symbols.specs.Symbols.{keyRec, symsOf, Sound};
 ghost use Rattle.tables.specs.Tables.{foundOf, tablesOf, first, opened};
-ghost use Rattle.tables.specs.Tables.{mark, Open, Entries, Below, sameKey};
-
-pub const ENTRIES: usize = 7176;
+ghost use Rattle.tables.specs.Tables.{hint, Open, Entries, Below, sameKey};
 
 // Where each open table's entries start, the oldest first; the newest table ends where the entries do.
 pub struct Tables {
@@ -56,22 +56,22 @@ impl Tables {
 }
 
 // One entry more in the newest table, where there are `top`. Rules out: an entry in the oldest table; another symbol.
-pub fn enter(work: &mut [u32], top: usize, symbol: u32, mark: u32)
-    requires { ⌜ (top < 512) × (symbol < 512) × (mark < 131072) × (7688 ≤ length (now work)) ⌝ }
-    ensures { λ _. ⌜ now (work .exit) ≡ set (now (work .entry)) (7176 + top) (symbol + 512 * mark) ⌝ }
+pub fn enter(work: &mut [u32], top: usize, symbol: u32, hint: u32)
+    requires { ⌜ (top < 512) × (symbol < 512) × (hint < 131072) × (WORDS ≤ length (now work)) ⌝ }
+    ensures { λ _. ⌜ now (work .exit) ≡ set (now (work .entry)) (7176 + top) (symbol + 512 * hint) ⌝ }
 {
-    work[ENTRIES + top] = symbol + 512 * mark;
+    work[ENTRIES + top] = symbol + 512 * hint;
 }
 
-// The mark of the key of record i, or of a projection that it makes, over the pending children from `held` on.
-// Rules out: the opcode alone where there are children; a mark by the last child.
-pub fn mark_of(forest: &[u8], work: &[u32], i: usize, held: usize, count: usize) -> u32
+// The hint of the key of record i, or of a projection that it makes, over the pending children from `held` on.
+// Rules out: the opcode alone where there are children; a hint by the last child.
+pub fn hint_of(forest: &[u8], work: &[u32], i: usize, held: usize, count: usize) -> u32
     requires { ⌜ Laid (now forest) ⌝ }
     requires { ⌜ i < recordCount (now forest) ⌝ }
-    requires { ⌜ (held + count ≤ 256) × (8456 ≤ length (now work)) ⌝ }
+    requires { ⌜ (held + count ≤ 256) × (WORDS ≤ length (now work)) ⌝ }
     requires { ⌜ ((k : ℕ) → k < count → getD (now work) (8200 + held + k) 0 < 512) ⌝ }
     ensures { λ r.
-        ⌜ (r ≡ mark (rowAt (now (forest .entry)) i .rec .opcode) (pendingFrom (now (work .entry)) held count))
+        ⌜ (r ≡ hint (rowAt (now (forest .entry)) i .rec .opcode) (pendingFrom (now (work .entry)) held count))
         × (r < 131072) ⌝ }
 {
     let opcode = symbols::wide(record::opcode(forest, i));
@@ -82,7 +82,7 @@ pub fn mark_of(forest: &[u8], work: &[u32], i: usize, held: usize, count: usize)
 }
 
 fn same_kids(work: &[u32], kids: usize, n: usize, held: usize, count: usize) -> bool
-    requires { ⌜ (kids + n ≤ 2560) × (held + count ≤ 256) × (8456 ≤ length (now work)) ⌝ }
+    requires { ⌜ (kids + n ≤ 2560) × (held + count ≤ 256) × (WORDS ≤ length (now work)) ⌝ }
     ensures { λ r. ⌜ r ≡ same (slotsFrom (now (work .entry)) kids n) (pendingFrom (now (work .entry)) held count) ⌝ }
 {
     if n != count {
@@ -111,7 +111,7 @@ fn same_key(
     requires { ⌜ Laid (now forest) ⌝ }
     requires { ⌜ i < recordCount (now forest) ⌝ }
     requires { ⌜ Sound (now forest) (now work) 2560 s ⌝ }
-    requires { ⌜ (s < 512) × (held + count ≤ 256) × (8456 ≤ length (now work)) ⌝ }
+    requires { ⌜ (s < 512) × (held + count ≤ 256) × (WORDS ≤ length (now work)) ⌝ }
     ensures { λ r. ⌜ r ≡ sameKey (now (forest .entry)) (now (work .entry)) i field held count s ⌝ }
 {
     let y = key::load(work, s);
@@ -140,7 +140,7 @@ pub fn find(
     requires { ⌜ i < recordCount (now forest) ⌝ }
     requires { ⌜ Open t top ⌝ }
     requires { ⌜ Entries (now forest) (now work) top ⌝ }
-    requires { ⌜ (held + count ≤ 256) × (8456 ≤ length (now work)) ⌝ }
+    requires { ⌜ (held + count ≤ 256) × (WORDS ≤ length (now work)) ⌝ }
     requires { ⌜ ((k : ℕ) → k < count → getD (now work) (8200 + held + k) 0 < 512) ⌝ }
     ensures { λ r.
         ⌜ ((n : ℕ) → Below (now (work .entry)) top n →
@@ -148,7 +148,7 @@ pub fn find(
         (keyRec (now (forest .entry)) i field) (pendingFrom (now (work .entry)) held count)
         (tablesOf (now (work .entry)) t top)) ⌝ }
 {
-    let mark = mark_of(forest, work, i, held, count);
+    let hint = hint_of(forest, work, i, held, count);
     // the starts alone: they are copied without a call
     let base = t.base;
     let mut found = Found::Nothing;
@@ -161,7 +161,7 @@ pub fn find(
         while start < k {
             k -= 1;
             let e = work[ENTRIES + k];
-            if e / 512 == mark {
+            if e / 512 == hint {
                 let s = e % 512;
                 if same_key(forest, work, s as usize, i, field, held, count) {
                     found = Found::At(s);

@@ -4,13 +4,14 @@ use mathlib.Core.Path.{_≡_, refl}
 use native.Mathlib.Omega.{arith}
 use denote.Ref.{now}
 use lib.ListN.{length}
+use Rattle.regions.specs.Regions.{WORDS}
 use Rattle.bindings.proofs.Args.{Binding, bind-start, bind-id, bind-stands, bind-turn, bind-end}
 use Rattle.bindings.proofs.bind_all.Statement.{statement}
 use Rattle.bindings.proofs.bind_all.Tie as tie
 
 abbrev Inv-loop : tie.InvT-loop
 Inv-loop lit work₀ n top first at₀ k₀ symbol₀ work at k symbol =
-    (n ≤ 15) × (top + n ≤ 1200) × (10856 ≤ length work₀) × (first ≤ 512) × (length work ≡ length work₀)
+    (n ≤ 15) × (top + n ≤ 1200) × (WORDS ≤ length work₀) × (first ≤ 512) × (length work ≡ length work₀)
     × Binding lit n top first work₀ work at k symbol
 
 abbrev μ-loop : tie.MeasureT-loop

@@ -9,8 +9,8 @@ use Rattle.interner.proofs.Sharing.{shared-answers, full-answers}
 use Rattle.interner.proofs.alloc.Statement.{statement}
 use Rattle.interner.proofs.alloc.Tie as tie
 
-mark-of-requires : tie.Need-mark-of-requires
-mark-of-requires c κs =
+hint-of-requires : tie.Need-hint-of-requires
+hint-of-requires c κs =
     let q = c .before .before in
     let s = q .before .before .before .before in
     let a = s .args in
@@ -41,7 +41,7 @@ enter-requires c κs =
     let rep = t .before .before .before .pre .1 .0 in (
       omega (arith, pushed-entries (q .push .ensures), rep .few-entries, t .if1 .taken),
       t .if1 .taken,
-      m .mark-of .ensures .1,
+      m .hint-of .ensures .1,
       omega (arith, q .push .ensures .leaves .long, rep .words),
     )
 
@@ -54,8 +54,8 @@ returns c =
     let s = p .before .before .before .before in
     let a = s .args in
     λ t opened. shared-answers (now (a .forest)) (now (a .work)) t (a .st) (a .cur) (a .node) (a .held) (a .count) _
-    (q .push .result) (a .levels) (m .mark-of .result) (p .before .if1 .taken) (s .pre .1 .0) opened (q .push .ensures)
-    (p .parts-of .result) (p .parts-of .ensures) (m .mark-of .ensures .0) _ (e .enter .ensures)
+    (q .push .result) (a .levels) (m .hint-of .result) (p .before .if1 .taken) (s .pre .1 .0) opened (q .push .ensures)
+    (p .parts-of .result) (p .parts-of .ensures) (m .hint-of .ensures .0) _ (e .enter .ensures)
 
 returns-2 : tie.Need-returns-2
 returns-2 c =
@@ -66,5 +66,5 @@ returns-2 c =
 
 pub alloc-spec : {M : Type 1} → statement M
 alloc-spec =
-    tie.close (tie.spec (λ c κs. search needs) (λ c. search needs) mark-of-requires push-requires (λ c. search needs)
+    tie.close (tie.spec (λ c κs. search needs) (λ c. search needs) hint-of-requires push-requires (λ c. search needs)
     enter-requires (λ c. search needs) returns returns-2)

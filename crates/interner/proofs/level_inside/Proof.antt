@@ -9,7 +9,7 @@ returns c =
     let e = c .before in
     let d = e .before in
     λ j. one-level (e .empty .result) (c .with .result) (d .level .result) _ j (e .empty .ensures j)
-    (c .with .ensures j) (d .level .ensures)
+    (c .with .ensures j) (d .level .ensures .0)
 
 pub level-inside-spec : {M : Type 1} → statement M
 level-inside-spec =

@@ -4,7 +4,7 @@ use Rattle.scopes.proofs.open_lambda.Statement.{statement}
 use Rattle.scopes.proofs.open_lambda.Tie as tie
 
 returns : tie.Need-returns
-returns c = rw (c .packed .ensures, c .before .level .ensures)
+returns c = rw (c .packed .ensures, c .before .level .ensures .0)
 
 pub open-lambda-spec : {M : Type 1} → statement M
 open-lambda-spec =

@@ -11,7 +11,7 @@ use Rattle.symbols.specs.Words.{pendingFrom}
 use Rattle.symbols.specs.Symbols.{keyRec, symsOf}
 use Rattle.tables.specs.declared.Found.the-variants.{Nothing}
 use Rattle.tables.specs.Tables.{foundOf, entries, tables, Below}
-use Rattle.tables.proofs.Keys.{key-is, marks-differ}
+use Rattle.tables.proofs.Keys.{key-is, hints-differ}
 use Rattle.tables.proofs.Search.{entries-end, entries-hit, entries-miss, tables-end, tables-hit, tables-miss}
 use Rattle.tables.proofs.find.Statement.{statement}
 use Rattle.tables.proofs.find.Tie as tie
@@ -24,22 +24,22 @@ abbrev inTables : List ℕ → List ℕ → ℕ → ℕ → ℕ → ℕ → ℕ 
 inTables bs ws i field held count n = lookup (symsOf bs ws n) (keyRec bs i field) (pendingFrom ws held count)
 
 abbrev Inv-loop : tie.InvT-loop
-Inv-loop forest work top i field held count mark base found₀ end d start k₀ found k =
+Inv-loop forest work top i field held count hint base found₀ end d start k₀ found k =
     (k ≤ end) × (found ≡ Nothing) × ((n : ℕ) → Below work top n →
     inTable forest work i field held count n (entries work start (end - start))
     ≡ inTable forest work i field held count n (entries work start (k - start)))
 
 abbrev μ-loop : tie.MeasureT-loop
-μ-loop forest work top i field held count mark base found₀ end d start k₀ found k = k
+μ-loop forest work top i field held count hint base found₀ end d start k₀ found k = k
 
 abbrev Inv-tables : tie.InvT-tables
-Inv-tables forest work top i field held count mark base found₀ end₀ d₀ found end d =
+Inv-tables forest work top i field held count hint base found₀ end₀ d₀ found end d =
     (d ≤ d₀) × (end ≤ end₀) × (found ≡ Nothing) × ((n : ℕ) → Below work top n →
     inTables forest work i field held count n (tables work base d₀ end₀)
     ≡ inTables forest work i field held count n (tables work base d end))
 
 abbrev μ-tables : tie.MeasureT-tables
-μ-tables forest work top i field held count mark base found₀ end₀ d₀ found end d = d
+μ-tables forest work top i field held count hint base found₀ end₀ d₀ found end d = d
 
 tables-holds : tie.Need-tables-holds Inv-loop μ-loop Inv-tables μ-tables
 tables-holds c = (omega arith, omega arith, refl, λ n b. refl)
@@ -67,7 +67,7 @@ loop-again c =
           (key-is _ _ _ _ _ _ n _ (b (l .k - 1) (omega arith)) (c .before .same-key .ensures) ∙ c .if2 .left),
     )
 
--- an entry with another mark
+-- an entry with another hint
 loop-again-2 : tie.Need-loop-again-2 Inv-loop μ-loop Inv-tables μ-tables
 loop-again-2 c =
     let l = c .before .before .before .loop in
@@ -81,8 +81,8 @@ loop-again-2 c =
           l .inv .2 n b
           ∙ entries-miss _ _ _ (now (a .work)) _ (l .k) (c .before .before .loop-test .taken)
           (key-is _ _ _ _ _ _ n _ (b k (omega arith))
-          (sym (marks-differ (now (a .forest)) (now (a .work)) (a .i) (a .field) (a .held) (a .count) _
-          (m .mark-of .ensures .0) (λ e. c .if1 .left (s .pre .1 .1 .1 .0 .marked k (omega arith) ∙ e))))),
+          (sym (hints-differ (now (a .forest)) (now (a .work)) (a .i) (a .field) (a .held) (a .count) _
+          (m .hint-of .ensures .0) (λ e. c .if1 .left (s .pre .1 .1 .1 .0 .hinted k (omega arith) ∙ e))))),
     )
 
 tables-again : tie.Need-tables-again Inv-loop μ-loop Inv-tables μ-tables

@@ -1,21 +1,21 @@
--- `tables::mark_of` meets its contract. Assumes nothing.
+-- `tables::hint_of` meets its contract. Assumes nothing.
 use denote.Ref.{now}
 use Prim.Native.Nat.{ℕ}
 use mathlib.Core.Path.{ap, _∙_}
 use native.Mathlib.Omega.{arith}
 use borrow.Author.Needs.{needs}
 use Rattle.symbols.specs.Words.{pendingFrom}
-use Rattle.tables.specs.Tables.{mark}
-use Rattle.tables.proofs.Keys.{mark-none, mark-first, first-pending}
-use Rattle.tables.proofs.mark_of.Statement.{statement}
-use Rattle.tables.proofs.mark_of.Tie as tie
+use Rattle.tables.specs.Tables.{hint}
+use Rattle.tables.proofs.Keys.{hint-none, hint-first, first-pending}
+use Rattle.tables.proofs.hint_of.Statement.{statement}
+use Rattle.tables.proofs.hint_of.Tie as tie
 
 returns : tie.Need-returns
 returns c =
     let a = c .before .before .before .before .before .args in
     let w = c .before .wide .ensures in (
-      mark-none (now (a .work)) (a .held) _ (a .count) (c .if1 .taken)
-          ∙ ap (λ (o : ℕ). mark o (pendingFrom (now (a .work)) (a .held) (a .count)))
+      hint-none (now (a .work)) (a .held) _ (a .count) (c .if1 .taken)
+          ∙ ap (λ (o : ℕ). hint o (pendingFrom (now (a .work)) (a .held) (a .count)))
           (w .0 ∙ c .before .before .opcode .ensures),
       omega (arith, w .1),
     )
@@ -43,8 +43,8 @@ returns-2 c =
     let s = c .before .before .before .before .before .before in
     let a = s .args in
     let w = c .before .before .wide .ensures in (
-      mark-first (now (a .work)) (a .held) _ (a .count) (c .before .if1 .left)
-          ∙ ap (λ (o : ℕ). mark o (pendingFrom (now (a .work)) (a .held) (a .count)))
+      hint-first (now (a .work)) (a .held) _ (a .count) (c .before .if1 .left)
+          ∙ ap (λ (o : ℕ). hint o (pendingFrom (now (a .work)) (a .held) (a .count)))
           (w .0 ∙ c .before .before .before .opcode .ensures),
       omega (
         arith,
@@ -53,7 +53,7 @@ returns-2 c =
       ),
     )
 
-pub mark-of-spec : {M : Type 1} → statement M
-mark-of-spec =
+pub hint-of-spec : {M : Type 1} → statement M
+hint-of-spec =
     tie.close (tie.spec (λ c κs. search needs) (λ c κs. search needs) returns (λ c. search needs) (λ c. search needs)
     (λ c. search needs) mul-result-2 add-result-2 returns-2)
