@@ -4,7 +4,7 @@
 use codec::Verdict;
 use graph::Graph;
 use interner::State;
-use planner::PLAN;
+use regions::PLAN;
 use planner::Plan;
 ghost use mathlib.Core.Path.{_≡_};
 ghost use Prim.Native.Nat.{ℕ, _≤_};

@@ -7,13 +7,15 @@ use native.Mathlib.Omega.{arith}
 use lib.ListN.{length}
 use Rattle.model.specs.Lists.{count}
 use Rattle.model.specs.Intern.{Sym}
-use Rattle.model.specs.Lister.{allSlots}
+use Rattle.model.specs.Gate.{allSlots}
 use Rattle.symbols.specs.Symbols.{kidsAt, symOf, symFrom, symsOf}
-use Rattle.gate.specs.Gate.{usesAt, cleared, tallied, Stored, Kept, Tallied}
+use Rattle.gate.specs.Gate.{usesAt, cleared, tallied, Countable, CountsOnly, Tallied}
+use Rattle.laws.proofs.Frame.{frame-none, frame-then}
+use Rattle.regions.specs.Regions.{REACHED, end}
 use Rattle.laws.proofs.Falls.{Under}
-use Rattle.gate.proofs.Words.{count-append, kept-refl, kept-trans, cleared-length, cleared-kept}
-use Rattle.gate.proofs.Words.{cleared-zero, allNoted-length, allNoted-kept, allNoted-uses}
-use Rattle.gate.proofs.Run.{kids-under, kids-kept, stored-kept}
+use Rattle.gate.proofs.Words.{count-append, cleared-frame}
+use Rattle.gate.proofs.Words.{cleared-zero, allNoted-frame, allNoted-uses}
+use Rattle.gate.proofs.Run.{kids-under, kids-kept, countable-kept}
 
 slots-more : (s : ℕ) (l : List Sym) (y : Sym) →
     count s (allSlots (l ++ (y ∷ []))) ≡ count s (allSlots l) + count s (y .kids)
@@ -28,21 +30,16 @@ slots-more s (x ∷ l) y =
     )
 
 module _ (kids : ℕ → List ℕ) (ws : List ℕ) where
-  tallied-length : (m : ℕ) → length (tallied kids ws m) ≡ length ws
+  tallied-frame : (m : ℕ) → ((t : ℕ) → t < m → Under 512 (kids t)) → CountsOnly ws (tallied kids ws m)
   unfolding tallied
-  tallied-length zero = refl
-  tallied-length (suc m) = allNoted-length (tallied kids ws m) (kids m) ∙ tallied-length m
-
-  tallied-kept : (m : ℕ) → ((t : ℕ) → t < m → Under 512 (kids t)) → Kept ws (tallied kids ws m)
-  unfolding tallied
-  tallied-kept zero h = kept-refl ws
-  tallied-kept (suc m) h =
-      kept-trans ws (tallied kids ws m) _ (tallied-kept m (λ t l. h t (omega arith)))
-      (allNoted-kept (tallied kids ws m) (kids m) (h m (omega arith)))
+  tallied-frame zero h = frame-none _ _ ws
+  tallied-frame (suc m) h =
+      frame-then _ _ ws (tallied kids ws m) _ (tallied-frame m (λ t l. h t (omega arith)))
+      (allNoted-frame (tallied kids ws m) (kids m) (h m (omega arith)))
 
   -- the uses by the symbols that words vs hold
   module _ (bs vs : List ℕ) (n : ℕ) (same : (t : ℕ) → t < n → kids t ≡ kidsAt vs t)
-      (under : (t : ℕ) → t < n → Under 512 (kids t)) (long : 9480 ≤ length ws) (s : ℕ) (lt : s < 512) where
+      (under : (t : ℕ) → t < n → Under 512 (kids t)) (long : end REACHED ≤ length ws) (s : ℕ) (lt : s < 512) where
     tallied-uses : (m : ℕ) → m ≤ n →
         usesAt (tallied kids ws m) s ≡ usesAt ws s + count s (allSlots (symsOf bs vs m))
     unfolding tallied symsOf allSlots count symOf
@@ -51,35 +48,32 @@ module _ (kids : ℕ → List ℕ) (ws : List ℕ) where
         let e : count s (kids m) ≡ count s (kidsAt vs m) = ap (count s) (same m (omega arith)) in
         omega (
           arith,
-          allNoted-uses (tallied kids ws m) (kids m) (under m (omega arith)) (omega (arith, tallied-length m)) s lt,
+          allNoted-uses (tallied kids ws m) (kids m) (under m (omega arith)) (omega (arith, tallied-frame m (λ t k. under t (omega arith)) .long)) s lt,
           tallied-uses m (omega arith),
           slots-more s (symsOf bs vs m) (symFrom bs (symsOf bs vs m) vs m),
         )
 
 -- ---- the whole: words cleared, and the children of all symbols noted
 
-module _ (ws ws₁ : List ℕ) (n : ℕ) (st : Stored ws n) (clears : ws₁ ≡ cleared ws n) where
-  length₁ : length ws₁ ≡ length ws
-  length₁ = rw clears (cleared-length ws n)
-
-  kept₁ : Kept ws ws₁
-  kept₁ = rw clears (cleared-kept ws n (st .few))
+module _ (ws ws₁ : List ℕ) (n : ℕ) (st : Countable ws n) (clears : ws₁ ≡ cleared ws n) where
+  kept₁ : CountsOnly ws ws₁
+  kept₁ = rw clears (cleared-frame ws n (st .few))
 
   zero₁ : (s : ℕ) → s < n → usesAt ws₁ s ≡ 0
   zero₁ s l = rw clears (cleared-zero ws n s (st .few) (st .words) l .0)
 
   -- what `tally` requires
-  pub cleared-ready : Stored ws₁ n × ((s : ℕ) → s < n → usesAt ws₁ s ≡ 0)
-  cleared-ready = (stored-kept ws ws₁ kept₁ n length₁ st, zero₁)
+  pub cleared-ready : Countable ws₁ n × ((s : ℕ) → s < n → usesAt ws₁ s ≡ 0)
+  cleared-ready = (countable-kept ws ws₁ kept₁ n st, zero₁)
 
   pub counted : (ws′ : List ℕ) → ws′ ≡ tallied (kidsAt ws₁) ws₁ n → Tallied ws ws′ n
   counted ws′ is = record {
     uses = λ bs s l.
         rw is
-        (tallied-uses (kidsAt ws₁) ws₁ bs ws n same under (omega (arith, length₁, st .words)) s (omega (arith, st .few))
+        (tallied-uses (kidsAt ws₁) ws₁ bs ws n same under (omega (arith, kept₁ .long, st .words)) s (omega (arith, st .few))
         n (omega arith)
         ∙ rw (zero₁ s l) (omega arith));
-    kept = rw is (kept-trans ws ws₁ _ kept₁ (tallied-kept (kidsAt ws₁) ws₁ n under));
+    kept = rw is (frame-then _ _ ws ws₁ _ kept₁ (tallied-frame (kidsAt ws₁) ws₁ n under));
   }
     where
       same : (t : ℕ) → t < n → kidsAt ws₁ t ≡ kidsAt ws t

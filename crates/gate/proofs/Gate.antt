@@ -15,6 +15,7 @@ use Rattle.model.specs.Gate.{isContextProperty, isInternal, isConst, shouldHois
 use Rattle.key.specs.declared.Parts.{Parts}
 use Rattle.key.specs.declared.Symbol.{Symbol}
 use Rattle.key.specs.Key.{partsOf, symbolAt}
+use Rattle.regions.specs.Regions.{SLOTS}
 use Rattle.record.specs.Record.{rowAt}
 use Rattle.symbols.specs.Symbols.{keyRec, symsOf, Sound}
 use Rattle.symbols.proofs.Same.{key-shape, key-opcode, key-plain, key-field}
@@ -81,7 +82,7 @@ module _ (y : Sym) (uses : ℕ) where
 -- the record of symbol s, by what is loaded
 module _ (bs ws : List ℕ) (s : ℕ) (x : Symbol) (p : Parts) (loads : x ≡ symbolAt ws s) (is : p ≡ partsOf (x .node))
   where
-    pub loaded-from : Sound bs ws 2560 s → p .source < recordCount bs
+    pub loaded-from : Sound bs ws (SLOTS .size) s → p .source < recordCount bs
     loaded-from sound = rw (is, loads) (sound .from)
 
     module _ (n : ℕ) (lt : s < n) where

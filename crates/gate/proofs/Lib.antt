@@ -1,4 +1,4 @@
--- Laws of counts, marks and the gate. Assumes nothing.
+-- Laws of counts, of what is reached and of the gate. Assumes nothing.
 pub mod Gate
 pub mod Words
 pub mod Reach

@@ -9,16 +9,17 @@ use native.Mathlib.Omega.{arith}
 use native.Mathlib.Numerals.{add-one}
 use lib.ListN.{length, getD}
 use Rattle.model.specs.Lists.{count}
+use Rattle.regions.specs.Regions.{SLOTS, REACHED, end}
 use Rattle.key.specs.declared.Symbol.{Symbol}
 use Rattle.key.specs.Key.{symbolAt}
 use Rattle.key.proofs.Laws.{symbol-agree}
 use Rattle.symbols.specs.Words.{wordsFrom, slotsFrom}
 use Rattle.symbols.specs.Symbols.{kidsAt}
 use Rattle.symbols.proofs.Words.{words-length, words-more, words-agree}
-use Rattle.gate.specs.Gate.{usesAt, noted, allNoted, Lower, Stored, Small, Notable, Kept}
+use Rattle.gate.specs.Gate.{usesAt, noted, allNoted, Lower, Countable, Small, Notable, CountsOnly}
 use Rattle.laws.proofs.Once.{count-short}
 use Rattle.laws.proofs.Falls.{Under}
-use Rattle.gate.proofs.Words.{allNoted-length, allNoted-more, allNoted-kept, allNoted-uses}
+use Rattle.gate.proofs.Words.{allNoted-more, allNoted-frame, allNoted-uses}
 
 -- ---- a run's members
 
@@ -46,17 +47,17 @@ module _ (ws : List ℕ) (at n : ℕ) (notable : Notable ws at n) (k : ℕ) (lt 
   run-under = words-under ws at k 512 (λ j l. notable .low j (omega arith))
 
   kid-kept : getD ws′ (at + k) 0 ≡ getD ws (at + k) 0
-  kid-kept = rw is (allNoted-kept ws run run-under .before (at + k) (omega (arith, notable .fit)))
+  kid-kept = rw is (allNoted-frame ws run run-under .before (at + k) (omega (arith, notable .fit)))
 
   -- what `note` requires
-  pub kid-fits : (getD ws′ (at + k) 0 < 512) × (9480 ≤ length ws′) × (usesAt ws′ (getD ws′ (at + k) 0) < 4000000000)
+  pub kid-fits : (getD ws′ (at + k) 0 < 512) × (end REACHED ≤ length ws′) × (usesAt ws′ (getD ws′ (at + k) 0) < 4000000000)
   kid-fits =
       let kid = getD ws (at + k) 0 in
       let long = notable .long in
       let few : count kid run ≤ k = omega (arith, count-short kid run, words-length ws at k) in
       let uses = allNoted-uses ws run run-under long kid (notable .low k lt) in
       rw (kid-kept, is)
-      (notable .low k lt, omega (arith, allNoted-length ws run), omega (arith, notable .short, notable .small k lt))
+      (notable .low k lt, omega (arith, allNoted-frame ws run run-under .long), omega (arith, notable .short, notable .small k lt))
 
   pub run-more : noted ws′ (getD ws′ (at + k) 0) ≡ allNoted ws (wordsFrom ws at (k + 1))
   run-more =
@@ -67,20 +68,20 @@ module _ (ws : List ℕ) (at n : ℕ) (notable : Notable ws at n) (k : ℕ) (lt 
 
 module _ (ws : List ℕ) (s : ℕ) (lower : Lower ws s) where
   pub kids-under : Under s (kidsAt ws s)
-  kids-under = words-under ws (2560 + symbolAt ws s .kids) (symbolAt ws s .count) s (lower .lower)
+  kids-under = words-under ws (SLOTS .first + symbolAt ws s .kids) (symbolAt ws s .count) s (lower .lower)
 
-  pub kids-short : (t : ℕ) → count t (kidsAt ws s) ≤ 2560
+  pub kids-short : (t : ℕ) → count t (kidsAt ws s) ≤ SLOTS .size
   kids-short t =
       omega (
         arith,
         count-short t (kidsAt ws s),
-        words-length ws (2560 + symbolAt ws s .kids) (symbolAt ws s .count),
+        words-length ws (SLOTS .first + symbolAt ws s .kids) (symbolAt ws s .count),
         lower .slots,
       )
 
   -- what `note_kids` shows of the symbol that it loads
-  module _ (few : s < 512) (long : 9480 ≤ length ws) (small : Small ws s) (y : Symbol) (is : y ≡ symbolAt ws s) where
-    pub kids-fit : Notable ws (2560 + y .kids) (y .count)
+  module _ (few : s < 512) (long : end REACHED ≤ length ws) (small : Small ws s) (y : Symbol) (is : y ≡ symbolAt ws s) where
+    pub kids-fit : Notable ws (SLOTS .first + y .kids) (y .count)
     kids-fit =
         rw is
         (record {
@@ -97,14 +98,14 @@ kids-noted ws ws′ s y is e = rw is at e
 
 -- ---- words of symbols that are kept
 
-module _ (ws ws′ : List ℕ) (kept : Kept ws ws′) where
+module _ (ws ws′ : List ℕ) (kept : CountsOnly ws ws′) where
   symbol-kept : (s : ℕ) → s < 512 → symbolAt ws′ s ≡ symbolAt ws s
   symbol-kept s l = symbol-agree ws ws′ s (λ k a b. kept .before k (omega arith))
 
   pub kids-kept : (s : ℕ) → s < 512 → Lower ws s → kidsAt ws′ s ≡ kidsAt ws s
   kids-kept s l lower =
       rw (symbol-kept s l)
-      (words-agree ws ws′ (2560 + symbolAt ws s .kids) (symbolAt ws s .count)
+      (words-agree ws ws′ (SLOTS .first + symbolAt ws s .kids) (symbolAt ws s .count)
       (λ k a b. kept .before k (omega (arith, lower .slots))))
 
   lower-kept : (s : ℕ) → s < 512 → Lower ws s → Lower ws′ s
@@ -112,16 +113,16 @@ module _ (ws ws′ : List ℕ) (kept : Kept ws ws′) where
     slots = rw (symbol-kept s l) (lower .slots);
     lower = rw (symbol-kept s l)
         (λ k a. subst (λ (z : ℕ). z < s)
-        (sym (kept .before (2560 + symbolAt ws s .kids + k) (omega (arith, lower .slots)))) (lower .lower k a));
+        (sym (kept .before (SLOTS .first + symbolAt ws s .kids + k) (omega (arith, lower .slots)))) (lower .lower k a));
   }
 
-  pub stored-kept : (n : ℕ) → length ws′ ≡ length ws → Stored ws n → Stored ws′ n
-  stored-kept n e st = record {
+  pub countable-kept : (n : ℕ) → Countable ws n → Countable ws′ n
+  countable-kept n st = record {
     few = st .few;
-    words = omega (arith, st .words);
+    words = omega (arith, kept .long, st .words);
     kids = λ i l. lower-kept i (omega (arith, st .few)) (st .kids i l);
   }
 
-pub stored-less : (ws : List ℕ) (m n : ℕ) → m ≤ n → Stored ws n → Stored ws m
-stored-less ws m n l st =
+pub countable-less : (ws : List ℕ) (m n : ℕ) → m ≤ n → Countable ws n → Countable ws m
+countable-less ws m n l st =
     record { few = omega (arith, st .few); words = st .words; kids = λ i k. st .kids i (omega arith) }

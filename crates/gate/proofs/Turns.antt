@@ -7,38 +7,39 @@ use mathlib.Core.List.{List}
 use native.Mathlib.Omega.{arith}
 use native.Mathlib.Numerals.{add-one}
 use lib.ListN.{length}
+use Rattle.regions.specs.Regions.{SLOTS, REACHED, end}
 use Rattle.symbols.specs.Symbols.{kidsAt}
-use Rattle.gate.specs.Gate.{usesAt, allNoted, visited, visitedDown, tallied, Lower, Stored, Small, Kept}
+use Rattle.gate.specs.Gate.{usesAt, allNoted, visited, visitedDown, tallied, Lower, Countable, Small, CountsOnly}
+use Rattle.laws.proofs.Frame.{frame-none, frame-then}
 use Rattle.laws.proofs.Falls.{Under}
-use Rattle.gate.proofs.Words.{kept-refl, kept-trans, allNoted-length, allNoted-kept, allNoted-uses}
-use Rattle.gate.proofs.Run.{kids-under, kids-short, kids-kept, stored-kept}
-use Rattle.gate.proofs.Visits.{visited-length, visited-kept, visited-bound, visited-agree}
+use Rattle.gate.proofs.Words.{allNoted-frame, allNoted-uses}
+use Rattle.gate.proofs.Run.{kids-under, kids-short, kids-kept, countable-kept}
+use Rattle.gate.proofs.Visits.{visited-frame, visited-bound, visited-agree}
 
 -- the words of symbols are kept, and the counts are bounded by the turns
 pub record Going (ws ws′ : List ℕ) (n turns : ℕ) : Type 0 where
-  pub long : length ws′ ≡ length ws
-  pub kept : Kept ws ws′
-  pub uses : (t : ℕ) → t < n → usesAt ws′ t ≤ 2560 * turns
+  pub kept : CountsOnly ws ws′
+  pub uses : (t : ℕ) → t < n → usesAt ws′ t ≤ SLOTS .size * turns
 
 module _ (ws : List ℕ) (n : ℕ) where
   pub going-start : ((s : ℕ) → s < n → usesAt ws s ≡ 0) → Going ws ws n 0
-  going-start zeros = record { long = refl; kept = kept-refl ws; uses = λ t l. omega (arith, zeros t l) }
+  going-start zeros = record { kept = frame-none _ _ ws; uses = λ t l. omega (arith, zeros t l) }
 
-  module _ (st : Stored ws n) (ws′ : List ℕ) (turns : ℕ) (going : Going ws ws′ n turns) (s : ℕ) (lt : s < n) where
+  module _ (st : Countable ws n) (ws′ : List ℕ) (turns : ℕ) (going : Going ws ws′ n turns) (s : ℕ) (lt : s < n) where
     below : s < 512
     below = omega (arith, st .few)
 
     lower : Lower ws′ s
-    lower = stored-kept ws ws′ (going .kept) n (going .long) st .kids s lt
+    lower = countable-kept ws ws′ (going .kept) n st .kids s lt
 
     under : Under 512 (kidsAt ws′ s)
     under a i = omega (arith, below, kids-under ws′ s lower a i)
 
-    enough : 9480 ≤ length ws′
-    enough = omega (arith, going .long, st .words)
+    enough : end REACHED ≤ length ws′
+    enough = omega (arith, going .kept .long, st .words)
 
     -- what `note_kids` and `visit_symbol` require
-    pub turn-fits : turns ≤ 512 → ((s < 512) × (9480 ≤ length ws′)) × (Lower ws′ s × Small ws′ s)
+    pub turn-fits : turns ≤ 512 → ((s < 512) × (end REACHED ≤ length ws′)) × (Lower ws′ s × Small ws′ s)
     turn-fits few = ((below, enough), (lower, λ t l. omega (arith, going .uses t (omega arith))))
 
     -- the children as they were stored
@@ -48,8 +49,7 @@ module _ (ws : List ℕ) (n : ℕ) where
     module _ (ws″ : List ℕ) where
       pub noted-going : ws″ ≡ allNoted ws′ (kidsAt ws′ s) → Going ws ws″ n (turns + 1)
       noted-going e = record {
-        long = rw e (allNoted-length ws′ (kidsAt ws′ s) ∙ going .long);
-        kept = rw e (kept-trans ws ws′ _ (going .kept) (allNoted-kept ws′ (kidsAt ws′ s) under));
+        kept = rw e (frame-then _ _ ws ws′ _ (going .kept) (allNoted-frame ws′ (kidsAt ws′ s) under));
         uses = rw e
             (λ t l. omega (
               arith,
@@ -61,8 +61,7 @@ module _ (ws : List ℕ) (n : ℕ) where
 
       pub visited-going : ws″ ≡ visited (kidsAt ws′) ws′ s → Going ws ws″ n (turns + 1)
       visited-going e = record {
-        long = rw e (visited-length (kidsAt ws′) ws′ s ∙ going .long);
-        kept = rw e (kept-trans ws ws′ _ (going .kept) (visited-kept (kidsAt ws′) ws′ s under));
+        kept = rw e (frame-then _ _ ws ws′ _ (going .kept) (visited-frame (kidsAt ws′) ws′ s under));
         uses = rw e
             (λ t l. omega (
               arith,

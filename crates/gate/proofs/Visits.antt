@@ -1,5 +1,5 @@
--- Symbols visited from the root downward: what is marked and counted is what model has. In order: one visit; visits
--- downward; the whole, from words cleared and the root marked; what `visit` requires and shows.
+-- Symbols visited from the root downward: what is reached and counted is what model has. In order: one visit; visits
+-- downward; the whole, from words cleared and the root stored as reached; what `visit` requires and shows.
 -- Assumes nothing.
 use Prim.Native.Nat.{ℕ, zero, suc, _+_, _-_, _<_, _≤_}
 use mathlib.Core.Path.{_≡_, refl, sym, ap₂, _∙_}
@@ -13,64 +13,58 @@ use borrow.Author.Tests.{eq-eqb, ne-eqb, eqb-true, eqb-false}
 use Rattle.model.specs.Lists.{isIn, count, union}
 use Rattle.model.specs.Intern.{Sym, symAt}
 use Rattle.model.specs.Gate.{reach, reachable, usage}
+use Rattle.laws.proofs.Frame.{frame-none, frame-then, frame-store}
+use Rattle.regions.specs.Regions.{SLOTS, USES, REACHED, end}
 use Rattle.laws.proofs.Members.{isIn-true, in-isIn, union-left}
 use Rattle.symbols.specs.Symbols.{kidsAt, symsOf}
 use Rattle.symbols.proofs.Laws.{kids-at}
-use Rattle.gate.specs.Gate.{usesAt, markAt, cleared, allNoted, visited, visitedDown, Stored, Kept, Reached}
+use Rattle.gate.specs.Gate.{usesAt, reachedAt, cleared, allNoted, visited, visitedDown, Countable, CountsOnly, Reached}
 use Rattle.laws.proofs.Falls.{Under}
-use Rattle.gate.proofs.Words.{kept-refl, kept-trans, set-kept, cleared-length, cleared-kept, cleared-zero}
-use Rattle.gate.proofs.Words.{allNoted-length, allNoted-kept, allNoted-uses, allNoted-mark}
+use Rattle.gate.proofs.Words.{cleared-frame, cleared-zero}
+use Rattle.gate.proofs.Words.{allNoted-frame, allNoted-uses, allNoted-reached}
 use Rattle.gate.proofs.Reach.{reach-keeps, reach-misses, total, slots-total}
-use Rattle.gate.proofs.Run.{kids-under, kids-kept, stored-kept, stored-less}
+use Rattle.gate.proofs.Run.{kids-under, kids-kept, countable-kept, countable-less}
 
 -- ---- one visit
 
--- the words after it, by the mark
-abbrev byMark : Bool → List ℕ → List ℕ → List ℕ
-byMark t ws ks = elim t [ true ↦ allNoted ws ks | false ↦ ws ]
+-- the words after it, by whether the symbol is reached
+abbrev byReached : Bool → List ℕ → List ℕ → List ℕ
+byReached t ws ks = elim t [ true ↦ allNoted ws ks | false ↦ ws ]
 
 module _ (kids : ℕ → List ℕ) (ws : List ℕ) (s : ℕ) where
-  visited-by : (t : Bool) (ks : List ℕ) → eqb (markAt ws s) 1 ≡ t → kids s ≡ ks → visited kids ws s ≡ byMark t ws ks
+  visited-by : (t : Bool) (ks : List ℕ) → eqb (reachedAt ws s) 1 ≡ t → kids s ≡ ks → visited kids ws s ≡ byReached t ws ks
   unfolding visited
-  visited-by t ks e f = ap₂ (λ (u : Bool) (z : List ℕ). byMark u ws z) e f
+  visited-by t ks e f = ap₂ (λ (u : Bool) (z : List ℕ). byReached u ws z) e f
 
-  pub visited-marked : markAt ws s ≡ 1 → allNoted ws (kids s) ≡ visited kids ws s
-  visited-marked e = sym (visited-by true (kids s) (eq-eqb (markAt ws s) 1 e) refl)
+  pub visited-reached : reachedAt ws s ≡ 1 → allNoted ws (kids s) ≡ visited kids ws s
+  visited-reached e = sym (visited-by true (kids s) (eq-eqb (reachedAt ws s) 1 e) refl)
 
-  pub visited-other : (markAt ws s ≡ 1 → ⊥) → ws ≡ visited kids ws s
-  visited-other h = sym (visited-by false (kids s) (ne-eqb (markAt ws s) 1 h) refl)
-
-  pub visited-length : length (visited kids ws s) ≡ length ws
-  unfolding visited
-  visited-length = go (eqb (markAt ws s) 1)
-    where
-      go : (t : Bool) → length {A = ℕ} (byMark t ws (kids s)) ≡ length ws
-      go true = allNoted-length ws (kids s)
-      go false = refl
+  pub visited-other : (reachedAt ws s ≡ 1 → ⊥) → ws ≡ visited kids ws s
+  visited-other h = sym (visited-by false (kids s) (ne-eqb (reachedAt ws s) 1 h) refl)
 
   module _ (under : Under 512 (kids s)) where
-    pub visited-kept : Kept ws (visited kids ws s)
+    pub visited-frame : CountsOnly ws (visited kids ws s)
     unfolding visited
-    visited-kept = go (eqb (markAt ws s) 1)
+    visited-frame = go (eqb (reachedAt ws s) 1)
       where
-        go : (t : Bool) → Kept ws (byMark t ws (kids s))
-        go true = allNoted-kept ws (kids s) under
-        go false = kept-refl ws
+        go : (t : Bool) → CountsOnly ws (byReached t ws (kids s))
+        go true = allNoted-frame ws (kids s) under
+        go false = frame-none _ _ ws
 
-    -- a count goes up by at most 2,560
-    pub visited-bound : 9480 ≤ length ws → (t : ℕ) → t < 512 → count t (kids s) ≤ 2560 →
-        usesAt (visited kids ws s) t ≤ usesAt ws t + 2560
+    -- a count goes up by at most the slots
+    pub visited-bound : end REACHED ≤ length ws → (t : ℕ) → t < 512 → count t (kids s) ≤ SLOTS .size →
+        usesAt (visited kids ws s) t ≤ usesAt ws t + SLOTS .size
     unfolding visited
-    visited-bound long t lt short = go (eqb (markAt ws s) 1)
+    visited-bound long t lt short = go (eqb (reachedAt ws s) 1)
       where
-        go : (b : Bool) → usesAt (byMark b ws (kids s)) t ≤ usesAt ws t + 2560
+        go : (b : Bool) → usesAt (byReached b ws (kids s)) t ≤ usesAt ws t + SLOTS .size
         go true = omega (arith, allNoted-uses ws (kids s) under long t lt)
         go false = omega arith
 
 pub visited-agree : (kids kids′ : ℕ → List ℕ) (ws : List ℕ) (s : ℕ) → kids′ s ≡ kids s →
     visited kids′ ws s ≡ visited kids ws s
 unfolding visited
-visited-agree kids kids′ ws s e = visited-by kids′ ws s (eqb (markAt ws s) 1) (kids s) refl e
+visited-agree kids kids′ ws s e = visited-by kids′ ws s (eqb (reachedAt ws s) 1) (kids s) refl e
 
 -- ---- visits downward
 
@@ -83,35 +77,35 @@ down-step kids ws ws′ (suc s) l e =
     let f : ws′ ≡ visited kids ws s = rw q at e in
     rw (q, f)
 
-down-kept : (kids : ℕ → List ℕ) (m : ℕ) → ((t : ℕ) → t < m → Under 512 (kids t)) → (ws : List ℕ) →
-    Kept ws (visitedDown kids ws m)
+down-frame : (kids : ℕ → List ℕ) (m : ℕ) → ((t : ℕ) → t < m → Under 512 (kids t)) → (ws : List ℕ) →
+    CountsOnly ws (visitedDown kids ws m)
 unfolding visitedDown
-down-kept kids zero h ws = kept-refl ws
-down-kept kids (suc m) h ws =
-    kept-trans ws (visited kids ws m) (visitedDown kids (visited kids ws m) m)
-    (visited-kept kids ws m (h m (omega arith))) (down-kept kids m (λ t l. h t (omega arith)) (visited kids ws m))
+down-frame kids zero h ws = frame-none _ _ ws
+down-frame kids (suc m) h ws =
+    frame-then _ _ ws (visited kids ws m) (visitedDown kids (visited kids ws m) m)
+    (visited-frame kids ws m (h m (omega arith))) (down-frame kids m (λ t l. h t (omega arith)) (visited kids ws m))
 
 module _ (ss : List Sym) (n : ℕ) (few : n ≤ 512) (low : (t : ℕ) → t < n → Under t (symAt ss t .kids))
     (kids : ℕ → List ℕ) (same : (t : ℕ) → t < n → kids t ≡ symAt ss t .kids) (s : ℕ) where
-  -- what was counted and marked from ws on: the slots of the symbols below m that are in `is`, and these
+  -- what was counted and reached from ws on: the slots of the symbols below m that are in `is`, and these
   abbrev Result : ℕ → List ℕ → List ℕ → List ℕ → Type 0
   Result m ws is ws′ =
       (usesAt ws′ s ≡ usesAt ws s + total (λ t. count s (symAt ss t .kids)) is m) ×
-      (eqb (markAt ws′ s) 1 ≡ isIn s is)
+      (eqb (reachedAt ws′ s) 1 ≡ isIn s is)
 
-  pub down-result : (m : ℕ) → m ≤ n → (ws seen : List ℕ) → 9480 ≤ length ws →
-      ((t : ℕ) → t < n → eqb (markAt ws t) 1 ≡ isIn t seen) → s < n →
+  pub down-result : (m : ℕ) → m ≤ n → (ws seen : List ℕ) → end REACHED ≤ length ws →
+      ((t : ℕ) → t < n → eqb (reachedAt ws t) 1 ≡ isIn t seen) → s < n →
       Result m ws (reach ss m seen) (visitedDown kids ws m)
   unfolding visitedDown reach
-  down-result zero l ws seen long marks lt = (omega arith, marks s lt)
-  down-result (suc m) l ws seen long marks lt =
+  down-result zero l ws seen long known lt = (omega arith, known s lt)
+  down-result (suc m) l ws seen long known lt =
       let ks = symAt ss m .kids in
       let u : Under 512 ks = λ a i. omega (arith, low m (omega arith) a i) in
-      rw (visited-by kids ws m (isIn m seen) ks (marks m (omega arith)) (same m (omega arith)))
+      rw (visited-by kids ws m (isIn m seen) ks (known m (omega arith)) (same m (omega arith)))
       (go (isIn m seen) refl u
-      (down-result m (omega arith) (allNoted ws ks) (union seen ks) (omega (arith, allNoted-length ws ks))
-      (λ t k. allNoted-mark ws ks u long t (omega arith) seen (marks t k)) lt)
-      (down-result m (omega arith) ws seen long marks lt))
+      (down-result m (omega arith) (allNoted ws ks) (union seen ks) (omega (arith, allNoted-frame ws ks u .long))
+      (λ t k. allNoted-reached ws ks u long t (omega arith) seen (known t k)) lt)
+      (down-result m (omega arith) ws seen long known lt))
     where
       ks : List ℕ
       ks = symAt ss m .kids
@@ -120,7 +114,7 @@ module _ (ss : List Sym) (n : ℕ) (few : n ≤ 512) (low : (t : ℕ) → t < n 
           Result m (allNoted ws ks) (reach ss m (union seen ks)) (visitedDown kids (allNoted ws ks) m) →
           Result m ws (reach ss m seen) (visitedDown kids ws m) →
           Result (suc m) ws (elim b [ true ↦ reach ss m (union seen ks) | false ↦ reach ss m seen ])
-          (visitedDown kids (byMark b ws ks) m)
+          (visitedDown kids (byReached b ws ks) m)
       go true e u r q =
           let i : isIn m (reach ss m (union seen ks)) ≡ true =
           in-isIn m (reach ss m (union seen ks))
@@ -130,49 +124,46 @@ module _ (ss : List Sym) (n : ℕ) (few : n ≤ 512) (low : (t : ℕ) → t < n 
           let i : isIn m (reach ss m seen) ≡ false = reach-misses ss n low m (omega arith) seen e in
           (rw i (omega (arith, q .0)), q .1)
 
--- ---- the whole: words cleared, the root marked, and visits from it downward
+-- ---- the whole: words cleared, the root stored as reached, and visits from it downward
 
-module _ (ws : List ℕ) (n root : ℕ) (st : Stored ws n) (lt : root < n) where
-  abbrev pub marked : List ℕ
-  marked = set (cleared ws n) (8968 + root) 1
+module _ (ws : List ℕ) (n root : ℕ) (st : Countable ws n) (lt : root < n) where
+  abbrev pub rooted : List ℕ
+  rooted = set (cleared ws n) (REACHED .first + root) 1
 
-  pub marked-length : length marked ≡ length ws
-  marked-length = length-set (cleared ws n) (8968 + root) 1 ∙ cleared-length ws n
-
-  pub marked-kept : Kept ws marked
-  marked-kept =
+  pub rooted-frame : CountsOnly ws rooted
+  rooted-frame =
       let few : root < 512 = omega (arith, st .few) in
-      kept-trans ws (cleared ws n) marked (cleared-kept ws n (st .few))
-      (set-kept (cleared ws n) (8968 + root) 1 (omega arith) (omega arith))
+      frame-then _ _ ws (cleared ws n) rooted (cleared-frame ws n (st .few))
+      (frame-store _ _ (REACHED .first + root) 1 (cleared ws n) (omega arith) (omega arith))
 
-  pub marked-uses : (s : ℕ) → s < n → usesAt marked s ≡ 0
-  marked-uses s l =
+  pub rooted-uses : (s : ℕ) → s < n → usesAt rooted s ≡ 0
+  rooted-uses s l =
       let few : s < 512 = omega (arith, st .few) in
-      getD-set-other (cleared ws n) (8968 + root) (8456 + s) 1 0 (λ e. omega arith)
+      getD-set-other (cleared ws n) (REACHED .first + root) (USES .first + s) 1 0 (λ e. omega arith)
       ∙ cleared-zero ws n s (st .few) (st .words) l .0
 
-  marked-marks : (s : ℕ) → s < n → eqb (markAt marked s) 1 ≡ isIn s (root ∷ [])
+  rooted-reached : (s : ℕ) → s < n → eqb (reachedAt rooted s) 1 ≡ isIn s (root ∷ [])
   unfolding isIn
-  marked-marks s l = go (eqb s root) refl
+  rooted-reached s l = go (eqb s root) refl
     where
-      go : (t : Bool) → eqb s root ≡ t → eqb (markAt marked s) 1 ≡ (t || false)
+      go : (t : Bool) → eqb s root ≡ t → eqb (reachedAt rooted s) 1 ≡ (t || false)
       go true e =
           let q : s ≡ root = eqb-true s root e in
           let few : root < 512 = omega (arith, st .few) in
           rw q
-          (eq-eqb (markAt marked root) 1
-          (getD-set-same (cleared ws n) (8968 + root) 1 0 (omega (arith, cleared-length ws n, st .words))))
+          (eq-eqb (reachedAt rooted root) 1
+          (getD-set-same (cleared ws n) (REACHED .first + root) 1 0 (omega (arith, cleared-frame ws n (st .few) .long, st .words))))
       go false e =
           let h : s ≡ root → ⊥ = eqb-false s root e in
-          let z : markAt marked s ≡ 0 =
-          getD-set-other (cleared ws n) (8968 + root) (8968 + s) 1 0 (λ q. h (omega arith))
+          let z : reachedAt rooted s ≡ 0 =
+          getD-set-other (cleared ws n) (REACHED .first + root) (REACHED .first + s) 1 0 (λ q. h (omega arith))
           ∙ cleared-zero ws n s (st .few) (st .words) l .1 in
-          ne-eqb (markAt marked s) 1 (λ q. omega arith)
+          ne-eqb (reachedAt rooted s) 1 (λ q. omega arith)
 
-  module _ (ws′ : List ℕ) (is : ws′ ≡ visitedDown (kidsAt marked) marked (suc root)) where
-    same-kids : (bs : List ℕ) (t : ℕ) → t < n → kidsAt marked t ≡ symAt (symsOf bs ws n) t .kids
+  module _ (ws′ : List ℕ) (is : ws′ ≡ visitedDown (kidsAt rooted) rooted (suc root)) where
+    same-kids : (bs : List ℕ) (t : ℕ) → t < n → kidsAt rooted t ≡ symAt (symsOf bs ws n) t .kids
     same-kids bs t l =
-        kids-kept ws marked marked-kept t (omega (arith, st .few)) (st .kids t l) ∙ sym (kids-at bs ws n t l)
+        kids-kept ws rooted rooted-frame t (omega (arith, st .few)) (st .kids t l) ∙ sym (kids-at bs ws n t l)
 
     low : (bs : List ℕ) (t : ℕ) → t < n → Under t (symAt (symsOf bs ws n) t .kids)
     low bs t l = rw (kids-at bs ws n t l) (kids-under ws t (st .kids t l))
@@ -183,34 +174,34 @@ module _ (ws : List ℕ) (n root : ℕ) (st : Stored ws n) (lt : root < n) where
       uses = λ bs scs s l.
           rw is
           (result bs s l .0
-          ∙ rw (marked-uses s l) (omega (arith, slots-total (symsOf bs ws n) n (low bs) root lt s)));
-      marks = λ bs s l. rw is (result bs s l .1);
+          ∙ rw (rooted-uses s l) (omega (arith, slots-total (symsOf bs ws n) n (low bs) root lt s)));
+      reached = λ bs s l. rw is (result bs s l .1);
       kept = rw is
-          (kept-trans ws marked (visitedDown (kidsAt marked) marked (suc root)) marked-kept
-          (down-kept (kidsAt marked) (suc root)
+          (frame-then _ _ ws rooted (visitedDown (kidsAt rooted) rooted (suc root)) rooted-frame
+          (down-frame (kidsAt rooted) (suc root)
           (λ t k a i.
-          omega (arith, st .few, low [] t (omega arith) a (rw (same-kids [] t (omega arith)) at i))) marked));
+          omega (arith, st .few, low [] t (omega arith) a (rw (same-kids [] t (omega arith)) at i))) rooted));
     }
       where
         result : (bs : List ℕ) (s : ℕ) → s < n →
-            Result (symsOf bs ws n) n (st .few) (low bs) (kidsAt marked) (same-kids bs) s (suc root) marked
-            (reach (symsOf bs ws n) (suc root) (root ∷ [])) (visitedDown (kidsAt marked) marked (suc root))
+            Result (symsOf bs ws n) n (st .few) (low bs) (kidsAt rooted) (same-kids bs) s (suc root) rooted
+            (reach (symsOf bs ws n) (suc root) (root ∷ [])) (visitedDown (kidsAt rooted) rooted (suc root))
         result bs s l =
-            down-result (symsOf bs ws n) n (st .few) (low bs) (kidsAt marked) (same-kids bs) s (suc root) (omega arith)
-            marked (root ∷ []) (omega (arith, st .words, marked-length)) marked-marks l
+            down-result (symsOf bs ws n) n (st .few) (low bs) (kidsAt rooted) (same-kids bs) s (suc root) (omega arith)
+            rooted (root ∷ []) (omega (arith, st .words, rooted-frame .long)) rooted-reached l
 
 -- what `visit` requires of these words, and what it shows of them
-module _ (ws ws₁ : List ℕ) (n root : ℕ) (st : Stored ws n) (lt : root < n) (clears : ws₁ ≡ cleared ws n) where
-  pub marked-ready : Stored (set ws₁ (8968 + root) 1) (suc root) ×
-      ((s : ℕ) → s < suc root → usesAt (set ws₁ (8968 + root) 1) s ≡ 0)
-  marked-ready =
-      let vs = marked ws n root st lt in
+module _ (ws ws₁ : List ℕ) (n root : ℕ) (st : Countable ws n) (lt : root < n) (clears : ws₁ ≡ cleared ws n) where
+  pub rooted-ready : Countable (set ws₁ (REACHED .first + root) 1) (suc root) ×
+      ((s : ℕ) → s < suc root → usesAt (set ws₁ (REACHED .first + root) 1) s ≡ 0)
+  rooted-ready =
+      let vs = rooted ws n root st lt in
       rw clears (
-        stored-less vs (suc root) n lt
-            (stored-kept ws vs (marked-kept ws n root st lt) n (marked-length ws n root st lt) st),
-        λ s l. marked-uses ws n root st lt s (omega arith),
+        countable-less vs (suc root) n lt
+            (countable-kept ws vs (rooted-frame ws n root st lt) n st),
+        λ s l. rooted-uses ws n root st lt s (omega arith),
       )
 
   pub reached-from : (ws′ : List ℕ) →
-      ws′ ≡ visitedDown (kidsAt (set ws₁ (8968 + root) 1)) (set ws₁ (8968 + root) 1) (suc root) → Reached ws ws′ n root
+      ws′ ≡ visitedDown (kidsAt (set ws₁ (REACHED .first + root) 1)) (set ws₁ (REACHED .first + root) 1) (suc root) → Reached ws ws′ n root
   reached-from ws′ is = reached ws n root st lt ws′ (rw clears at is)

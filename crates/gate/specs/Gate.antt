@@ -1,4 +1,5 @@
--- Counts and marks of symbols in work words: the count of symbol s is word 8,456 + s, its mark word 8,968 + s.
+-- Counts of symbols in work words: word s of region USES is the count of symbol s, word s of REACHED is 1 if it is
+-- reached.
 -- In order: what the functions do to words; what holds of the words of symbols; what the words hold at the end.
 -- Assumes nothing.
 use Prim.Native.Nat.{ℕ, zero, suc, _+_, _<_, _≤_}
@@ -9,35 +10,36 @@ use lib.Dec.{eqb}
 use lib.ListN.{length, getD, set}
 use Rattle.model.specs.Lists.{isIn, count}
 use Rattle.model.specs.Intern.{Scope}
-use Rattle.model.specs.Gate.{reach, reachable, usage}
-use Rattle.model.specs.Lister.{allSlots}
+use Rattle.model.specs.Gate.{reach, reachable, usage, allSlots}
+use Rattle.laws.specs.Frame.{Frame}
+use Rattle.regions.specs.Regions.{SLOTS, USES, REACHED, end}
 use Rattle.key.specs.Key.{symbolAt}
 use Rattle.symbols.specs.Symbols.{symsOf}
 
 -- ---- what the functions do to words
 
 abbrev pub usesAt : List ℕ → ℕ → ℕ
-usesAt ws s = getD ws (8456 + s) 0
+usesAt ws s = getD ws (USES .first + s) 0
 
-abbrev pub markAt : List ℕ → ℕ → ℕ
-markAt ws s = getD ws (8968 + s) 0
+abbrev pub reachedAt : List ℕ → ℕ → ℕ
+reachedAt ws s = getD ws (REACHED .first + s) 0
 
--- counts and marks of the symbols below n are 0
+-- the symbols below n are counted 0 and not reached
 unfoldable pub cleared : List ℕ → ℕ → List ℕ
 cleared ws zero = ws
-cleared ws (suc n) = set (set (cleared ws n) (8456 + n) 0) (8968 + n) 0
+cleared ws (suc n) = set (set (cleared ws n) (USES .first + n) 0) (REACHED .first + n) 0
 
--- one use more of symbol s, which is marked
+-- one use more of symbol s, which is reached
 unfoldable pub noted : List ℕ → ℕ → List ℕ
-noted ws s = set (set ws (8456 + s) (usesAt ws s + 1)) (8968 + s) 1
+noted ws s = set (set ws (USES .first + s) (usesAt ws s + 1)) (REACHED .first + s) 1
 
 unfoldable pub allNoted : List ℕ → List ℕ → List ℕ
 allNoted ws [] = ws
 allNoted ws (k ∷ ks) = allNoted (noted ws k) ks
 
--- the children of symbol s noted, if it is marked
+-- the children of symbol s noted, if it is reached
 unfoldable pub visited : (ℕ → List ℕ) → List ℕ → ℕ → List ℕ
-visited kids ws s = elim (eqb (markAt ws s) 1) [ true ↦ allNoted ws (kids s) | false ↦ ws ]
+visited kids ws s = elim (eqb (reachedAt ws s) 1) [ true ↦ allNoted ws (kids s) | false ↦ ws ]
 
 -- the symbols below n visited, the highest first
 unfoldable pub visitedDown : (ℕ → List ℕ) → List ℕ → ℕ → List ℕ
@@ -53,13 +55,13 @@ tallied kids ws (suc n) = allNoted (tallied kids ws n) (kids n)
 
 -- the slots of symbol i are in their region, and its children are lower symbols
 pub record Lower (ws : List ℕ) (i : ℕ) : Type 0 where
-  pub slots : symbolAt ws i .kids + symbolAt ws i .count ≤ 2560
-  pub lower : (k : ℕ) → k < symbolAt ws i .count → getD ws (2560 + symbolAt ws i .kids + k) 0 < i
+  pub slots : symbolAt ws i .kids + symbolAt ws i .count ≤ SLOTS .size
+  pub lower : (k : ℕ) → k < symbolAt ws i .count → getD ws (SLOTS .first + symbolAt ws i .kids + k) 0 < i
 
--- n symbols, and room for counts and marks
-pub record Stored (ws : List ℕ) (n : ℕ) : Type 0 where
+-- n symbols whose uses can be counted
+pub record Countable (ws : List ℕ) (n : ℕ) : Type 0 where
   pub few : n ≤ 512
-  pub words : 9480 ≤ length ws
+  pub words : end REACHED ≤ length ws
   pub kids : (i : ℕ) → i < n → Lower ws i
 
 -- the counts of the symbols below n are far from a word's largest number
@@ -68,28 +70,27 @@ Small ws n = (s : ℕ) → s < n → usesAt ws s < 2000000000
 
 -- n words from `at` on are symbols that may be noted
 pub record Notable (ws : List ℕ) (at n : ℕ) : Type 0 where
-  pub fit : at + n ≤ 8456
-  pub long : 9480 ≤ length ws
-  pub short : n ≤ 2560
+  pub fit : at + n ≤ USES .first
+  pub long : end REACHED ≤ length ws
+  pub short : n ≤ SLOTS .size
   pub low : (k : ℕ) → k < n → getD ws (at + k) 0 < 512
   pub small : (k : ℕ) → k < n → usesAt ws (getD ws (at + k) 0) < 2000000000
 
 -- ---- what the words hold at the end
 
--- all words but counts and marks are kept
-pub record Kept (ws ws′ : List ℕ) : Type 0 where
-  pub before : (k : ℕ) → k < 8456 → getD ws′ k 0 ≡ getD ws k 0
-  pub after : (k : ℕ) → 9480 ≤ k → getD ws′ k 0 ≡ getD ws k 0
+-- no word changed but those of counts
+abbrev pub CountsOnly : List ℕ → List ℕ → Type 0
+CountsOnly ws ws′ = Frame (USES .first) (end REACHED) ws ws′
 
--- the symbols below n that are reached from the root are marked, and the slots of these are counted
+-- the symbols below n that are reached from the root are known, and the slots of these are counted
 pub record Reached (ws ws′ : List ℕ) (n root : ℕ) : Type 0 where
   pub uses : (bs : List ℕ) (scs : List Scope) (s : ℕ) → s < n →
       usesAt ws′ s ≡ usage (reachable (symsOf bs ws n) scs root) s
-  pub marks : (bs : List ℕ) (s : ℕ) → s < n →
-      eqb (markAt ws′ s) 1 ≡ isIn s (reach (symsOf bs ws n) (suc root) (root ∷ []))
-  pub kept : Kept ws ws′
+  pub reached : (bs : List ℕ) (s : ℕ) → s < n →
+      eqb (reachedAt ws′ s) 1 ≡ isIn s (reach (symsOf bs ws n) (suc root) (root ∷ []))
+  pub kept : CountsOnly ws ws′
 
 -- the slots of all symbols below n are counted
 pub record Tallied (ws ws′ : List ℕ) (n : ℕ) : Type 0 where
   pub uses : (bs : List ℕ) (s : ℕ) → s < n → usesAt ws′ s ≡ count s (allSlots (symsOf bs ws n))
-  pub kept : Kept ws ws′
+  pub kept : CountsOnly ws ws′

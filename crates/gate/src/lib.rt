@@ -1,22 +1,21 @@
-// Usage and the gate (gate.rs): how often a symbol is used, and whether it may be hoisted. The count of symbol s is
-// word 8,456 + s, its mark word 8,968 + s.
+// Usage and the gate (gate.rs): how often a symbol is used, and whether it may be hoisted. Word s of region USES is the
+// count of symbol s, word s of region REACHED is 1 if it is reached.
 // In order: words cleared, uses noted; what is reached from the root, counted; all uses counted; the gate.
+use regions::REACHED;
 use regions::SLOTS;
+use regions::USES;
 ghost use mathlib.Core.Path.{_≡_};
 ghost use Prim.Native.Nat.{ℕ, suc, _+_, _*_, _<_, _≤_};
 ghost use lib.ListN.{length};
 ghost use Rattle.model.specs.Forest.{recordCount};
 ghost use Rattle.model.specs.Intern.{Sym, symAt};
 ghost use Rattle.model.specs.Gate.{isContextProperty, isInternal, isConst, shouldHoist};
+ghost use Rattle.regions.specs.Regions.{SLOTS, REACHED, end};
 ghost use Rattle.record.specs.Record.{Laid};
 ghost use Rattle.symbols.specs.Words.{wordsFrom};
 ghost use Rattle.symbols.specs.Symbols.{keyRec, kidsAt, symsOf, Sound};
 ghost use Rattle.gate.specs.Gate.{usesAt, cleared, noted, allNoted, visited, visitedDown, tallied};
-ghost use Rattle.gate.specs.Gate.{Lower, Stored, Small, Notable, Reached, Tallied};
-
-pub const USES: usize = 8456;
-
-pub const MARKS: usize = 8968;
+ghost use Rattle.gate.specs.Gate.{Lower, Countable, Small, Notable, Reached, Tallied};
 
 const HEIGHT: u8 = 0xA3;
 
@@ -29,24 +28,24 @@ const SELF_BOX: u8 = 0xA7;
 const GLOBAL: u8 = 0xDD;
 
 fn clear(work: &mut [u32], n: usize)
-    requires { ⌜ (n ≤ 512) × (9480 ≤ length (now work)) ⌝ }
+    requires { ⌜ (n ≤ 512) × (end REACHED ≤ length (now work)) ⌝ }
     ensures { λ _. ⌜ now (work .exit) ≡ cleared (now (work .entry)) n ⌝ }
 {
     let mut s = 0;
     while s < n {
         work[USES + s] = 0;
-        work[MARKS + s] = 0;
+        work[REACHED + s] = 0;
         s += 1;
     }
 }
 
 // One use more of symbol s.
 fn note(work: &mut [u32], s: usize)
-    requires { ⌜ (s < 512) × (9480 ≤ length (now work)) × (usesAt (now work) s < 4000000000) ⌝ }
+    requires { ⌜ (s < 512) × (end REACHED ≤ length (now work)) × (usesAt (now work) s < 4000000000) ⌝ }
     ensures { λ _. ⌜ now (work .exit) ≡ noted (now (work .entry)) s ⌝ }
 {
     work[USES + s] += 1;
-    work[MARKS + s] = 1;
+    work[REACHED + s] = 1;
 }
 
 // The symbols in the words from `at` on.
@@ -64,7 +63,7 @@ fn note_all(work: &mut [u32], at: usize, count: usize)
 
 // The children of symbol s.
 fn note_kids(work: &mut [u32], s: usize)
-    requires { ⌜ (s < 512) × (9480 ≤ length (now work)) ⌝ }
+    requires { ⌜ (s < 512) × (end REACHED ≤ length (now work)) ⌝ }
     requires { ⌜ Lower (now work) s ⌝ }
     requires { ⌜ Small (now work) s ⌝ }
     ensures { λ _. ⌜ now (work .exit) ≡ allNoted (now (work .entry)) (kidsAt (now (work .entry)) s) ⌝ }
@@ -75,22 +74,22 @@ fn note_kids(work: &mut [u32], s: usize)
     note_all(work, SLOTS + kids, count)
 }
 
-// The children of symbol s, if it is marked.
+// The children of symbol s, if it is reached.
 fn visit_symbol(work: &mut [u32], s: usize)
-    requires { ⌜ (s < 512) × (9480 ≤ length (now work)) ⌝ }
+    requires { ⌜ (s < 512) × (end REACHED ≤ length (now work)) ⌝ }
     requires { ⌜ Lower (now work) s ⌝ }
     requires { ⌜ Small (now work) s ⌝ }
     ensures { λ _. ⌜ now (work .exit) ≡ visited (kidsAt (now (work .entry))) (now (work .entry)) s ⌝ }
 {
-    let mark = work[MARKS + s];
-    if mark == 1 {
+    let reached = work[REACHED + s];
+    if reached == 1 {
         note_kids(work, s);
     }
 }
 
-// A child is lower than its parent, so each symbol is marked before its turn if it is reached at all.
+// A child is lower than its parent, so each symbol is known as reached before its turn if it is reached at all.
 fn visit(work: &mut [u32], root: usize)
-    requires { ⌜ Stored (now work) (suc root) ⌝ }
+    requires { ⌜ Countable (now work) (suc root) ⌝ }
     requires { ⌜ ((s : ℕ) → s < suc root → usesAt (now work) s ≡ 0) ⌝ }
     ensures { λ _. ⌜ now (work .exit) ≡ visitedDown (kidsAt (now (work .entry))) (now (work .entry)) (suc root) ⌝ }
 {
@@ -101,20 +100,20 @@ fn visit(work: &mut [u32], root: usize)
     }
 }
 
-// Marks the symbols that are reached from the root, and counts their uses (`flat_usage_reachable`), among n symbols.
+// Finds the symbols that are reached from the root, and counts their uses (`flat_usage_reachable`), among n symbols.
 // Rules out: the slots of a symbol that nothing reaches counted; one use for a symbol that is a child twice.
 pub fn reach_and_count(work: &mut [u32], n: usize, root: usize)
-    requires { ⌜ Stored (now work) n ⌝ }
+    requires { ⌜ Countable (now work) n ⌝ }
     requires { ⌜ root < n ⌝ }
     ensures { λ _. ⌜ Reached (now (work .entry)) (now (work .exit)) n root ⌝ }
 {
     clear(work, n);
-    work[MARKS + root] = 1;
+    work[REACHED + root] = 1;
     visit(work, root)
 }
 
 fn tally(work: &mut [u32], n: usize)
-    requires { ⌜ Stored (now work) n ⌝ }
+    requires { ⌜ Countable (now work) n ⌝ }
     requires { ⌜ ((s : ℕ) → s < n → usesAt (now work) s ≡ 0) ⌝ }
     ensures { λ _. ⌜ now (work .exit) ≡ tallied (kidsAt (now (work .entry))) (now (work .entry)) n ⌝ }
 {
@@ -128,7 +127,7 @@ fn tally(work: &mut [u32], n: usize)
 // Counts the uses of each of n symbols by all of them (`flat_usage`), as the lister shows them.
 // Rules out: the slots of a symbol that nothing reaches left out; counts added to what the words held before.
 pub fn count_all(work: &mut [u32], n: usize)
-    requires { ⌜ Stored (now work) n ⌝ }
+    requires { ⌜ Countable (now work) n ⌝ }
     ensures { λ _. ⌜ Tallied (now (work .entry)) (now (work .exit)) n ⌝ }
 {
     clear(work, n);
@@ -176,7 +175,7 @@ fn is_const(forest: &[u8], i: usize, field: u32) -> bool
 // Rules out: a symbol that is used once; HEIGHT, however often it is used.
 pub fn should_hoist(forest: &[u8], work: &[u32], s: usize, uses: u32) -> bool
     requires { ⌜ Laid (now forest) ⌝ }
-    requires { ⌜ Sound (now forest) (now work) 2560 s ⌝ }
+    requires { ⌜ Sound (now forest) (now work) (SLOTS .size) s ⌝ }
     requires { ⌜ 5 * s + 5 ≤ length (now work) ⌝ }
     ensures { λ r.
         ⌜ ((n : ℕ) → s < n → r ≡ shouldHoist (symAt (symsOf (now (forest .entry)) (now (work .entry)) n) s) uses) ⌝ }

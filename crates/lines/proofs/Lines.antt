@@ -12,7 +12,8 @@ use lib.ListN.{length, length-append}
 use Rattle.model.specs.Lists.{count}
 use Rattle.model.specs.Text.{text}
 use Rattle.model.specs.Intern.{Sym, symAt}
-use Rattle.model.specs.Lister.{decimal, line, linesFrom, allSlots, symbolLines}
+use Rattle.model.specs.Lister.{decimal, line, linesFrom, symbolLines}
+use Rattle.model.specs.Gate.{allSlots}
 use Rattle.key.specs.Key.{symbolAt}
 use Rattle.symbols.specs.Symbols.{kidsAt, symOf, symFrom, symsOf, AllSound}
 use Rattle.symbols.proofs.Words.{words-length}

@@ -7,7 +7,8 @@ use lib.ListN.{length}
 use Rattle.model.specs.Lists.{count}
 use Rattle.model.specs.Text.{text}
 use Rattle.model.specs.Intern.{Node}
-use Rattle.model.specs.Lister.{decimal, hexByte, tagOf, opcodeShown, allSlots}
+use Rattle.model.specs.Lister.{decimal, hexByte, tagOf, opcodeShown}
+use Rattle.model.specs.Gate.{allSlots}
 use Rattle.record.specs.Record.{Laid}
 use Rattle.symbols.specs.Symbols.{symsOf, AllSound}
 use Rattle.gate.specs.Gate.{usesAt}

@@ -1,6 +1,6 @@
 // The lister's lines, written over an output. In order: a number; a symbol's columns; its line; all symbols.
 // A refusal's line is written by `text`.
-use gate::USES;
+use regions::USES;
 use key::Node;
 ghost use mathlib.Core.Path.{_≡_};
 ghost use mathlib.Core.List.{List, [], _∷_, _++_};
@@ -8,7 +8,8 @@ ghost use Prim.Native.Nat.{ℕ, _+_, _*_, _<_, _≤_};
 ghost use lib.ListN.{length};
 ghost use Rattle.model.specs.Forest.{recordCount};
 ghost use Rattle.model.specs.Intern.{symAt};
-ghost use Rattle.model.specs.Lister.{decimal, tagOf, opcodeShown, yesNo, line, linesFrom, allSlots, symbolLines};
+ghost use Rattle.model.specs.Lister.{decimal, tagOf, opcodeShown, yesNo, line, linesFrom, symbolLines};
+ghost use Rattle.model.specs.Gate.{allSlots};
 ghost use Rattle.record.specs.Record.{Laid};
 ghost use Rattle.key.specs.Key.{partsOf};
 ghost use Rattle.symbols.specs.Symbols.{recOf, nodeOf, symsOf, Sound};

@@ -10,13 +10,13 @@ use Rattle.model.specs.Gate.{reachable}
 use Rattle.model.specs.Materialize.{materialize, buildValue, processScope}
 use Rattle.graph.specs.declared.Graph.{Graph}
 use Rattle.planner.specs.declared.Plan.{Plan}
-use Rattle.planner.specs.Building.{Stands}
+use Rattle.planner.specs.Building.{GraphIn}
 use Rattle.planner.specs.Planning.{Plans}
 use Rattle.planner.proofs.Ids.{maps-none}
 use Rattle.materialize.specs.Materialize.{rootGraph, Counted, Materialized}
 
 root-stands : (bs ws : List ℕ) (g : Graph) (root : ℕ) → Counted bs ws g root
-    → Stands bs ws (g .symbols) (g .scopes) (rootGraph bs ws g root)
+    → GraphIn bs ws (g .symbols) (g .scopes) (rootGraph bs ws g root)
 unfolding reachable
 root-stands bs ws g root uses = record { syms = refl; scopes = refl; uses = uses }
 

@@ -22,7 +22,7 @@ use Rattle.model.specs.Intern.{allocArgs, resolve, bindDef, thunked, int
 use Rattle.model.specs.Intern.{pairProjection, internLast, nodeOf, internGeneral, internField, internFunc}
 use Rattle.model.specs.Intern.{internKind}
 use Rattle.model.specs.Intern.{internForest, intern}
-use Rattle.model.specs.Gate.{reach, slotsOf, reachable, usage, isContextProperty, isInternal, isConst}
+use Rattle.model.specs.Gate.{reach, slotsOf, reachable, usage, isContextProperty, isInternal, isConst, allSlots}
 use Rattle.model.specs.Gate.{shouldHoist}
 use Rattle.model.specs.Schedule.{classify, relOf, each, visitStep, visit, operands, localDepOrder, bodyOnly}
 use Rattle.model.specs.Schedule.{bodyNeighbours, outsiders, collect, freeStep, freeVars, neighbours, schedule}
@@ -34,7 +34,7 @@ use Rattle.model.specs.Call.{run}
 use Rattle.model.specs.Call.{numbersOf, numbers, outWith, outAfter, workAfter}
 use Rattle.model.specs.Text.{text}
 use Rattle.model.specs.Lister.{digits, decimal, hexDigit, hexByte, tagOf, opcodeShown, yesNo, line, linesFrom}
-use Rattle.model.specs.Lister.{allSlots, symbolLines, refusalLine, linesOf, lister}
+use Rattle.model.specs.Lister.{symbolLines, refusalLine, linesOf, lister}
 
 unfoldable pub bytes-and-trees : Unit {0}
 unfolding isIn anyIn twice count same add union without last first u16 u32 put16 put32 _>>=_ unless guard checked

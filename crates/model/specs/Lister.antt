@@ -8,7 +8,7 @@ use lib.ListN.{length}
 use Rattle.model.specs.Lists.{count}
 use Rattle.model.specs.Answer.{Answer, refused, good}
 use Rattle.model.specs.Intern.{Node, constant, unparsed, argument, func, operation, Sym, Out}
-use Rattle.model.specs.Gate.{shouldHoist}
+use Rattle.model.specs.Gate.{allSlots, shouldHoist}
 use Rattle.model.specs.Call.{Written, run, interned}
 use Rattle.model.specs.Text.{text}
 
@@ -61,11 +61,6 @@ line i uses s =
 unfoldable pub linesFrom : ℕ → List ℕ → List Sym → List ℕ
 linesFrom i slots [] = []
 linesFrom i slots (s ∷ ss) = line i (count i slots) s ++ linesFrom (suc i) slots ss
-
--- "child slots in all symbols"
-unfoldable pub allSlots : List Sym → List ℕ
-allSlots [] = []
-allSlots (s ∷ ss) = s .kids ++ allSlots ss
 
 unfoldable pub symbolLines : List Sym → List ℕ
 symbolLines ss = text "symbols " ++ decimal (length ss) ++ text "\n" ++ linesFrom 0 (allSlots ss) ss

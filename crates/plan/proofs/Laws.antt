@@ -8,6 +8,8 @@ use native.Mathlib.Omega.{arith}
 use lib.ListN.{length, getD, set, length-set}
 use lib.Seq.{getD-set-same, getD-set-other}
 use Rattle.model.specs.Tree.{Row}
+use Rattle.laws.specs.Frame.{Agree, Frame}
+use Rattle.laws.proofs.Frame.{frame-then, frame-below, frame-store}
 use Rattle.plan.specs.Plan.{put3, storePlanned, plannedOf, plannedAt, planFrom, rowFor, rowsFor, AllWritable}
 use Rattle.plan.specs.declared.Planned.{Planned}
 use Rattle.plan.specs.declared.Planned.the-variants.{Copy, Field, ValUse, ValDef, Block, Lambda}
@@ -31,15 +33,13 @@ module _ (ws : List ℕ) (at tag a b : ℕ) where
   unfolding plannedAt
   put3-planned h = rw (put3-first h, put3-second h, put3-third h)
 
-  -- a word outside the row
-  put3-other : (k : ℕ) → (k ≡ at → ⊥) → (k ≡ at + 1 → ⊥) → (k ≡ at + 2 → ⊥)
-      → getD (put3 ws at tag a b) k 0 ≡ getD ws k 0
-  put3-other k p q r =
-      getD-set-other (set (set ws at tag) (at + 1) a) (at + 2) k b 0 r
-      ∙ (getD-set-other (set ws at tag) (at + 1) k a 0 q ∙ getD-set-other ws at k tag 0 p)
-
-  put3-length : length (put3 ws at tag a b) ≡ length ws
-  put3-length = simp length-set
+  -- no word outside the row changes
+  put3-frame : Frame at (at + 3) ws (put3 ws at tag a b)
+  put3-frame =
+      frame-then _ _ _ _ _
+      (frame-then _ _ _ _ _ (frame-store _ _ at tag ws (omega arith) (omega arith))
+      (frame-store _ _ (at + 1) a (set ws at tag) (omega arith) (omega arith)))
+      (frame-store _ _ (at + 2) b (set (set ws at tag) (at + 1) a) (omega arith) (omega arith))
 
 -- ---- load after store
 
@@ -52,45 +52,33 @@ stored-loaded ws at (ValDef id) h = put3-planned ws at 3 id 0 h
 stored-loaded ws at (Block kids) h = put3-planned ws at 4 kids 0 h
 stored-loaded ws at (Lambda i last) h = put3-planned ws at 5 i last h
 
--- a word outside the row is kept
-pub stored-other : (ws : List ℕ) (at : ℕ) (p : Planned) (k : ℕ) → (k ≡ at → ⊥) → (k ≡ at + 1 → ⊥) → (k ≡ at + 2 → ⊥)
-    → getD (storePlanned ws at p) k 0 ≡ getD ws k 0
+-- no word outside the row changes
+pub stored-frame : (ws : List ℕ) (at : ℕ) (p : Planned) → Frame at (at + 3) ws (storePlanned ws at p)
 unfolding storePlanned
-stored-other ws at (Copy i) k = put3-other ws at 0 i 0 k
-stored-other ws at (Field f) k = put3-other ws at 1 f 0 k
-stored-other ws at (ValUse id) k = put3-other ws at 2 id 0 k
-stored-other ws at (ValDef id) k = put3-other ws at 3 id 0 k
-stored-other ws at (Block kids) k = put3-other ws at 4 kids 0 k
-stored-other ws at (Lambda i last) k = put3-other ws at 5 i last k
-
-pub stored-length : (ws : List ℕ) (at : ℕ) (p : Planned) → length (storePlanned ws at p) ≡ length ws
-unfolding storePlanned
-stored-length ws at (Copy i) = put3-length ws at 0 i 0
-stored-length ws at (Field f) = put3-length ws at 1 f 0
-stored-length ws at (ValUse id) = put3-length ws at 2 id 0
-stored-length ws at (ValDef id) = put3-length ws at 3 id 0
-stored-length ws at (Block kids) = put3-length ws at 4 kids 0
-stored-length ws at (Lambda i last) = put3-length ws at 5 i last
+stored-frame ws at (Copy i) = put3-frame ws at 0 i 0
+stored-frame ws at (Field f) = put3-frame ws at 1 f 0
+stored-frame ws at (ValUse id) = put3-frame ws at 2 id 0
+stored-frame ws at (ValDef id) = put3-frame ws at 3 id 0
+stored-frame ws at (Block kids) = put3-frame ws at 4 kids 0
+stored-frame ws at (Lambda i last) = put3-frame ws at 5 i last
 
 -- ---- the words that a plan hangs on: its own
 
-pub plan-same : (ws vs : List ℕ) (at n : ℕ) → ((k : ℕ) → at ≤ k → k < at + 3 * n → getD ws k 0 ≡ getD vs k 0)
-    → planFrom ws at n ≡ planFrom vs at n
+plan-agree : (ws ws′ : List ℕ) (at n : ℕ) → Agree ws ws′ at (at + 3 * n) → planFrom ws′ at n ≡ planFrom ws at n
 unfolding planFrom plannedAt
-plan-same ws vs at zero h = refl
-plan-same ws vs at (suc n) h =
+plan-agree ws ws′ at zero h = refl
+plan-agree ws ws′ at (suc n) h =
     let tag = h at (omega arith) (omega arith) in
     let first = h (at + 1) (omega arith) (omega arith) in
     let second = h (at + 2) (omega arith) (omega arith) in
     ap₂ (λ (p : Planned) (ps : List Planned). p ∷ ps) (rw (tag, first, second))
-    (plan-same ws vs (at + 3) n (λ k l m. h k (omega arith) (omega arith)))
+    (plan-agree ws ws′ (at + 3) n (λ k l m. h k (omega arith) (omega arith)))
 
 -- a row stored past a plan's end leaves the plan as it is
-pub plan-kept : (ws : List ℕ) (at n to : ℕ) (p : Planned) → at + 3 * n ≤ to
+plan-kept : (ws : List ℕ) (at n to : ℕ) (p : Planned) → at + 3 * n ≤ to
     → planFrom (storePlanned ws to p) at n ≡ planFrom ws at n
 plan-kept ws at n to p h =
-    plan-same (storePlanned ws to p) ws at n
-    (λ k l m. stored-other ws to p k (λ e. omega arith) (λ e. omega arith) (λ e. omega arith))
+    plan-agree ws (storePlanned ws to p) at n (frame-below _ _ _ _ _ _ (stored-frame ws to p) h)
 
 -- ---- one row more
 

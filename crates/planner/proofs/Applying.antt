@@ -15,6 +15,8 @@ use Rattle.model.specs.Gate as model
 use Rattle.model.specs.Materialize.{buildOp, buildNode, buildValue}
 use Rattle.laws.proofs.Trees.{node-rows, node-depth}
 use Rattle.laws.proofs.Building.{many-op, op-none}
+use Rattle.laws.proofs.Frame.{frame-then}
+use Rattle.regions.specs.Regions.{SLOTS}
 use Rattle.record.specs.Record.{rowAt}
 use Rattle.key.specs.declared.Symbol.{Symbol}
 use Rattle.key.specs.declared.Operation.{Operation}
@@ -27,11 +29,11 @@ use Rattle.graph.specs.declared.Graph.{Graph}
 use Rattle.plan.specs.Plan.{rowFor}
 use Rattle.planner.specs.declared.Plan.{Plan}
 use Rattle.planner.specs.declared.Opened.{Opened}
-use Rattle.planner.specs.Grew.{Kept, Grew, GrownAll, deepIn}
-use Rattle.planner.specs.Building.{Buildable, Stands, Maps, rowOf, branchesOf, leftAt, openedAt, operandTree}
+use Rattle.planner.specs.Grew.{PlanOnly, Grew, GrownAll, deepIn}
+use Rattle.planner.specs.Building.{Buildable, GraphIn, Maps, rowOf, branchesOf, leftAt, openedAt, operandTree}
 use Rattle.planner.specs.Planning.{Plans, freshTree, operandsLeft, Leads}
-use Rattle.planner.proofs.Growing.{grew-none, grew-then, grew-as, kept-then}
-use Rattle.planner.proofs.Keeping.{stands-kept, kids-kept}
+use Rattle.planner.proofs.Growing.{grew-none, grew-then, grew-as}
+use Rattle.planner.proofs.Keeping.{graph-kept, kids-kept}
 use Rattle.planner.proofs.Graphs.{kids-is}
 use Rattle.planner.proofs.Loaded.{fresh-is, rec-of, row-is}
 use Rattle.planner.proofs.Operands.{operand-next}
@@ -44,21 +46,21 @@ deep-node a nil = omega arith
 deep-node a (cons t ts) = omega (arith, deep-node a ts)
 
 kids-many : (ws : List ℕ) (s : ℕ) → length (kidsAt ws s) ≡ symbolAt ws s .count
-kids-many ws s = words-length ws (2560 + symbolAt ws s .kids) (symbolAt ws s .count)
+kids-many ws s = words-length ws (SLOTS .first + symbolAt ws s .kids) (symbolAt ws s .count)
 
 -- ---- a child, as loaded
 
 module _ {bs ws : List ℕ} {n m : ℕ} (b : Buildable bs ws n m) (s : ℕ) (lt : s < n) {y : Symbol}
     (loaded : y ≡ symbolAt ws s) {ws₁ : List ℕ} {kids j kid : ℕ} (ek : kids ≡ y .kids) (l : j < y .count)
-    (k : Kept ws ws₁) (e : kid ≡ getD ws₁ (2560 + kids + j) 0) where
+    (k : PlanOnly ws ws₁) (e : kid ≡ getD ws₁ (SLOTS .first + kids + j) 0) where
   few : j < symbolAt ws s .count
   few = subst (λ (x : Symbol). j < x .count) loaded l
 
-  kid-is : getD ws (2560 + symbolAt ws s .kids + j) 0 ≡ kid
+  kid-is : getD ws (SLOTS .first + symbolAt ws s .kids + j) 0 ≡ kid
   kid-is =
-      sym (k .before (2560 + symbolAt ws s .kids + j) (omega arith)
+      sym (k .before (SLOTS .first + symbolAt ws s .kids + j)
       (omega (arith, b .arena .sound s lt .slots, few)))
-      ∙ sym (e ∙ ap (λ (x : ℕ). getD ws₁ (2560 + x + j) 0) (ek ∙ ap (λ (x : Symbol). x .kids) loaded))
+      ∙ sym (e ∙ ap (λ (x : ℕ). getD ws₁ (SLOTS .first + x + j) 0) (ek ∙ ap (λ (x : Symbol). x .kids) loaded))
 
   pub operand-low : kid < s
   operand-low = subst (λ (x : ℕ). x < s) kid-is (b .arena .sound s lt .lower j few)
@@ -74,7 +76,7 @@ module _ {bs ws : List ℕ} {g : Graph} {ids : List ℕ} {p : Plan} {above : ℕ
     -- ---- operand j
 
     pub operands-next : {y : Symbol} → y ≡ symbolAt ws s → {ws₁ ws₂ : List ℕ} {q r : Plan} {kids j kid : ℕ} {w : Opened}
-        → kids ≡ y .kids → j < y .count → Kept ws ws₁ → kid ≡ getD ws₁ (2560 + kids + j) 0
+        → kids ≡ y .kids → j < y .count → PlanOnly ws ws₁ → kid ≡ getD ws₁ (SLOTS .first + kids + j) 0
         → w ≡ openedAt op (branchesOf o) j
         → Leads bs ws g ids p above s op o last j ws₁ q
         → Plans bs ws₁ g ids q above (λ gr sc env. operandTree w gr kid sc env last) ws₂ r
@@ -84,7 +86,7 @@ module _ {bs ws : List ℕ} {g : Graph} {ids : List ℕ} {p : Plan} {above : ℕ
       all = λ gr sc env st maps ws₃ r₃ rest.
           before .all gr sc env st maps ws₃ r₃
           (subst (λ (ts : Trees). GrownAll bs ws₁ q above ts ws₃ r₃) (sym (left gr sc env))
-          (grew-then (h .grown gr sc env (stands-kept k b st) maps) rest));
+          (grew-then (h .grown gr sc env (graph-kept k b st) maps) rest));
     }
       where
         some : j < length (kidsAt ws s)
@@ -92,7 +94,7 @@ module _ {bs ws : List ℕ} {g : Graph} {ids : List ℕ} {p : Plan} {above : ℕ
 
         same : getD (kidsAt ws s) j 0 ≡ kid
         same =
-            words-at ws (2560 + symbolAt ws s .kids) (symbolAt ws s .count) j (few b s lt loaded ek l k e)
+            words-at ws (SLOTS .first + symbolAt ws s .kids) (symbolAt ws s .count) j (few b s lt loaded ek l k e)
             ∙ kid-is b s lt loaded ek l k e
 
         split : drop j (kidsAt ws s) ≡ kid ∷ drop (j + 1) (kidsAt ws s)
@@ -110,7 +112,7 @@ module _ {bs ws : List ℕ} {g : Graph} {ids : List ℕ} {p : Plan} {above : ℕ
     pub operands-end : {y : Symbol} → y ≡ symbolAt ws s → {ws₁ : List ℕ} {q : Plan} {j : ℕ} → y .count ≤ j
         → q .rows ≤ 257
         → Leads bs ws g ids p above s op o last j ws₁ q
-        → (gr : model.Graph) (sc : ℕ) (env : Env) → Stands bs ws (g .symbols) (g .scopes) gr → Maps ids env
+        → (gr : model.Graph) (sc : ℕ) (env : Env) → GraphIn bs ws (g .symbols) (g .scopes) gr → Maps ids env
         → GrownAll bs ws p above (operandsLeft ws s op o last 0 gr sc env) ws₁ q
     unfolding rows
     operands-end loaded {ws₁} {q} {j} l few h gr sc env st maps =
@@ -131,8 +133,8 @@ module _ {bs ws : List ℕ} {g : Graph} {ids : List ℕ} {p : Plan} {above : ℕ
   where
     pub plans-operation : {ws₁ ws₂ : List ℕ} {q r : Plan} → symbolAt ws s .node ≡ Op o
         → op ≡ rowAt bs (o .source) .rec .opcode
-        → Grew bs ws p (rowFor bs (rowOf o) ∷ []) (above + 1) ws₁ q → Kept ws₁ ws₂ → r .rows ≤ 257
-        → ((gr : model.Graph) (sc : ℕ) (env : Env) → Stands bs ws₁ (g .symbols) (g .scopes) gr → Maps ids env
+        → Grew bs ws p (rowFor bs (rowOf o) ∷ []) (above + 1) ws₁ q → PlanOnly ws₁ ws₂ → r .rows ≤ 257
+        → ((gr : model.Graph) (sc : ℕ) (env : Env) → GraphIn bs ws₁ (g .symbols) (g .scopes) gr → Maps ids env
         → GrownAll bs ws₁ q (above + 1) (operandsLeft ws₁ s op o last 0 gr sc env) ws₂ r)
         → Plans bs ws g ids p above (freshTree s last) ws₂ r
     unfolding buildNode leftAt
@@ -140,28 +142,28 @@ module _ {bs ws : List ℕ} {g : Graph} {ids : List ℕ} {p : Plan} {above : ℕ
       grown = λ gr sc env st maps.
           let t = parts gr sc env st in
           let ts = operandsLeft ws₁ s op o last 0 gr sc env in
-          grew-as (grew-then h (rest gr sc env (stands-kept (h .kept) b st) maps))
+          grew-as (grew-then h (rest gr sc env (graph-kept (h .kept) b st) maps))
           (sym (ap rows t ∙ (node-rows (symOf gr s .rec) ts ∙ ap (λ (x : Row). x ∷ rowsOf ts) (row gr sc env st))))
           (deep-node above ts ∙ sym (ap (λ (x : ℕ). above + x) (ap depth t ∙ node-depth (symOf gr s .rec) ts)));
-      kept = kept-then (h .kept) k;
+      kept = frame-then _ _ _ _ _ (h .kept) k;
       full = few;
     }
       where
         kids-same : kidsAt ws₁ s ≡ kidsAt ws s
         kids-same = kids-kept (h .kept) (b .arena) s lt
 
-        opcode : (gr : model.Graph) → Stands bs ws (g .symbols) (g .scopes) gr → symOf gr s .rec .opcode ≡ op
+        opcode : (gr : model.Graph) → GraphIn bs ws (g .symbols) (g .scopes) gr → symOf gr s .rec .opcode ≡ op
         opcode gr st = ap (λ (x : Rec). x .opcode) (rec-of b s lt (Op o) e gr st)
             ∙ (key-opcode bs (o .source) (o .field) ∙ sym f)
 
-        parts : (gr : model.Graph) (sc : ℕ) (env : Env) → Stands bs ws (g .symbols) (g .scopes) gr
+        parts : (gr : model.Graph) (sc : ℕ) (env : Env) → GraphIn bs ws (g .symbols) (g .scopes) gr
             → freshTree s last gr sc env ≡ node (symOf gr s .rec) (operandsLeft ws₁ s op o last 0 gr sc env)
         parts gr sc env st = fresh-is b s lt (Op o) e gr sc env last st
             ∙ ap₂ (λ (c : ℕ) (ks : List ℕ).
             node (symOf gr s .rec) (buildOp gr (buildValue gr) sc env last c 0 ks (branchesOf o))) (opcode gr st)
             (kids-is b st s lt ∙ sym kids-same)
 
-        row : (gr : model.Graph) (sc : ℕ) (env : Env) → Stands bs ws (g .symbols) (g .scopes) gr
+        row : (gr : model.Graph) (sc : ℕ) (env : Env) → GraphIn bs ws (g .symbols) (g .scopes) gr
             → record { rec = symOf gr s .rec; kids = many (operandsLeft ws₁ s op o last 0 gr sc env) }
             ≡ rowFor bs (rowOf o)
         row gr sc env st =

@@ -15,6 +15,8 @@ use Rattle.laws.specs.Range.{range}
 use Rattle.laws.proofs.ArgLists.{ArgList, args-length}
 use Rattle.laws.proofs.Trees.{one-rows, one-depth}
 use Rattle.laws.proofs.Numbering.{withRange-length, withRange-lit}
+use Rattle.laws.proofs.Frame.{frame-then}
+use Rattle.regions.specs.Regions.{SLOTS}
 use Rattle.record.specs.Record.{rowAt}
 use Rattle.key.specs.declared.Func.{Func}
 use Rattle.key.specs.declared.Node.the-variants.{Lambda}
@@ -26,11 +28,11 @@ use Rattle.plan.specs.declared.Planned.the-variants as planned
 use Rattle.plan.specs.Plan.{rowFor, Writable}
 use Rattle.planner.specs.declared.Plan.{Plan}
 use Rattle.planner.specs.Grew.{Grew}
-use Rattle.planner.specs.Building.{Lambdas, Buildable, Stands, Maps}
+use Rattle.planner.specs.Building.{Lambdas, Buildable, GraphIn, Maps}
 use Rattle.planner.specs.Planning.{Plans, freshTree}
-use Rattle.planner.proofs.Growing.{grew-then, grew-as, kept-then}
+use Rattle.planner.proofs.Growing.{grew-then, grew-as}
 use Rattle.planner.proofs.Ids.{maps-args}
-use Rattle.planner.proofs.Keeping.{stands-kept}
+use Rattle.planner.proofs.Keeping.{graph-kept}
 use Rattle.planner.proofs.Graphs.{kids-is}
 use Rattle.planner.proofs.Loaded.{fresh-is, source-low, source-fits, node-opens}
 
@@ -49,15 +51,15 @@ module _ {bs ws : List ℕ} {n m : ℕ} (b : Buildable bs ws n m) (s : ℕ) (lt 
     record { args = lambda-fits .args; fit = omega (arith, lambda-fits .few) },
   )
 
-  pub body-root : {root : ℕ} → root ≡ getD ws (2560 + symbolAt ws s .kids) 0 → getD (kidsAt ws s) 0 0 ≡ root
+  pub body-root : {root : ℕ} → root ≡ getD ws (SLOTS .first + symbolAt ws s .kids) 0 → getD (kidsAt ws s) 0 0 ≡ root
   body-root r =
-      let z : 2560 + symbolAt ws s .kids + 0 ≡ 2560 + symbolAt ws s .kids = omega arith in
-      words-at ws (2560 + symbolAt ws s .kids) (symbolAt ws s .count) 0 (omega (arith, lambda-one))
+      let z : SLOTS .first + symbolAt ws s .kids + 0 ≡ SLOTS .first + symbolAt ws s .kids = omega arith in
+      words-at ws (SLOTS .first + symbolAt ws s .kids) (symbolAt ws s .count) 0 (omega (arith, lambda-one))
       ∙ (ap (λ (x : ℕ). getD ws x 0) z ∙ sym r)
 
-  pub body-low : getD ws (2560 + symbolAt ws s .kids) 0 < s
+  pub body-low : getD ws (SLOTS .first + symbolAt ws s .kids) 0 < s
   body-low =
-      let z : 2560 + symbolAt ws s .kids + 0 ≡ 2560 + symbolAt ws s .kids = omega arith in
+      let z : SLOTS .first + symbolAt ws s .kids + 0 ≡ SLOTS .first + symbolAt ws s .kids = omega arith in
       subst (λ (x : ℕ). getD ws x 0 < s) z (b .arena .sound s lt .lower 0 (omega (arith, lambda-one)))
 
 module _ {bs ws : List ℕ} {g : Graph} {ids : List ℕ} {p : Plan} {above : ℕ}
@@ -65,7 +67,7 @@ module _ {bs ws : List ℕ} {g : Graph} {ids : List ℕ} {p : Plan} {above : ℕ
     (e : symbolAt ws s .node ≡ Lambda f) (long : length ids ≡ 512) where
   pub plans-lambda : {ws₁ ws₂ map ids₁ : List ℕ} {q r : Plan} {root count count₁ first inside : ℕ}
       → count ≡ rowAt bs (f .source) .rec .aux
-      → root ≡ getD ws (2560 + symbolAt ws s .kids) 0
+      → root ≡ getD ws (SLOTS .first + symbolAt ws s .kids) 0
       → ids₁ ≡ ids → first ≡ f .first → count₁ ≡ count → inside ≡ f .body
       → map ≡ sets ids₁ first (range (last + 1) count₁)
       → Grew bs ws p (rowFor bs (planned.Lambda (f .source) last) ∷ []) (above + 1) ws₁ q
@@ -78,11 +80,11 @@ module _ {bs ws : List ℕ} {g : Graph} {ids : List ℕ} {p : Plan} {above : ℕ
         grown = λ gr sc env st maps.
             let t = processScope gr (buildValue gr) root inside (argEnv last xs env) (last + count + 1) in
             let whole = is gr sc env st in
-            let planned = body .grown gr sc (argEnv last xs env) (stands-kept (h .kept) b st) (maps-in env maps) in
+            let planned = body .grown gr sc (argEnv last xs env) (graph-kept (h .kept) b st) (maps-in env maps) in
             grew-as (grew-then h planned)
             (sym (ap rows whole ∙ (one-rows lam t ∙ ap (λ (x : Row). x ∷ rows t) row)))
             (omega (arith, ap depth whole, one-depth lam t));
-        kept = kept-then (h .kept) (body .kept);
+        kept = frame-then _ _ _ _ _ (h .kept) (body .kept);
         full = body .full;
       }
     where
@@ -115,7 +117,7 @@ module _ {bs ws : List ℕ} {g : Graph} {ids : List ℕ} {p : Plan} {above : ℕ
           (maps-args ids env (f .first) aux last ys many-args maps
           (λ some. omega (arith, fit .first some, long, b .arena .few, lt)))
 
-      is : (gr : model.Graph) (sc : ℕ) (env : Env) → Stands bs ws (g .symbols) (g .scopes) gr
+      is : (gr : model.Graph) (sc : ℕ) (env : Env) → GraphIn bs ws (g .symbols) (g .scopes) gr
           → freshTree s last gr sc env
           ≡ node lam
           (cons (processScope gr (buildValue gr) root inside (argEnv last xs env) (last + count + 1)) nil)

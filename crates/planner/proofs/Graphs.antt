@@ -20,6 +20,7 @@ use Rattle.laws.proofs.ArgLists.{ArgList}
 use Rattle.laws.proofs.Falls.{Under}
 use Rattle.laws.proofs.Short.{schedule-once}
 use Rattle.laws.proofs.Building.{BodyLow, body-low, NoUses, no-uses}
+use Rattle.regions.specs.Regions.{SLOTS}
 use Rattle.key.specs.declared.Node.{Node}
 use Rattle.key.specs.declared.Node.the-variants.{Const, Unparsed, Arg, Lambda, Op}
 use Rattle.key.specs.Key.{symbolAt}
@@ -29,10 +30,10 @@ use Rattle.symbols.proofs.Laws.{syms-length}
 use Rattle.symbols.proofs.Words.{words-length}
 use Rattle.graph.proofs.Laws as graph
 use Rattle.symbols.specs.Sourced.{Sourced}
-use Rattle.planner.specs.Building.{NoUse, Buildable, Stands}
+use Rattle.planner.specs.Building.{NoUse, Buildable, GraphIn}
 use Rattle.planner.proofs.Membership.{graph-is, sym-is}
 
-module _ {bs ws : List ℕ} {n m : ℕ} {gr : Graph} (b : Buildable bs ws n m) (st : Stands bs ws n m gr) where
+module _ {bs ws : List ℕ} {n m : ℕ} {gr : Graph} (b : Buildable bs ws n m) (st : GraphIn bs ws n m gr) where
   -- ---- symbol s
 
   module _ (s : ℕ) (lt : s < n) where
@@ -51,7 +52,7 @@ module _ {bs ws : List ℕ} {n m : ℕ} {gr : Graph} (b : Buildable bs ws n m) (
     kid-some : (xs : ArgList) (body : ℕ) → symOf gr s .node ≡ func xs body → 0 < length (symOf gr s .kids)
     kid-some xs body e =
         let one = go (symbolAt ws s .node) (sym node-is ∙ e) (b .sourced s lt) in
-        omega (arith, ap length kids-is, words-length ws (2560 + symbolAt ws s .kids) (symbolAt ws s .count))
+        omega (arith, ap length kids-is, words-length ws (SLOTS .first + symbolAt ws s .kids) (symbolAt ws s .count))
       where
         go : (nd : Node) → nodeOf bs nd ≡ func xs body → Sourced bs nd (symbolAt ws s .count)
             → symbolAt ws s .count ≡ 1

@@ -17,6 +17,7 @@ use Rattle.model.specs.Gate.{symOf}
 use Rattle.model.specs.Gate as model
 use Rattle.model.specs.Materialize.{buildNode, buildValue}
 use Rattle.laws.proofs.Trees.{leaf-rows, leaf-depth}
+use Rattle.regions.specs.Regions.{SLOTS}
 use Rattle.record.specs.Record.{rowAt}
 use Rattle.key.specs.declared.Symbol.{Symbol}
 use Rattle.key.specs.declared.Parts.{Parts}
@@ -32,7 +33,7 @@ use Rattle.plan.specs.Plan.{rowFor, Writable}
 use Rattle.plan.specs.Plan as plan
 use Rattle.planner.specs.declared.Plan.{Plan}
 use Rattle.planner.specs.Grew.{Grew}
-use Rattle.planner.specs.Building.{Opens, Buildable, Stands, rowOf}
+use Rattle.planner.specs.Building.{Opens, Buildable, GraphIn, rowOf}
 use Rattle.planner.specs.Planning.{freshTree}
 use Rattle.planner.proofs.Graphs.{node-is, rec-is}
 
@@ -65,13 +66,13 @@ put-as {bs} {ws} {p} {row} {row₁} {d} {ws′} {r} e h w =
 module _ {bs ws : List ℕ} {n m : ℕ} (b : Buildable bs ws n m) (s : ℕ) (lt : s < n) where
   -- a symbol of node nd
   module _ (nd : Node) (e : symbolAt ws s .node ≡ nd) where
-    pub fresh-is : (gr : model.Graph) (sc : ℕ) (env : Env) (last : ℕ) → Stands bs ws n m gr
+    pub fresh-is : (gr : model.Graph) (sc : ℕ) (env : Env) (last : ℕ) → GraphIn bs ws n m gr
         → freshTree s last gr sc env ≡ buildNode gr (buildValue gr) (symOf gr s) (nodeOf bs nd) sc env last
     fresh-is gr sc env last st =
         ap (λ (x : intern.Node). buildNode gr (buildValue gr) (symOf gr s) x sc env last)
         (node-is b st s lt ∙ ap (nodeOf bs) e)
 
-    pub rec-of : (gr : model.Graph) → Stands bs ws n m gr → symOf gr s .rec ≡ recOf bs nd
+    pub rec-of : (gr : model.Graph) → GraphIn bs ws n m gr → symOf gr s .rec ≡ recOf bs nd
     rec-of gr st = rec-is b st s lt ∙ ap (recOf bs) e
 
     pub source-low : partsOf nd .source < recordCount bs
@@ -84,7 +85,7 @@ module _ {bs ws : List ℕ} {n m : ℕ} (b : Buildable bs ws n m) (s : ℕ) (lt 
     node-opens = subst (Opens bs m s) e (b .opens s lt)
 
   -- its slots, as loaded
-  pub slots-loaded : {y : Symbol} → y ≡ symbolAt ws s → y .kids + y .count ≤ 2560
+  pub slots-loaded : {y : Symbol} → y ≡ symbolAt ws s → y .kids + y .count ≤ SLOTS .size
   slots-loaded e = rw e (b .arena .sound s lt .slots)
 
   -- ---- an operation's row

@@ -23,6 +23,7 @@ use Rattle.laws.proofs.Defining.{members-append, members-member, members-other}
 use Rattle.laws.specs.Members.{In}
 use Rattle.laws.proofs.Ranges.{range-more, in-range}
 use Rattle.laws.proofs.Falls.{Under}
+use Rattle.regions.specs.Regions.{USES}
 use Rattle.key.specs.declared.Symbol.{Symbol}
 use Rattle.key.specs.Key.{symbolAt}
 use Rattle.symbols.specs.Symbols.{symsOf, symFrom}
@@ -30,11 +31,11 @@ use Rattle.symbols.specs.Symbols as words
 use Rattle.symbols.proofs.Laws.{sym-at}
 use Rattle.gate.proofs.Gate.{hoist-few}
 use Rattle.graph.specs.Graph.{Tests, graphOf}
-use Rattle.planner.specs.Building.{Stands, Maps, given, more}
+use Rattle.planner.specs.Building.{GraphIn, Maps, given, more}
 
 -- ---- the graph in the words
 
-module _ {bs ws : List ℕ} {n m : ℕ} {gr : Graph} (st : Stands bs ws n m gr) where
+module _ {bs ws : List ℕ} {n m : ℕ} {gr : Graph} (st : GraphIn bs ws n m gr) where
   pub graph-is : gr ≡ graphOf bs ws n m (gr .slots)
   graph-is = rw (← st .syms, ← st .scopes)
 
@@ -58,14 +59,14 @@ module _ {bs ws : List ℕ} {n m : ℕ} {gr : Graph} (st : Stands bs ws n m gr) 
     arg-is t = ap (λ (h : Graph). isArg (symOf h s .node)) graph-is ∙ sym (t bs (gr .slots))
 
     pub hoist-is : {r : Bool}
-        → ((k : ℕ) → s < k → r ≡ shouldHoist (symAt (symsOf bs ws k) s) (getD ws (8456 + s) 0))
+        → ((k : ℕ) → s < k → r ≡ shouldHoist (symAt (symsOf bs ws k) s) (getD ws (USES .first + s) 0))
         → r ≡ shouldHoist (symOf gr s) (usage gr s)
     hoist-is h =
         h n lt ∙ ap₂ shouldHoist (sym (ap (λ (ss : List Sym). symAt ss s) (st .syms))) (st .uses s lt)
 
-    pub rare-is : getD ws (8456 + s) 0 < 2 → shouldHoist (symOf gr s) (usage gr s) ≡ false
+    pub rare-is : getD ws (USES .first + s) 0 < 2 → shouldHoist (symOf gr s) (usage gr s) ≡ false
     rare-is l =
-        ap (shouldHoist (symOf gr s)) (sym (st .uses s lt)) ∙ sym (hoist-few (symOf gr s) (getD ws (8456 + s) 0) l)
+        ap (shouldHoist (symOf gr s)) (sym (st .uses s lt)) ∙ sym (hoist-few (symOf gr s) (getD ws (USES .first + s) 0) l)
 
 -- ---- a member's four tests
 

@@ -14,6 +14,7 @@ use Rattle.model.specs.Materialize.{valUseOf, idGiven, buildNode, buildStep, bu
 use Rattle.laws.proofs.Rows.{size-rows}
 use Rattle.laws.proofs.Trees.{use-rows, use-depth, size-some}
 use Rattle.laws.proofs.Building.{build-step, build-use}
+use Rattle.laws.proofs.Frame.{frame-none}
 use Rattle.key.specs.declared.Leaf.{Leaf}
 use Rattle.key.specs.declared.Node.the-variants.{Const, Unparsed, Arg}
 use Rattle.key.specs.Key.{symbolAt}
@@ -24,9 +25,9 @@ use Rattle.planner.specs.declared.Plan.{Plan}
 use Rattle.planner.specs.declared.Opened.{Opened}
 use Rattle.planner.specs.declared.Opened.the-variants.{Same, Thunk}
 use Rattle.planner.specs.Grew.{Grew, Grown}
-use Rattle.planner.specs.Building.{Buildable, Stands, Maps, given, OpenLow, operandTree}
+use Rattle.planner.specs.Building.{Buildable, GraphIn, Maps, given, OpenLow, operandTree}
 use Rattle.planner.specs.Planning.{Plans, freshTree}
-use Rattle.planner.proofs.Growing.{kept-same, grew-full, grew-as}
+use Rattle.planner.proofs.Growing.{grew-full, grew-as}
 use Rattle.planner.proofs.Loaded.{fresh-is, rec-of, source-fits, leaf-is}
 use Rattle.planner.proofs.Graphs.{kids-low, body-lower}
 
@@ -47,14 +48,14 @@ module _ {bs ws : List ℕ} {g : Graph} {ids : List ℕ} {p : Plan} {above : ℕ
     grown = λ gr sc env st maps.
         grew-full bs ws p (rows (tree gr sc env)) (above + depth (tree gr sc env)) p (omega arith) hi
         (rows-some (tree gr sc env)) (omega arith);
-    kept = kept-same ws;
+    kept = frame-none _ _ ws;
     full = hi;
   }
 
   module _ {ws′ : List ℕ} {r : Plan} where
     -- the same tree, otherwise said
     pub plans-as : {t u : model.Graph → ℕ → Env → Tree} → Plans bs ws g ids p above t ws′ r
-        → ((gr : model.Graph) (sc : ℕ) (env : Env) → Stands bs ws (g .symbols) (g .scopes) gr → Maps ids env
+        → ((gr : model.Graph) (sc : ℕ) (env : Env) → GraphIn bs ws (g .symbols) (g .scopes) gr → Maps ids env
         → t gr sc env ≡ u gr sc env)
         → Plans bs ws g ids p above u ws′ r
     plans-as h e = record {
@@ -67,7 +68,7 @@ module _ {bs ws : List ℕ} {g : Graph} {ids : List ℕ} {p : Plan} {above : ℕ
     -- a tree of one row
     pub plans-row : {row : Row} → Grew bs ws p (row ∷ []) (above + 1) ws′ r
         → (tree : model.Graph → ℕ → Env → Tree)
-        → ((gr : model.Graph) (sc : ℕ) (env : Env) → Stands bs ws (g .symbols) (g .scopes) gr → Maps ids env
+        → ((gr : model.Graph) (sc : ℕ) (env : Env) → GraphIn bs ws (g .symbols) (g .scopes) gr → Maps ids env
         → (rows (tree gr sc env) ≡ row ∷ []) × (depth (tree gr sc env) ≡ 1))
         → Plans bs ws g ids p above tree ws′ r
     plans-row h tree e = record {
@@ -119,7 +120,7 @@ module _ {bs ws : List ℕ} {g : Graph} {ids : List ℕ} {p : Plan} {above : ℕ
       (λ gr sc env st maps. let e = is gr sc env st maps in
       (ap rows e ∙ use-row bs (getD ids s 0), ap depth e ∙ use-depth (getD ids s 0)))
     where
-      is : (gr : model.Graph) (sc : ℕ) (env : Env) → Stands bs ws (g .symbols) (g .scopes) gr → Maps ids env
+      is : (gr : model.Graph) (sc : ℕ) (env : Env) → GraphIn bs ws (g .symbols) (g .scopes) gr → Maps ids env
           → buildValue gr s sc env last ≡ valUseOf (getD ids s 0)
       is gr sc env st maps =
           build-use gr (kids-low b st) s (body-lower b st s lt) sc env last (getD ids s 0)

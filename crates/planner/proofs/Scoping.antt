@@ -20,17 +20,18 @@ use Rattle.laws.proofs.Defining.{defs-member, ids-member, members-member, defs-
 use Rattle.laws.proofs.Defining.{defs-append, ids-append}
 use Rattle.laws.proofs.Falls.{schedule-low}
 use Rattle.laws.proofs.Building.{scope-none, scope-rows, scope-depth}
+use Rattle.laws.proofs.Frame.{frame-none, frame-then}
 use Rattle.graph.specs.declared.Graph.{Graph}
 use Rattle.graph.specs.Graph.{graphOf}
 use Rattle.plan.specs.declared.Planned.the-variants.{ValDef, Block}
 use Rattle.plan.specs.Plan.{rowFor}
 use Rattle.planner.specs.declared.Plan.{Plan}
 use Rattle.planner.specs.Grew.{Grew, Grown, GrownAll, deepIn}
-use Rattle.planner.specs.Building.{Buildable, Stands, Maps, Member, Members, AnyMember}
+use Rattle.planner.specs.Building.{Buildable, GraphIn, Maps, Member, Members, AnyMember}
 use Rattle.planner.specs.Planning.{Plans, DefinesIn, Defines}
-use Rattle.planner.proofs.Growing.{grew-none, grew-then, grew-as, kept-same, kept-then}
+use Rattle.planner.proofs.Growing.{grew-none, grew-then, grew-as}
 use Rattle.planner.proofs.Ids.{maps-more}
-use Rattle.planner.proofs.Keeping.{stands-kept}
+use Rattle.planner.proofs.Keeping.{graph-kept}
 use Rattle.planner.proofs.Membership.{graph-is, none-under, any-false}
 use Rattle.planner.proofs.Graphs.{kids-low, only-arguments, scheduled-once}
 use Rattle.planner.proofs.Applying.{deep-node}
@@ -49,7 +50,7 @@ module _ {bs ws : List ℕ} {g : Graph} {map : List ℕ} {p : Plan} {above sc : 
   unfolding defsOf idsFrom rows
   defines-none l = record {
     defined = λ gr env st maps. record { grown = grew-none bs ws p l; maps = maps; last-is = refl };
-    kept = kept-same ws;
+    kept = frame-none _ _ ws;
     full = l;
     few = omega arith;
   }
@@ -87,7 +88,7 @@ module _ {bs ws : List ℕ} {g : Graph} {map : List ℕ} {p : Plan} {above sc : 
       defined = λ gr env st maps.
           let e = sym (m gr env st maps) ∙ is in
           let v₁ = buildValue gr s sc env last in
-          let inside = v .grown gr sc env (stands-kept (h .kept) b st) maps in
+          let inside = v .grown gr sc env (graph-kept (h .kept) b st) maps in
           record {
             grown = subst (λ (ts : Trees). GrownAll bs ws p above ts ws₂ r)
                 (sym (defs-member gr sc s [] env e (buildValue gr) last))
@@ -98,7 +99,7 @@ module _ {bs ws : List ℕ} {g : Graph} {map : List ℕ} {p : Plan} {above sc : 
                 (maps-more map env s last maps l);
             last-is = omega (arith, ap (λ (x : Env × ℕ). x .1) (ids-member gr sc s [] env e last));
           };
-      kept = kept-then (h .kept) (v .kept);
+      kept = frame-then _ _ _ _ _ (h .kept) (v .kept);
       full = v .full;
       few = omega arith;
     }
@@ -121,18 +122,18 @@ module _ {bs ws : List ℕ} {g : Graph} {map : List ℕ} {p : Plan} {above sc : 
         defined = λ gr env st maps.
             subst (λ (o : List ℕ). DefinesIn bs ws gr env p above sc o last ws₂ map₂ r last₂) (sym more)
             (both gr env st maps);
-        kept = kept-then (h .kept) (d .kept);
+        kept = frame-then _ _ _ _ _ (h .kept) (d .kept);
         full = d .full;
         few = omega (arith, h .few, d .few);
       }
     where
-      both : (gr : model.Graph) (env : Env) → Stands bs ws (g .symbols) (g .scopes) gr → Maps map env
+      both : (gr : model.Graph) (env : Env) → GraphIn bs ws (g .symbols) (g .scopes) gr → Maps map env
           → DefinesIn bs ws gr env p above sc (take i order ++ (s ∷ [])) last ws₂ map₂ r last₂
       both gr env st maps =
           let o = take i order in
           let a = h .defined gr env st maps in
           let env₁ = idsFrom gr sc o env last .0 in
-          let c = d .defined gr env₁ (stands-kept (h .kept) b st) (a .maps) in
+          let c = d .defined gr env₁ (graph-kept (h .kept) b st) (a .maps) in
           let f = a .last-is in
           let ts = defsOf gr (buildValue gr) sc o env last in
           let us = defsOf gr (buildValue gr) sc (s ∷ []) env₁ last₁ in
@@ -166,7 +167,7 @@ module _ (gr : model.Graph) (sc : ℕ) where
 module _ {bs ws : List ℕ} (g : Graph) (map : List ℕ) (b : Buildable bs ws (g .symbols) (g .scopes))
     (root sc last : ℕ) where
   plans-none : {p : Plan} {above : ℕ} {ws₁ : List ℕ} {r : Plan}
-      → ((gr : model.Graph) (env : Env) → Stands bs ws (g .symbols) (g .scopes) gr → Maps map env
+      → ((gr : model.Graph) (env : Env) → GraphIn bs ws (g .symbols) (g .scopes) gr → Maps map env
       → membersIn gr sc env (schedule gr root sc) ≡ 0)
       → Plans bs ws g map p above (λ gr x env. buildValue gr root x env last) ws₁ r
       → Plans bs ws g map p above (λ gr x env. processScope gr (buildValue gr) root sc env last) ws₁ r
@@ -177,7 +178,7 @@ module _ {bs ws : List ℕ} (g : Graph) (map : List ℕ) (b : Buildable bs ws (g
     full = h .full;
   }
     where
-      is : (gr : model.Graph) (env : Env) → Stands bs ws (g .symbols) (g .scopes) gr → Maps map env
+      is : (gr : model.Graph) (env : Env) → GraphIn bs ws (g .symbols) (g .scopes) gr → Maps map env
           → processScope gr (buildValue gr) root sc env last ≡ buildValue gr root sc env last
       is gr env st maps =
           let z = none gr env st maps in
@@ -198,10 +199,10 @@ module _ {bs ws : List ℕ} (g : Graph) (map : List ℕ) (b : Buildable bs ws (g
     (root sc last : ℕ) (list : List ℕ) (k : ℕ)
     (scheduled : (slots : List ℕ) → list ≡ schedule (graphOf bs ws (g .symbols) (g .scopes) slots) root sc)
     (members : Members bs ws g map sc list k) where
-  order-is : (gr : model.Graph) → Stands bs ws (g .symbols) (g .scopes) gr → list ≡ schedule gr root sc
+  order-is : (gr : model.Graph) → GraphIn bs ws (g .symbols) (g .scopes) gr → list ≡ schedule gr root sc
   order-is gr st = scheduled (gr .slots) ∙ ap (λ (h : model.Graph). schedule h root sc) (sym (graph-is st))
 
-  count-is : (gr : model.Graph) (env : Env) → Stands bs ws (g .symbols) (g .scopes) gr → Maps map env
+  count-is : (gr : model.Graph) (env : Env) → GraphIn bs ws (g .symbols) (g .scopes) gr → Maps map env
       → membersIn gr sc env (schedule gr root sc) ≡ k
   count-is gr env st maps = sym (members gr env st maps ∙ ap (membersIn gr sc env) (order-is gr st))
 
@@ -222,10 +223,10 @@ module _ {bs ws : List ℕ} (g : Graph) (map : List ℕ) (b : Buildable bs ws (g
   plans-block {p} {above} {ws₁} {ws₂} {ws₃} {map₂} {q} {q₂} {r} {last₂} some h d v = record {
     grown = λ gr x env st maps.
         let o = schedule gr root sc in
-        let st₁ = stands-kept (h .kept) b st in
+        let st₁ = graph-kept (h .kept) b st in
         let a = subst (λ (y : List ℕ). DefinesIn bs ws₁ gr env q (above + 1) sc y last ws₂ map₂ q₂ last₂)
         (order-is gr st) (d .defined gr env st₁ maps) in
-        let st₂ = stands-kept (kept-then (h .kept) (d .kept)) b st in
+        let st₂ = graph-kept (frame-then _ _ _ _ _ (h .kept) (d .kept)) b st in
         let w = v .grown gr sc (idsFrom gr sc o env last .0) st₂ (a .maps) in
         let c = count-is gr env st maps in
         let once = scheduled-once b st root sc in
@@ -239,6 +240,6 @@ module _ {bs ws : List ℕ} (g : Graph) (map : List ℕ) (b : Buildable bs ws (g
           scope-depth gr (only-arguments b st) root sc once env last k c some,
           ap (λ (l : ℕ). depth (buildValue gr root sc (idsFrom gr sc o env last .0) l)) f,
         ));
-    kept = kept-then (h .kept) (kept-then (d .kept) (v .kept));
+    kept = frame-then _ _ _ _ _ (h .kept) (frame-then _ _ _ _ _ (d .kept) (v .kept));
     full = v .full;
   }

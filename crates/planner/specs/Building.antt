@@ -71,7 +71,7 @@ pub record Buildable (bs ws : List ℕ) (n m : ℕ) : Type 0 where
 
 -- ---- the graph in the words, with the uses counted
 
-pub record Stands (bs ws : List ℕ) (n m : ℕ) (gr : model.Graph) : Type 0 where
+pub record GraphIn (bs ws : List ℕ) (n m : ℕ) (gr : model.Graph) : Type 0 where
   pub syms : gr .syms ≡ symsOf bs ws n
   pub scopes : gr .scopes ≡ scopesOf ws m
   pub uses : (s : ℕ) → s < n → usesAt ws s ≡ usage gr s
@@ -120,17 +120,17 @@ operandTree (Thunk b) gr k sc env last = processScope gr (buildValue gr) k b env
 
 abbrev pub Member : List ℕ → List ℕ → Graph → List ℕ → ℕ → ℕ → Bool → Type 0
 Member bs ws g ids sc s r =
-    (gr : model.Graph) (env : Env) → Stands bs ws (g .symbols) (g .scopes) gr → Maps ids env → r ≡ member gr sc env s
+    (gr : model.Graph) (env : Env) → GraphIn bs ws (g .symbols) (g .scopes) gr → Maps ids env → r ≡ member gr sc env s
 
 abbrev pub Members : List ℕ → List ℕ → Graph → List ℕ → ℕ → List ℕ → ℕ → Type 0
 Members bs ws g ids sc order r =
-    (gr : model.Graph) (env : Env) → Stands bs ws (g .symbols) (g .scopes) gr → Maps ids env
+    (gr : model.Graph) (env : Env) → GraphIn bs ws (g .symbols) (g .scopes) gr → Maps ids env
     → r ≡ membersIn gr sc env order
 
 -- whether there is one among the symbols up to `root`
 abbrev pub AnyMember : List ℕ → List ℕ → Graph → List ℕ → ℕ → ℕ → Bool → Type 0
 AnyMember bs ws g ids sc root r =
-    (gr : model.Graph) (env : Env) → Stands bs ws (g .symbols) (g .scopes) gr → Maps ids env
+    (gr : model.Graph) (env : Env) → GraphIn bs ws (g .symbols) (g .scopes) gr → Maps ids env
     → r ≡ ltb 0 (membersIn gr sc env (range 0 (root + 1)))
 
 abbrev pub more : Bool → ℕ → ℕ

@@ -1,29 +1,28 @@
 -- A plan that grows. In order: what planning leaves as it was; rows planned; a tree planned, and trees side by side.
--- bs are the forest's bytes, ws the words; the plan stands from word 7,176 on, three words a row, at most 256 rows.
+-- bs are the forest's bytes, ws the words; the plan stands in region PLAN, three words a row, at most 256 rows.
 -- Assumes nothing.
 use Prim.Native.Nat.{ℕ, _+_, _≤_, max, min}
 use mathlib.Core.Path.{_≡_}
 use mathlib.Core.List.{List, _++_}
-use lib.ListN.{length, getD}
+use lib.ListN.{length}
 use Rattle.model.specs.Tree.{Row, Tree, Trees, nil, cons, rows, rowsOf, depth}
-use Rattle.laws.specs.Frame.{Agree}
+use Rattle.laws.specs.Frame.{Frame}
+use Rattle.regions.specs.Regions.{PLAN, end}
 use Rattle.plan.specs.Plan.{planFrom, AllWritable, plannedRows}
 use Rattle.planner.specs.declared.Plan.{Plan}
 
--- all words but the plan's
-pub record Kept (ws ws′ : List ℕ) : Type 0 where
-  pub long : length ws′ ≡ length ws
-  pub before : Agree ws ws′ 0 7176
-  pub after : (k : ℕ) → 7944 ≤ k → getD ws′ k 0 ≡ getD ws k 0
+-- no word changed but the plan's
+abbrev pub PlanOnly : List ℕ → List ℕ → Type 0
+PlanOnly ws ws′ = Frame (PLAN .first) (end PLAN) ws ws′
 
 -- rows rs, the deepest at depth d, are planned after p. Past 256 rows it is only known that there are more
 pub record Grew (bs ws : List ℕ) (p : Plan) (rs : List Row) (d : ℕ) (ws′ : List ℕ) (r : Plan) : Type 0 where
   pub count : r .rows ≡ min 257 (p .rows + length rs)
-  pub plan : r .rows ≤ 256 → plannedRows bs ws′ 7176 (r .rows) ≡ plannedRows bs ws 7176 (p .rows) ++ rs
-  pub writable : r .rows ≤ 256 → AllWritable bs (planFrom ws 7176 (p .rows))
-      → AllWritable bs (planFrom ws′ 7176 (r .rows))
+  pub plan : r .rows ≤ 256 → plannedRows bs ws′ (PLAN .first) (r .rows) ≡ plannedRows bs ws (PLAN .first) (p .rows) ++ rs
+  pub writable : r .rows ≤ 256 → AllWritable bs (planFrom ws (PLAN .first) (p .rows))
+      → AllWritable bs (planFrom ws′ (PLAN .first) (r .rows))
   pub deepest : r .rows ≤ 256 → r .deepest ≡ max (p .deepest) d
-  pub kept : Kept ws ws′
+  pub kept : PlanOnly ws ws′
 
 -- a tree with `above` levels above it
 abbrev pub Grown : List ℕ → List ℕ → Plan → ℕ → Tree → List ℕ → Plan → Type 0

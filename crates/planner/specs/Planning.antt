@@ -19,8 +19,8 @@ use Rattle.key.specs.declared.Operation.{Operation}
 use Rattle.symbols.specs.Symbols.{kidsAt}
 use Rattle.graph.specs.declared.Graph.{Graph}
 use Rattle.planner.specs.declared.Plan.{Plan}
-use Rattle.planner.specs.Grew.{Kept, Grown, GrownAll}
-use Rattle.planner.specs.Building.{Stands, Maps, branchesOf, leftAt}
+use Rattle.planner.specs.Grew.{PlanOnly, Grown, GrownAll}
+use Rattle.planner.specs.Building.{GraphIn, Maps, branchesOf, leftAt}
 
 -- ---- where a tree is planned
 
@@ -36,9 +36,9 @@ pub record Site (n s slack : ℕ) (ids : List ℕ) (last above : ℕ) (p : Plan)
 -- the tree of a graph, a scope and ids, for the graph in the words and the ids that stand for `ids`
 pub record Plans (bs ws : List ℕ) (g : Graph) (ids : List ℕ) (p : Plan) (above : ℕ)
     (tree : model.Graph → ℕ → Env → Tree) (ws′ : List ℕ) (r : Plan) : Type 0 where
-  pub grown : (gr : model.Graph) (sc : ℕ) (env : Env) → Stands bs ws (g .symbols) (g .scopes) gr → Maps ids env
+  pub grown : (gr : model.Graph) (sc : ℕ) (env : Env) → GraphIn bs ws (g .symbols) (g .scopes) gr → Maps ids env
       → Grown bs ws p above (tree gr sc env) ws′ r
-  pub kept : Kept ws ws′
+  pub kept : PlanOnly ws ws′
   pub full : r .rows ≤ 257
 
 -- ---- a symbol without an id
@@ -57,9 +57,9 @@ pub record DefinesIn (bs ws : List ℕ) (gr : model.Graph) (env : Env) (p : Plan
 
 pub record Defines (bs ws : List ℕ) (g : Graph) (map : List ℕ) (p : Plan) (above sc : ℕ) (order : List ℕ)
     (last count : ℕ) (ws′ map′ : List ℕ) (r : Plan) (last′ : ℕ) : Type 0 where
-  pub defined : (gr : model.Graph) (env : Env) → Stands bs ws (g .symbols) (g .scopes) gr → Maps map env
+  pub defined : (gr : model.Graph) (env : Env) → GraphIn bs ws (g .symbols) (g .scopes) gr → Maps map env
       → DefinesIn bs ws gr env p above sc order last ws′ map′ r last′
-  pub kept : Kept ws ws′
+  pub kept : PlanOnly ws ws′
   pub full : r .rows ≤ 257
   pub few : last′ ≤ last + count
 
@@ -74,6 +74,6 @@ operandsLeft ws s op o last j gr sc env =
 -- are planned too, all are
 pub record Leads (bs ws : List ℕ) (g : Graph) (ids : List ℕ) (p : Plan) (above s op : ℕ) (o : Operation) (last j : ℕ)
     (ws₁ : List ℕ) (q : Plan) : Type 0 where
-  pub all : (gr : model.Graph) (sc : ℕ) (env : Env) → Stands bs ws (g .symbols) (g .scopes) gr → Maps ids env
+  pub all : (gr : model.Graph) (sc : ℕ) (env : Env) → GraphIn bs ws (g .symbols) (g .scopes) gr → Maps ids env
       → (ws₂ : List ℕ) (r : Plan) → GrownAll bs ws₁ q above (operandsLeft ws s op o last j gr sc env) ws₂ r
       → GrownAll bs ws p above (operandsLeft ws s op o last 0 gr sc env) ws₂ r

@@ -9,6 +9,7 @@ ghost use Prim.Native.Nat.{ℕ, _+_, _<_, _≤_, max};
 ghost use lib.ListN.{length, getD, take, replicate};
 ghost use lib.Seq.{sets};
 ghost use Rattle.laws.specs.Range.{range};
+ghost use Rattle.regions.specs.Regions.{PLAN, end};
 ghost use Rattle.record.specs.Record.{Laid};
 ghost use Rattle.plan.specs.Plan.{rowFor, Writable};
 ghost use Rattle.planner.specs.Grew.{Grew};
@@ -26,9 +27,6 @@ pub enum Opened {
     Same,
     Thunk(u32),
 }
-
-// Where the plan starts in the work memory.
-pub const PLAN: usize = 7176;
 
 // A number of a symbol or a scope, as an index. Rules out: its low bytes alone; one more.
 pub fn wide(x: u32) -> usize
@@ -51,13 +49,13 @@ fn deeper(a: usize, b: usize) -> usize
 // One row more, `above` levels below the root. Past 256 rows none is stored.
 // Rules out: a row over the one before it; a row at the depth of its parent.
 pub fn put(work: &mut [u32], p: Plan, above: usize, row: Planned) -> Plan
-    requires { ⌜ (7944 ≤ length (now work)) × (p .rows ≤ 257) × (above < 4294967296) ⌝ }
+    requires { ⌜ (end PLAN ≤ length (now work)) × (p .rows ≤ 257) × (above < 4294967296) ⌝ }
     ensures { λ r. ⌜ ((bs : List ℕ) → Writable bs row
         → Grew bs (now (work .entry)) p (rowFor bs row ∷ []) (above + 1) (now (work .exit)) r) ⌝ }
 {
     let rows = p.rows;
     if rows < 256 {
-        plan::store(work, PLAN + 3 * rows, row);
+        plan::store(work, regions::PLAN + 3 * rows, row);
         return Plan {
             rows: rows + 1,
             deepest: deeper(p.deepest, above + 1),
@@ -150,7 +148,7 @@ pub fn member(forest: &[u8], work: &[u32], g: Graph, s: usize, sc: usize, ids: &
     ensures { λ r. ⌜ Member (now (forest .entry)) (now (work .entry)) g (now (ids .entry)) sc s r ⌝ }
 {
     // asked first, since most symbols are used once
-    let uses = work[gate::USES + s];
+    let uses = work[regions::USES + s];
     if uses < 2 {
         return false;
     }

@@ -3,7 +3,7 @@ use denote.Ref.{now}
 use mathlib.Core.Path.{_∙_}
 use borrow.Author.Needs.{needs}
 use lib.ListN.{length-set}
-use Rattle.gate.proofs.Visits.{marked-ready, reached-from}
+use Rattle.gate.proofs.Visits.{rooted-ready, reached-from}
 use Rattle.gate.proofs.reach_and_count.Statement.{statement}
 use Rattle.gate.proofs.reach_and_count.Tie as tie
 
@@ -11,7 +11,7 @@ visit-requires : tie.Need-visit-requires
 visit-requires c κs =
     let k = c .before .before .before in
     let s = k .before .before .before in
-    marked-ready (now (s .args .work)) _ (s .args .n) (s .args .root) (s .pre .0) (s .pre .1) (k .clear .ensures)
+    rooted-ready (now (s .args .work)) _ (s .args .n) (s .args .root) (s .pre .0) (s .pre .1) (k .clear .ensures)
 
 same-length : tie.Need-same-length
 same-length c =

@@ -53,7 +53,7 @@ loop-again c =
     )
 
 same-length : tie.Need-same-length Inv-loop μ-loop
-same-length c = c .before .loop .inv .1 .long
+same-length c = c .before .loop .inv .1 .kept .long
 
 returns : tie.Need-returns Inv-loop μ-loop
 returns c = let l = c .before .loop in down-end _ (l .work) _ (l .s) (c .loop-test .left) (l .inv .2)

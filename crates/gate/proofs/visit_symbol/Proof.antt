@@ -3,7 +3,7 @@ use denote.Ref.{now}
 use mathlib.Core.Path.{_∙_}
 use borrow.Author.Needs.{needs}
 use Rattle.symbols.specs.Symbols.{kidsAt}
-use Rattle.gate.proofs.Visits.{visited-marked, visited-other}
+use Rattle.gate.proofs.Visits.{visited-reached, visited-other}
 use Rattle.gate.proofs.visit_symbol.Statement.{statement}
 use Rattle.gate.proofs.visit_symbol.Tie as tie
 
@@ -12,7 +12,7 @@ returns c =
     let n = c .before .before in
     let t = n .before .before in
     let a = t .before .before .before .args in
-    n .note-kids .ensures ∙ visited-marked (kidsAt (now (a .work))) (now (a .work)) (a .s) (t .if1 .taken)
+    n .note-kids .ensures ∙ visited-reached (kidsAt (now (a .work))) (now (a .work)) (a .s) (t .if1 .taken)
 
 returns-2 : tie.Need-returns-2
 returns-2 c =

@@ -4,7 +4,8 @@ use mathlib.Core.Path.{_≡_, refl}
 use native.Mathlib.Omega.{arith}
 use denote.Ref.{now}
 use lib.ListN.{length}
-use Rattle.model.specs.Lister.{linesFrom, allSlots}
+use Rattle.model.specs.Lister.{linesFrom}
+use Rattle.model.specs.Gate.{allSlots}
 use Rattle.symbols.specs.Symbols.{symsOf}
 use Rattle.output.specs.Output.{Wrote}
 use Rattle.lines.proofs.Lines.{uses-few, lines-start, lines-turn, lines-end, lines-all}

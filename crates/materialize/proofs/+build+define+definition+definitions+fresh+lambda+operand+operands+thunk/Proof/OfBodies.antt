@@ -4,6 +4,7 @@ use mathlib.Core.Path.{_≡_, refl, ap, _∙_}
 use native.Mathlib.Omega.{arith}
 use lib.ListN.{length, getD}
 use borrow.Author.Tests.{not-true}
+use Rattle.regions.specs.Regions.{SLOTS}
 use Rattle.planner.proofs.Keeping.{buildable-kept}
 use Rattle.planner.proofs.Loaded.{source-low, slots-loaded}
 use Rattle.record.specs.Record.{rowAt}
@@ -171,7 +172,7 @@ lambda-define-requires t c κs =
     let fit = lambda-fits b _ (at .low) _ e in
     let h = c11 .put .ensures (z .args .forest .now) (lambda-writable b _ (at .low) _ e _ (omega (arith, at .room))) in
     let er = c13 .wide4 .ensures
-    ∙ ap (λ (k : ℕ). getD (z .args .work .now) (2560 + k) 0) (c15 .wide3 .ensures ∙ ap (λ (y : Symbol). y .kids)
+    ∙ ap (λ (k : ℕ). getD (z .args .work .now) (SLOTS .first + k) 0) (c15 .wide3 .ensures ∙ ap (λ (y : Symbol). y .kids)
     (c16 .load .ensures)) in
     let low = body-low b _ (at .low) _ e in (
       omega (arith, z .pre .0, er, low),
@@ -211,7 +212,7 @@ lambda-returns t c =
     let e = z .pre .1 .1 .1 .1 in
     let h = c15 .put .ensures (z .args .forest .now) (lambda-writable b _ (at .low) _ e _ (omega (arith, at .room))) in
     let er = c17 .wide4 .ensures
-    ∙ ap (λ (k : ℕ). getD (z .args .work .now) (2560 + k) 0) (c19 .wide3 .ensures ∙ ap (λ (y : Symbol). y .kids)
+    ∙ ap (λ (k : ℕ). getD (z .args .work .now) (SLOTS .first + k) 0) (c19 .wide3 .ensures ∙ ap (λ (y : Symbol). y .kids)
     (c20 .load .ensures)) in
     plans-lambda b _ (at .low) _ _ e (at .long) (count-is t c22) er (c12 .copied .ensures) (c10 .wide5 .ensures)
     (c9 .wide6 .ensures) (c5 .wide7 .ensures) (c8 .number .ensures) h (c3 .define .ensures)

@@ -4,7 +4,7 @@ use mathlib.Core.Path.{refl, ap, _∙_}
 use native.Mathlib.Omega.{arith}
 use lib.ListN.{length}
 use borrow.Author.Tests.{not-true}
-use Rattle.planner.proofs.Growing.{kept-then}
+use Rattle.laws.proofs.Frame.{frame-then}
 use Rattle.planner.proofs.Keeping.{buildable-kept}
 use Rattle.planner.proofs.Nodes.{grew-few, plans-full}
 use Rattle.planner.proofs.Sites.{put-fits, site-on}
@@ -139,7 +139,7 @@ define-build-requires-3 t c κs =
       (
         z .pre .1 .0,
         (
-          buildable-kept (kept-then (h .kept) (d .kept)) b,
+          buildable-kept (frame-then _ _ _ _ _ (h .kept) (d .kept)) b,
           site-on at (c6 .definitions .kept .1 .1 .1 .1 .1 .1 .1 .0)
               (omega (arith, d .few, c20 .schedule .ensures .fit)) (d .full),
         ),

@@ -3,9 +3,9 @@ use borrow.Author.Needs.{needs}
 use Prim.Native.Nat.{ℕ, _+_, _-_, _≤_, _<_}
 use mathlib.Core.Path.{refl, sym, ap, _∙_}
 use native.Mathlib.Omega.{arith}
-use Rattle.planner.specs.Grew.{Kept}
+use Rattle.laws.proofs.Frame.{frame-none, frame-then}
+use Rattle.planner.specs.Grew.{PlanOnly}
 use Rattle.planner.specs.Planning.{Leads}
-use Rattle.planner.proofs.Growing.{kept-same, kept-then}
 use Rattle.planner.proofs.Keeping.{buildable-kept, symbol-kept}
 use Rattle.planner.proofs.Operands.{opened-there}
 use Rattle.planner.proofs.Loaded.{node-loaded, put-as, source-low, row-writable, node-opens, slots-loaded}
@@ -181,7 +181,7 @@ operand-returns-2 t c =
 abbrev pub operands-Inv-loop : operands-lts.InvT-loop
 operands-Inv-loop forest work₀ g s o ids last above opcode at count q₀ j₀ work q j =
     (j ≤ count)
-    × Kept work₀ work
+    × PlanOnly work₀ work
     × (q .rows ≤ 257)
     × Leads forest work₀ g ids q₀ (above + 1) s opcode o last j work q
 
@@ -220,7 +220,7 @@ operands-loop-holds t c =
     let e = z .pre .1 .1 .1 .1 in
     let h = put-as (c3 .row-of .ensures) (c2 .put .ensures) (row-writable b _ (at .low) _ e) in
     let b₀ = buildable-kept (h .kept) b in
-    (omega arith, kept-same _, grew-few h, operands-start b₀ _ (at .low) _ _ _)
+    (omega arith, frame-none _ _ _, grew-few h, operands-start b₀ _ (at .low) _ _ _)
 
 pub operands-slice-read-wide : (t : ℕ) → operands-lts.Need-slice-read-wide (cycle.operands-claims t)
     (cycle.operands-at t) operands.Post operands-Inv-loop operands-μ-loop
@@ -322,7 +322,7 @@ operands-loop-again t c =
     let inv = c8 .loop .inv in
     let few : c8 .loop .j < c16 .load .result .count = omega (arith, c14 .wide3 .ensures, c7 .loop-test .taken) in (
       omega (arith, c7 .loop-test .taken),
-      kept-then (inv .1) (c2 .operand .ensures .kept),
+      frame-then _ _ _ _ _ (inv .1) (c2 .operand .ensures .kept),
       c2 .operand .ensures .full,
       operands-next b₀ _ (at .low) _ _ _ y₀ (c15 .wide2 .ensures) few (inv .1) (c5 .wide4 .ensures)
           (c4 .operand-scope .ensures) (inv .3)
