@@ -45,7 +45,7 @@ use Rattle.interner.specs.declared.State.{State}
 use Rattle.tables.specs.Tables.{first}
 use Rattle.symbols.specs.Sourced.{Sourced}
 use Rattle.interner.specs.State.{absOf, Rep}
-use Rattle.gate.specs.Gate.{Stored}
+use Rattle.gate.specs.Gate.{Countable}
 use Rattle.graph.specs.Graph.{Arena}
 use Rattle.planner.specs.Building.{Opens, NoUse, Buildable}
 
@@ -110,7 +110,7 @@ module _ (bs : List ℕ) (fin : List Sym) (scs : List Scope) (s : ℕ) where
 -- ---- counting
 
 module _ (bs ws : List ℕ) (st : State) (rep : Rep bs ws st) where
-  pub symbols-stored : Stored ws (st .symbols)
+  pub symbols-stored : Countable ws (st .symbols)
   symbols-stored = record {
     few = rep .few-symbols;
     words = omega (arith, rep .words);

@@ -4,8 +4,8 @@
 use codec::Verdict;
 use graph::Graph;
 use interner::State;
-use regions::PLAN;
 use planner::Plan;
+use regions::PLAN;
 ghost use mathlib.Core.Path.{_≡_};
 ghost use Prim.Native.Nat.{ℕ, _≤_};
 ghost use lib.ListN.{length};

@@ -13,6 +13,7 @@ use Rattle.model.specs.Intern.{Sym, noSym, symAt}
 use Rattle.model.specs.Gate.{symOf}
 use Rattle.model.specs.Schedule.{isArg, isOutside, relOf}
 use Rattle.laws.proofs.Falls.{Under}
+use Rattle.regions.specs.Regions.{SCOPES}
 use Rattle.key.specs.declared.Symbol.{Symbol}
 use Rattle.key.specs.declared.Parts.{Parts}
 use Rattle.key.specs.declared.Node.{Node}
@@ -100,7 +101,7 @@ module _ (ws : List ℕ) (n m s : ℕ) (y : Symbol) (loaded : y ≡ symbolAt ws 
     scope-low : y .scope < m
     scope-low = subst (λ (z : Symbol). z .scope < m) (sym loaded) (scoped .placed s lt)
 
-    pub scope-inside : 5120 + y .scope < length ws
+    pub scope-inside : SCOPES .first + y .scope < length ws
     scope-inside = omega (arith, scope-low, scoped .words, scoped .few-scopes)
 
     pub scope-nested : Nested ws (y .scope + 1)

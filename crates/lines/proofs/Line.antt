@@ -11,6 +11,7 @@ use Rattle.model.specs.Forest.{recordCount}
 use Rattle.model.specs.Intern.{Node, Sym, symAt, constant, unparsed, argument, func, operation}
 use Rattle.model.specs.Gate.{shouldHoist}
 use Rattle.model.specs.Lister.{decimal, hexByte, tagOf, opcodeShown, yesNo, line}
+use Rattle.regions.specs.Regions.{SLOTS}
 use Rattle.key.specs.declared.Symbol.{Symbol}
 use Rattle.key.specs.Key.{partsOf, symbolAt}
 use Rattle.symbols.specs.Symbols.{recOf, nodeOf, symOf, symsOf, Sound}
@@ -109,6 +110,6 @@ pub stored-small : (ws : List ℕ) (s : ℕ) (x : Symbol) → x ≡ symbolAt ws 
 unfolding symbolAt
 stored-small ws s x loads = rw loads (omega arith)
 
-pub stored-from : (bs ws : List ℕ) (s : ℕ) (x : Symbol) → x ≡ symbolAt ws s → Sound bs ws 2560 s →
+pub stored-from : (bs ws : List ℕ) (s : ℕ) (x : Symbol) → x ≡ symbolAt ws s → Sound bs ws (SLOTS .size) s →
     partsOf (x .node) .source < recordCount bs
 stored-from bs ws s x loads sound = rw loads (sound .from)

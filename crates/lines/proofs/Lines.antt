@@ -14,6 +14,7 @@ use Rattle.model.specs.Text.{text}
 use Rattle.model.specs.Intern.{Sym, symAt}
 use Rattle.model.specs.Lister.{decimal, line, linesFrom, symbolLines}
 use Rattle.model.specs.Gate.{allSlots}
+use Rattle.regions.specs.Regions.{SLOTS}
 use Rattle.key.specs.Key.{symbolAt}
 use Rattle.symbols.specs.Symbols.{kidsAt, symOf, symFrom, symsOf, AllSound}
 use Rattle.symbols.proofs.Words.{words-length}
@@ -42,7 +43,7 @@ unfolding allSlots
 slots-more [] y = append-nil (y .kids)
 slots-more (x ∷ l) y = rw (slots-more l y) (sym (append-assoc (x .kids) (allSlots l) (y .kids)))
 
-slots-few : (bs ws : List ℕ) (n s : ℕ) → AllSound bs ws 2560 n → count s (allSlots (symsOf bs ws n)) ≤ 2560 * n
+slots-few : (bs ws : List ℕ) (n s : ℕ) → AllSound bs ws (SLOTS .size) n → count s (allSlots (symsOf bs ws n)) ≤ SLOTS .size * n
 unfolding symsOf allSlots count symOf
 slots-few bs ws zero s sound = omega arith
 slots-few bs ws (suc n) s sound =
@@ -53,7 +54,7 @@ slots-few bs ws (suc n) s sound =
       arith,
       count-append s (allSlots l) (kidsAt ws n),
       count-length s (kidsAt ws n),
-      words-length ws (2560 + symbolAt ws n .kids) (symbolAt ws n .count),
+      words-length ws (SLOTS .first + symbolAt ws n .kids) (symbolAt ws n .count),
       sound n (omega arith) .slots,
       slots-few bs ws n s (λ i lt. sound i (omega arith)),
     )

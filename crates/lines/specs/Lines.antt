@@ -9,6 +9,7 @@ use Rattle.model.specs.Text.{text}
 use Rattle.model.specs.Intern.{Node}
 use Rattle.model.specs.Lister.{decimal, hexByte, tagOf, opcodeShown}
 use Rattle.model.specs.Gate.{allSlots}
+use Rattle.regions.specs.Regions.{SLOTS, REACHED, end}
 use Rattle.record.specs.Record.{Laid}
 use Rattle.symbols.specs.Symbols.{symsOf, AllSound}
 use Rattle.gate.specs.Gate.{usesAt}
@@ -21,7 +22,7 @@ columns s n opcode =
 -- words hold n symbols of the forest, and the uses of each by all of them
 pub record Listable (bs ws : List ℕ) (n : ℕ) : Type 0 where
   pub laid : Laid bs
-  pub sound : AllSound bs ws 2560 n
+  pub sound : AllSound bs ws (SLOTS .size) n
   pub few : n ≤ 512
-  pub words : 9480 ≤ length ws
+  pub words : end REACHED ≤ length ws
   pub uses : (s : ℕ) → s < n → usesAt ws s ≡ count s (allSlots (symsOf bs ws n))

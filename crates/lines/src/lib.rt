@@ -1,7 +1,7 @@
 // The lister's lines, written over an output. In order: a number; a symbol's columns; its line; all symbols.
 // A refusal's line is written by `text`.
-use regions::USES;
 use key::Node;
+use regions::USES;
 ghost use mathlib.Core.Path.{_≡_};
 ghost use mathlib.Core.List.{List, [], _∷_, _++_};
 ghost use Prim.Native.Nat.{ℕ, _+_, _*_, _<_, _≤_};
@@ -10,6 +10,7 @@ ghost use Rattle.model.specs.Forest.{recordCount};
 ghost use Rattle.model.specs.Intern.{symAt};
 ghost use Rattle.model.specs.Lister.{decimal, tagOf, opcodeShown, yesNo, line, linesFrom, symbolLines};
 ghost use Rattle.model.specs.Gate.{allSlots};
+ghost use Rattle.regions.specs.Regions.{SYMBOLS, SLOTS, end};
 ghost use Rattle.record.specs.Record.{Laid};
 ghost use Rattle.key.specs.Key.{partsOf};
 ghost use Rattle.symbols.specs.Symbols.{recOf, nodeOf, symsOf, Sound};
@@ -83,8 +84,8 @@ fn put_columns(forest: &[u8], out: &mut [u8], at: usize, s: usize, node: Node) -
 // The line of symbol s, which is used `uses` times. Rules out: the scope as usage; the opcode of a constant shown.
 fn put_line(forest: &[u8], work: &[u32], out: &mut [u8], at: usize, s: usize, uses: u32) -> usize
     requires { ⌜ Laid (now forest) ⌝ }
-    requires { ⌜ Sound (now forest) (now work) 2560 s ⌝ }
-    requires { ⌜ (s < 512) × (2560 ≤ length (now work)) × (uses < 1000000000) ⌝ }
+    requires { ⌜ Sound (now forest) (now work) (SLOTS .size) s ⌝ }
+    requires { ⌜ (s < 512) × (end SYMBOLS ≤ length (now work)) × (uses < 1000000000) ⌝ }
     requires { ⌜ at + 40 ≤ length (now out) ⌝ }
     ensures { λ r. ⌜ ((n : ℕ) → s < n → Wrote (now (out .entry)) at
         (line s uses (symAt (symsOf (now (forest .entry)) (now (work .entry)) n) s)) (now (out .exit)) r) ⌝ }

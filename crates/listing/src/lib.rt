@@ -11,14 +11,14 @@ ghost use Rattle.model.specs.Intern.{State};
 ghost use Rattle.model.specs.Call.{interned};
 ghost use Rattle.model.specs.Lister.{symbolLines};
 ghost use Rattle.regions.specs.Regions.{WORDS};
-ghost use Rattle.gate.specs.Gate.{Stored, Tallied};
+ghost use Rattle.gate.specs.Gate.{Countable, Tallied};
 ghost use Rattle.output.specs.Output.{Wrote};
 ghost use Rattle.cse.specs.Call.{Unused};
 ghost use Rattle.listing.specs.Listing.{Listed};
 
 // The uses of each of n symbols by all of them. The main call counts those by symbols that the root reaches.
 fn count_uses(work: &mut [u32], n: usize)
-    requires { ⌜ Stored (now work) n ⌝ }
+    requires { ⌜ Countable (now work) n ⌝ }
     ensures { λ _. ⌜ Tallied (now (work .entry)) (now (work .exit)) n ⌝ }
 {
     gate::count_all(work, n)

@@ -15,11 +15,12 @@ use Rattle.model.specs.Gate.{symOf}
 use Rattle.model.specs.Schedule.{operands, localDepOrder, outsiders}
 use Rattle.model.specs.Forest.{recordCount}
 use Rattle.laws.proofs.Orders.{outsiders-join, operands-last}
+use Rattle.regions.specs.Regions.{SLOTS}
 use Rattle.key.specs.declared.Symbol.{Symbol}
 use Rattle.key.specs.declared.Parts.{Parts}
 use Rattle.key.specs.Key.{partsOf, symbolAt}
 use Rattle.record.specs.Record.{rowAt}
-use Rattle.symbols.specs.Words.{wordsFrom}
+use Rattle.symbols.specs.Words.{wordsFrom, slotsFrom}
 use Rattle.symbols.proofs.Same.{key-opcode}
 use Rattle.symbols.proofs.Words.{words-length, words-more}
 use Rattle.symbols.proofs.Laws.{rec-at, kids-at}
@@ -135,14 +136,14 @@ module _ (bs ws : List ℕ) (n m cs : ℕ) (b t : Bool) (op j d : ℕ) (is : t �
 
 module _ (bs ws : List ℕ) (n m s : ℕ) (arena : Arena bs ws n m) (lt : s < n) (y : Symbol)
     (loaded : y ≡ symbolAt ws s) where
-  pub kids-lower : Lower ws (2560 + y .kids) (y .count) n
+  pub kids-lower : Lower ws (SLOTS .first + y .kids) (y .count) n
   kids-lower =
       let so = arena .sound s lt in
       rw loaded (record { fit = omega (arith, so .slots); low = λ j l. omega (arith, so .lower j l) })
 
   kids-is : (p : Parts) → p ≡ partsOf (y .node) → (op : ℕ) → op ≡ rowAt bs (p .source) .rec .opcode →
-      (slots : List ℕ) → operands true op 0 (wordsFrom ws (2560 + y .kids) (y .count))
-      ++ operands false op 0 (wordsFrom ws (2560 + y .kids) (y .count))
+      (slots : List ℕ) → operands true op 0 (slotsFrom ws (y .kids) (y .count))
+      ++ operands false op 0 (slotsFrom ws (y .kids) (y .count))
       ≡ localDepOrder (symOf (graphOf bs ws n m slots) s)
   unfolding localDepOrder
   kids-is p e op f slots =
@@ -151,8 +152,8 @@ module _ (bs ws : List ℕ) (n m s : ℕ) (arena : Arena bs ws n m) (lt : s < n)
       ∙ (ap (λ (z : Symbol). rowAt bs (partsOf (z .node) .source) .rec .opcode) loaded
       ∙ (sym (key-opcode bs (partsOf (symbolAt ws s .node) .source) (partsOf (symbolAt ws s .node) .field))
       ∙ sym (ap (λ (r : Rec). r .opcode) (rec-at bs ws n s lt))))) in
-      let ks : wordsFrom ws (2560 + y .kids) (y .count) ≡ symOf (graphOf bs ws n m slots) s .kids =
-      ap (λ (z : Symbol). wordsFrom ws (2560 + z .kids) (z .count)) loaded ∙ sym (kids-at bs ws n s lt) in
+      let ks : slotsFrom ws (y .kids) (y .count) ≡ symOf (graphOf bs ws n m slots) s .kids =
+      ap (λ (z : Symbol). slotsFrom ws (z .kids) (z .count)) loaded ∙ sym (kids-at bs ws n s lt) in
       ap₂ (λ (o : ℕ) (l : List ℕ). operands true o 0 l ++ operands false o 0 l) q ks
 
   pub kids-from : (p : Parts) → p ≡ partsOf (y .node) → p .source < recordCount bs
@@ -160,12 +161,12 @@ module _ (bs ws : List ℕ) (n m s : ℕ) (arena : Arena bs ws n m) (lt : s < n)
 
   pub kids-offered : (p : Parts) → p ≡ partsOf (y .node) → (op : ℕ) → op ≡ rowAt bs (p .source) .rec .opcode →
       (cs : ℕ) (l : List ℕ) (k : ℕ) (l₁ : List ℕ) (k₁ : ℕ) (l₂ : List ℕ) (k₂ : ℕ) →
-      Listed bs ws n m (offered cs (operands true op 0 (wordsFrom ws (2560 + y .kids) (y .count)))) l k l₁ k₁ →
-      Listed bs ws n m (offered cs (operands false op 0 (wordsFrom ws (2560 + y .kids) (y .count)))) l₁ k₁ l₂ k₂ →
+      Listed bs ws n m (offered cs (operands true op 0 (slotsFrom ws (y .kids) (y .count)))) l k l₁ k₁ →
+      Listed bs ws n m (offered cs (operands false op 0 (slotsFrom ws (y .kids) (y .count)))) l₁ k₁ l₂ k₂ →
       Listed bs ws n m (λ h. outsiders h cs (localDepOrder (symOf h s))) l k l₂ k₂
   kids-offered p e op f cs l k l₁ k₁ l₂ k₂ a b =
-      let both = joined bs ws n m cs l k (operands true op 0 (wordsFrom ws (2560 + y .kids) (y .count)))
-      (operands false op 0 (wordsFrom ws (2560 + y .kids) (y .count))) _ refl l₁ k₁ l₂ k₂ a b in
+      let both = joined bs ws n m cs l k (operands true op 0 (slotsFrom ws (y .kids) (y .count)))
+      (operands false op 0 (slotsFrom ws (y .kids) (y .count))) _ refl l₁ k₁ l₂ k₂ a b in
       record {
         held = both .held;
         is = λ slots.

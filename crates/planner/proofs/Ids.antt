@@ -19,7 +19,7 @@ use Rattle.laws.proofs.ArgLists.{ArgList}
 use Rattle.laws.proofs.Ranges.{range-length, range-more, range-at}
 use Rattle.laws.proofs.Numbering.{given-new, given-before, given-after}
 use Rattle.laws.proofs.Runs.{sets-run, sets-before, sets-after, sets-more}
-use Rattle.planner.specs.Building.{given, Maps}
+use Rattle.planner.specs.Building.{idIn, Maps}
 
 -- ---- a copy
 
@@ -51,7 +51,7 @@ replicate-zero (suc n) (suc s) = replicate-zero n s
 pub maps-none : (ids : List ℕ) → ids ≡ replicate 512 0 → Maps ids []
 unfolding idGiven
 maps-none ids e =
-    record { is = λ s l. sym (ap given (ap (λ (x : List ℕ). getD x s 0) e ∙ replicate-zero 512 s)) }
+    record { is = λ s l. sym (ap idIn (ap (λ (x : List ℕ). getD x s 0) e ∙ replicate-zero 512 s)) }
 
 -- ---- one id more
 
@@ -61,7 +61,7 @@ unfolding idGiven
 maps-more ids env s last h l = record { is = λ t few. go t few (eqb s t) refl }
   where
     go : (t : ℕ) → t < 512 → (b : Bool) → eqb s t ≡ b
-        → elim b [ true ↦ some (suc last) | false ↦ idGiven env t ] ≡ given (getD (set ids s (last + 1)) t 0)
+        → elim b [ true ↦ some (suc last) | false ↦ idGiven env t ] ≡ idIn (getD (set ids s (last + 1)) t 0)
     go t few true e =
         let f = eqb-true s t e in
         rw (← f, getD-set-same ids s (last + 1) 0 l, add-one last)
@@ -82,10 +82,10 @@ maps-args ids env first n last xs count h fit =
     len = range-length (last + 1) n
 
     go : (s : ℕ) → s < 512 → (a b : Bool) → ltb s first ≡ a → ltb s (first + n) ≡ b
-        → idGiven (argEnv last (withOpts xs (range first n)) env) s ≡ given (getD (sets ids first r) s 0)
+        → idGiven (argEnv last (withOpts xs (range first n)) env) s ≡ idIn (getD (sets ids first r) s 0)
     go s few true b p q =
         let l = ltb-true s first p in
-        given-before first n xs count env last s l ∙ (h .is s few ∙ ap given (sym (sets-before r ids first s l)))
+        given-before first n xs count env last s l ∙ (h .is s few ∙ ap idIn (sym (sets-before r ids first s l)))
     go s few false true p q =
         let lo = ltb-false s first p in
         let hi = ltb-true s (first + n) q in
@@ -99,4 +99,4 @@ maps-args ids env first n last xs count h fit =
     go s few false false p q =
         let hi = ltb-false s (first + n) q in
         given-after first n xs count env last s hi
-        ∙ (h .is s few ∙ ap given (sym (sets-after r ids first s (omega (arith, len)))))
+        ∙ (h .is s few ∙ ap idIn (sym (sets-after r ids first s (omega (arith, len)))))

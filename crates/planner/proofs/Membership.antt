@@ -31,7 +31,7 @@ use Rattle.symbols.specs.Symbols as words
 use Rattle.symbols.proofs.Laws.{sym-at}
 use Rattle.gate.proofs.Gate.{hoist-few}
 use Rattle.graph.specs.Graph.{Tests, graphOf}
-use Rattle.planner.specs.Building.{GraphIn, Maps, given, more}
+use Rattle.planner.specs.Building.{GraphIn, Maps, idIn, more}
 
 -- ---- the graph in the words
 
@@ -74,7 +74,7 @@ module _ {bs ws : List ℕ} {n m : ℕ} {gr : Graph} (st : GraphIn bs ws n m gr)
 isNew : Option ℕ → Bool
 isNew o = elim o [ none ↦ true | some i ↦ false ]
 
-given-old : (i : ℕ) → (i ≡ 0 → ⊥) → isNew (given i) ≡ false
+given-old : (i : ℕ) → (i ≡ 0 → ⊥) → isNew (idIn i) ≡ false
 unfolding isNew
 given-old zero n = absurd (n refl)
 given-old (suc i) n = refl
@@ -112,7 +112,7 @@ module _ (gr : Graph) (sc : ℕ) (ids : List ℕ) (env : Env) (s : ℕ) (few : s
       → shouldHoist (symOf gr s) (usage gr s) ≡ member gr sc env s
   unfolding member
   member-hoisted z e f =
-      let id : idGiven env s ≡ none = maps .is s few ∙ ap given z in
+      let id : idGiven env s ≡ none = maps .is s few ∙ ap idIn z in
       rw (eq-eqb (symOf gr s .scope) sc e, f, id, member) (sym (and-true (shouldHoist (symOf gr s) (usage gr s))))
 
 -- ---- one symbol more

@@ -25,7 +25,7 @@ use Rattle.planner.specs.declared.Plan.{Plan}
 use Rattle.planner.specs.declared.Opened.{Opened}
 use Rattle.planner.specs.declared.Opened.the-variants.{Same, Thunk}
 use Rattle.planner.specs.Grew.{Grew, Grown}
-use Rattle.planner.specs.Building.{Buildable, GraphIn, Maps, given, OpenLow, operandTree}
+use Rattle.planner.specs.Building.{Buildable, GraphIn, Maps, idIn, OpenLow, operandTree}
 use Rattle.planner.specs.Planning.{Plans, freshTree}
 use Rattle.planner.proofs.Growing.{grew-full, grew-as}
 use Rattle.planner.proofs.Loaded.{fresh-is, rec-of, source-fits, leaf-is}
@@ -106,7 +106,7 @@ use-row : (bs : List ℕ) (i : ℕ) → rows (valUseOf i) ≡ rowFor bs (ValUse 
 unfolding rowFor
 use-row bs i = use-rows i
 
-given-some : (i : ℕ) → (i ≡ 0 → ⊥) → given i ≡ some i
+given-some : (i : ℕ) → (i ≡ 0 → ⊥) → idIn i ≡ some i
 given-some zero n = absurd (n refl)
 given-some (suc i) n = refl
 
@@ -132,7 +132,7 @@ module _ {bs ws : List ℕ} {g : Graph} {ids : List ℕ} {p : Plan} {above : ℕ
   unfolding buildStep
   plans-new z h =
       plans-as h (λ gr sc env st maps.
-      let e : idGiven env s ≡ none = maps .is s (omega (arith, b .arena .few)) ∙ ap given z in
+      let e : idGiven env s ≡ none = maps .is s (omega (arith, b .arena .few)) ∙ ap idIn z in
       sym (build-step gr (kids-low b st) s (body-lower b st s lt) sc env last ∙ rw (e, buildStep)))
 
   pub plans-const : (l : Leaf) → symbolAt ws s .node ≡ Const l

@@ -78,13 +78,14 @@ pub record GraphIn (bs ws : List ℕ) (n m : ℕ) (gr : model.Graph) : Type 0 wh
 
 -- ---- the ids of symbols
 
-abbrev pub given : ℕ → Option ℕ
-given zero = none
-given (suc i) = some (suc i)
+-- the id that a word holds
+abbrev pub idIn : ℕ → Option ℕ
+idIn zero = none
+idIn (suc i) = some (suc i)
 
 -- the words have the ids of env, 0 for none
 pub record Maps (ids : List ℕ) (env : Env) : Type 0 where
-  pub is : (s : ℕ) → s < 512 → idGiven env s ≡ given (getD ids s 0)
+  pub is : (s : ℕ) → s < 512 → idGiven env s ≡ idIn (getD ids s 0)
 
 -- ---- operations
 

@@ -13,9 +13,10 @@ use Rattle.model.specs.Gate.{Graph, symOf}
 use Rattle.model.specs.Schedule.{Rel, local, deeper, outside, relOf, each, freeVars, schedule}
 use Rattle.laws.proofs.Falls.{Under, schedule-low}
 use Rattle.laws.proofs.Orders.{each-last}
+use Rattle.regions.specs.Regions.{SLOTS}
 use Rattle.key.specs.declared.Symbol.{Symbol}
 use Rattle.key.specs.Key.{symbolAt}
-use Rattle.symbols.specs.Words.{wordsFrom}
+use Rattle.symbols.specs.Words.{wordsFrom, slotsFrom}
 use Rattle.symbols.proofs.Words.{words-more}
 use Rattle.symbols.proofs.Laws.{kids-at}
 use Rattle.graph.specs.Graph.{Arena, graphOf, Tests}
@@ -138,15 +139,15 @@ module _ (bs ws : List ℕ) (n m : ℕ) (arena : Arena bs ws n m) (b : Bool) (cs
         walk-more (wordsFrom ws at j) d (wordsFrom ws at (j + 1)) (rw (add-one j, e) (words-more ws at j))
 
     pub words-done : (s : ℕ) → s < n → (y : Symbol) → y ≡ symbolAt ws s → (j : ℕ) → j ≡ y .count →
-        (seen′ list′ : List ℕ) (k′ : ℕ) → Steps (λ g. wordsFrom ws (2560 + y .kids) j) list k seen′ list′ k′ →
+        (seen′ list′ : List ℕ) (k′ : ℕ) → Steps (λ g. slotsFrom ws (y .kids) j) list k seen′ list′ k′ →
         Steps (λ g. symOf g s .kids) list k seen′ list′ k′
     words-done s lt y e j f seen′ list′ k′ h =
-        walked-as bs ws n m (λ g. each (stepOf g b cs) (wordsFrom ws (2560 + y .kids) j))
+        walked-as bs ws n m (λ g. each (stepOf g b cs) (slotsFrom ws (y .kids) j))
         (λ g. each (stepOf g b cs) (symOf g s .kids)) list k seen′ list′ k′
         (λ slots o. let g = graphOf bs ws n m slots in
         ap (λ (l : List ℕ). each (stepOf g b cs) l o)
-        (ap (wordsFrom ws (2560 + y .kids)) f
-        ∙ (ap (λ (z : Symbol). wordsFrom ws (2560 + z .kids) (z .count)) e ∙ sym (kids-at bs ws n s lt)))) h
+        (ap (slotsFrom ws (y .kids)) f
+        ∙ (ap (λ (z : Symbol). slotsFrom ws (z .kids) (z .count)) e ∙ sym (kids-at bs ws n s lt)))) h
 
     -- over a list
     pub list-go : (own : List ℕ) (j d : ℕ) → j < length own → d ≡ getD own j 0 → (seen₁ list₁ : List ℕ) (k₁ : ℕ)
@@ -168,7 +169,7 @@ module _ (bs ws : List ℕ) (n m : ℕ) (arena : Arena bs ws n m) (b : Bool) (cs
 
 -- a child in the words is lower
 pub kids-down : (bs ws : List ℕ) (n m s : ℕ) → Arena bs ws n m → s < n → (y : Symbol) → y ≡ symbolAt ws s → (j : ℕ) →
-    j < y .count → getD ws (2560 + y .kids + j) 0 < s
+    j < y .count → getD ws (SLOTS .first + y .kids + j) 0 < s
 kids-down bs ws n m s arena lt y e = rw e (arena .sound s lt .lower)
 
 -- ---- a scope's schedule

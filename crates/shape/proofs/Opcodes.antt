@@ -28,14 +28,14 @@ abbrev pub Answers : Bool → ℕ → ℕ → Type 0
 Answers b s o = (a : ℕ) (lit : List ℕ) → b ≡ agrees (rec s o a lit)
 
 -- whether the shape that a table gives is s; d, where it gives none
-abbrev pub given : Option ℕ → Bool → ℕ → Bool
-given r d s = elim r [ none ↦ d | some t ↦ eqb t s ]
+abbrev pub named : Option ℕ → Bool → ℕ → Bool
+named r d s = elim r [ none ↦ d | some t ↦ eqb t s ]
 
 abbrev pub agree : ℕ → ℕ → Bool
 agree s o =
     Bool·beq (eqb o 0) (leb s 1) &&
-    given (shapeOf bothWays o) (not (isIn s (shapesIn bothWays))) s &&
-    given (shapeOf oneWay o) true s
+    named (shapeOf bothWays o) (not (isIn s (shapesIn bothWays))) s &&
+    named (shapeOf oneWay o) true s
 
 agrees-is : (s o a : ℕ) (lit : List ℕ) → agrees (rec s o a lit) ≡ agree s o
 unfolding agrees
@@ -57,13 +57,13 @@ shapeOf-absent o (p ∷ ps) u = rw (ne-eqb (p .0) o (λ e. u .0 (sym e)), shapeO
 
 -- in a table that has s just where it has k, no other opcode has s
 others : (ps : Pairs) (s k o : ℕ) → map (λ p. eqb (p .1) s) ps ≡ map (λ p. eqb (p .0) k) ps → (o ≡ k → ⊥)
-    → given (shapeOf ps o) false s ≡ false
+    → named (shapeOf ps o) false s ≡ false
 unfolding shapeOf
 others [] s k o e h = refl
 others (p ∷ ps) s k o e h = go (eqb (p .0) o) refl (others ps s k o (cc) h)
   where
-    go : (b : Bool) → eqb (p .0) o ≡ b → given (shapeOf ps o) false s ≡ false
-        → given (shapeOf (p ∷ ps) o) false s ≡ false
+    go : (b : Bool) → eqb (p .0) o ≡ b → named (shapeOf ps o) false s ≡ false
+        → named (shapeOf (p ∷ ps) o) false s ≡ false
     go true f r =
         let at : p .0 ≡ o = eqb-true (p .0) o f in
         let same : eqb (p .1) s ≡ eqb (p .0) k = cc in
@@ -100,7 +100,7 @@ is-free s m =
 
 -- what is left of `agree` for such a shape
 abbrev pub left : ℕ → ℕ → Bool
-left s o = Bool·beq (eqb o 0) false && given (shapeOf bothWays o) true s && given (shapeOf oneWay o) true s
+left s o = Bool·beq (eqb o 0) false && named (shapeOf bothWays o) true s && named (shapeOf oneWay o) true s
 
 eqb-swap : (m n : ℕ) → eqb m n ≡ eqb n m
 eqb-swap m n = go (eqb m n) refl

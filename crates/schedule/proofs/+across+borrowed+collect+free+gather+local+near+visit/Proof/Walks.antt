@@ -6,6 +6,7 @@ use native.Mathlib.Omega.{arith}
 use borrow.Author.Needs.{needs}
 use denote.Ref.{now}
 use lib.ListN.{length, getD}
+use Rattle.regions.specs.Regions.{SLOTS}
 use Rattle.scopes.specs.declared.Rel.the-variants.{Local, Deeper, Outside}
 use Rattle.scopes.specs.Relation.{relIn}
 use Rattle.graph.proofs.Laws.{scoped}
@@ -221,7 +222,7 @@ local-lower : (t : ℕ) (x : local-lts.In-loop (measures.local-calls t) (measure
     measures.local-Inv-loop measures.local-μ-loop) →
     let l = x .before in
     let a = l .before .before .before .before .before .before .before .before .args in
-    getD (now (a .work)) (2560 + l .before .before .before .load .result .kids + l .loop .k) 0 < a .s
+    getD (now (a .work)) (SLOTS .first + l .before .before .before .load .result .kids + l .loop .k) 0 < a .s
 local-lower t x =
     let l = x .before in
     let p = l .before .before .before .before .before .before .before .before .pre .1 in
@@ -251,7 +252,7 @@ local-child : (t : ℕ) (j : local-lts.Joined1 (measures.local-calls t) (measure
     let a = l .before .before .before .before .before .before .before .before .args in
     (length (j .if1 .seen) ≡ length (l .loop .seen)) × (length (j .if1 .list) ≡ length (l .loop .list))
     × Walked (now (a .forest)) (now (a .work)) (a .g .symbols) (a .g .scopes) (λ g. stepOf g (a .o .body) (a .o .scope)
-    (getD (now (a .work)) (2560 + l .before .before .before .load .result .kids + l .loop .k) 0)) (l .loop .list)
+    (getD (now (a .work)) (SLOTS .first + l .before .before .before .load .result .kids + l .loop .k) 0)) (l .loop .list)
     (l .loop .at) (j .if1 .seen) (j .if1 .list) (j .if1 .at)
 local-child t j =
     let l = j .before .before .before .before in
