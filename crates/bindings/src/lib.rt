@@ -1,6 +1,7 @@
 // Ids in force with their symbols, in work words: two words to an entry, the newest entry last.
 // In order: the symbol of an id; one more entry; what a lambda and a definition bind.
 use regions::BINDINGS;
+use shape::VAL_DEF;
 ghost use mathlib.Core.Path.{_≡_};
 ghost use Prim.Native.Nat.{_+_, _*_, _<_, _≤_};
 ghost use lib.ListN.{length};
@@ -81,7 +82,7 @@ pub fn bind_def(forest: &[u8], work: &mut [u32], i: usize, top: usize, symbol: u
     requires { ⌜ (i < recordCount (now forest)) × (top < 1200) × (WORDS ≤ length (now work)) ⌝ }
     ensures { λ r. ⌜ DefBound (now (forest .entry)) i top symbol (now (work .entry)) (now (work .exit)) r ⌝ }
 {
-    if record::shape(forest, i) != 10 {
+    if record::shape(forest, i) != VAL_DEF {
         return top;
     }
     let lit = record::literal(forest, i);

@@ -7,6 +7,9 @@ use key::Leaf;
 use key::Node;
 use key::Operation;
 use regions::PENDING;
+use shape::CONST;
+use shape::TUPLE;
+use shape::UNPARSED;
 use tables::Tables;
 ghost use mathlib.Core.Path.{_≡_};
 ghost use mathlib.Core.Bool.{false, _||_};
@@ -46,10 +49,10 @@ fn node_for(forest: &[u8], i: usize, b: Branches) -> Node
 {
     let source = i as u32;
     let shape = record::shape(forest, i);
-    if shape == 0 {
+    if shape == CONST {
         return Node::Const(Leaf { source });
     }
-    if shape == 1 {
+    if shape == UNPARSED {
         return Node::Unparsed(Leaf { source });
     }
     Node::Op(Operation {
@@ -156,7 +159,7 @@ fn is_tuple(forest: &[u8], work: &[u32], s: usize) -> bool
     let node = y.node;
     let p = key::parts_of(node);
     let from = p.source as usize;
-    record::shape(forest, from) == 16
+    record::shape(forest, from) == TUPLE
 }
 
 // Whether the input of the SelectField of record i, pending at `held`, is read a second time. Rules out: a Tuple read

@@ -4,6 +4,12 @@
 use regions::REACHED;
 use regions::SLOTS;
 use regions::USES;
+use shape::CONST;
+use shape::GLOBAL_OP;
+use shape::HEIGHT_OP;
+use shape::INPUTS_OP;
+use shape::OUTPUTS_OP;
+use shape::SELF_BOX_OP;
 ghost use mathlib.Core.Path.{_≡_};
 ghost use Prim.Native.Nat.{ℕ, suc, _+_, _*_, _<_, _≤_};
 ghost use lib.ListN.{length};
@@ -16,16 +22,6 @@ ghost use Rattle.symbols.specs.Words.{wordsFrom};
 ghost use Rattle.symbols.specs.Symbols.{keyRec, kidsAt, symsOf, Sound};
 ghost use Rattle.gate.specs.Gate.{usesAt, cleared, noted, allNoted, visited, visitedDown, tallied};
 ghost use Rattle.gate.specs.Gate.{Lower, Countable, Small, Notable, Reached, Tallied};
-
-const HEIGHT: u8 = 0xA3;
-
-const INPUTS: u8 = 0xA4;
-
-const OUTPUTS: u8 = 0xA5;
-
-const SELF_BOX: u8 = 0xA7;
-
-const GLOBAL: u8 = 0xDD;
 
 fn clear(work: &mut [u32], n: usize)
     requires { ⌜ (n ≤ 512) × (end REACHED ≤ length (now work)) ⌝ }
@@ -138,22 +134,22 @@ pub fn count_all(work: &mut [u32], n: usize)
 fn is_context_property(opcode: u8) -> bool
     ensures { λ r. ⌜ ((y : Sym) → y .rec .opcode ≡ opcode → r ≡ isContextProperty y) ⌝ }
 {
-    if opcode == HEIGHT {
+    if opcode == HEIGHT_OP {
         return true;
     }
-    if opcode == INPUTS {
+    if opcode == INPUTS_OP {
         return true;
     }
-    if opcode == OUTPUTS {
+    if opcode == OUTPUTS_OP {
         return true;
     }
-    opcode == SELF_BOX
+    opcode == SELF_BOX_OP
 }
 
 fn is_internal(opcode: u8) -> bool
     ensures { λ r. ⌜ ((y : Sym) → y .rec .opcode ≡ opcode → r ≡ isInternal y) ⌝ }
 {
-    opcode == GLOBAL
+    opcode == GLOBAL_OP
 }
 
 // A projection's record has no aux.
@@ -162,7 +158,7 @@ fn is_const(forest: &[u8], i: usize, field: u32) -> bool
     requires { ⌜ i < recordCount (now forest) ⌝ }
     ensures { λ r. ⌜ ((y : Sym) → y .rec ≡ keyRec (now (forest .entry)) i field → r ≡ isConst y) ⌝ }
 {
-    if record::shape(forest, i) != 0 {
+    if record::shape(forest, i) != CONST {
         return false;
     }
     if field != 0 {

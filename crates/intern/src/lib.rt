@@ -8,6 +8,11 @@ use concluding::Branches;
 use interner::State;
 use interner::Step;
 use regions::PENDING;
+use shape::BLOCK_VALUE;
+use shape::FUNC_VALUE;
+use shape::SELECT_FIELD;
+use shape::VAL_DEF;
+use shape::VAL_USE;
 use tables::Tables;
 ghost use mathlib.Core.Path.{_≡_};
 ghost use Prim.Native.Nat.{_<_, _≤_};
@@ -15,6 +20,7 @@ ghost use lib.ListN.{length};
 ghost use Rattle.model.specs.Answer.{good};
 ghost use Rattle.model.specs.Forest.{recordCount, treesOf};
 ghost use Rattle.model.specs.Accept.{accept};
+ghost use Rattle.model.specs.Opcodes.{SelectField, SelectFieldOp};
 ghost use Rattle.walk.specs.Walk.{recAt, Sound};
 ghost use Rattle.regions.specs.Regions.{WORDS};
 ghost use Rattle.tables.specs.Tables.{Open};
@@ -129,10 +135,10 @@ fn conclude(forest: &[u8], work: &mut [u32], t: Tables, i: usize, at: Here, k: K
     let cur = at.scope;
     let count = record::kids(forest, i);
     let shape = record::shape(forest, i);
-    if shape == 10 {
+    if shape == VAL_DEF {
         return concluding::last(work, st, held, count);
     }
-    if shape == 11 {
+    if shape == BLOCK_VALUE {
         return concluding::last(work, st, held, count);
     }
     concluding::general(forest, work, t, st, i, cur, held, count, b)
@@ -167,16 +173,16 @@ fn subtree(forest: &[u8], work: &mut [u32], t: Tables, i: usize, at: Here, st: S
     }
     let counted = opening::count_reading(st);
     let shape = record::shape(forest, i);
-    if shape == 7 {
+    if shape == VAL_USE {
         let top = at.top;
         let step = concluding::value_use(forest, work, counted, i, top);
         return Read { step, next: i + 1 };
     }
-    if shape == 12 {
+    if shape == FUNC_VALUE {
         return lambda(forest, work, t, i, at, counted);
     }
     let count = record::kids(forest, i);
-    let selected = if shape == 17 {
+    let selected = if shape == SELECT_FIELD {
         field(forest, work, t, i, at, counted)
     } else if count == 0 {
         Selected::Children(small::unread(counted, i + 1))
@@ -229,7 +235,7 @@ fn lambda(forest: &[u8], work: &mut [u32], t: Tables, i: usize, at: Here, st: St
 fn field(forest: &[u8], work: &mut [u32], t: Tables, i: usize, at: Here, st: State) -> Selected
     requires { ⌜ Sound (now forest) ⌝ }
     requires { ⌜ i < recordCount (now forest) ⌝ }
-    requires { ⌜ (recAt (now forest) i .shape ≡ 17) × (recAt (now forest) i .opcode ≡ 0x8C) ⌝ }
+    requires { ⌜ (recAt (now forest) i .shape ≡ SelectField) × (recAt (now forest) i .opcode ≡ SelectFieldOp) ⌝ }
     requires { ⌜ StandsAt (now forest) (now work) t st i at ⌝ }
     requires { ⌜ WellKids (now forest) (now work) t st i at ⌝ }
     ensures { λ r. ⌜ SelectedRead (now (forest .entry)) (now (work .entry)) t st i at (now (work .exit)) r ⌝ }

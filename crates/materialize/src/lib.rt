@@ -328,7 +328,7 @@ fn definition(
 
 // ---- the root
 
-// Plans the written tree of a root's symbol, from word 7,176 on. The uses are counted (gate).
+// Plans the written tree of a root's symbol, in region PLAN. The uses are counted (gate).
 // Rules out: a tree for a symbol that is used twice written twice; a plan of the rows past the 256th.
 pub fn materialize(forest: &[u8], work: &mut [u32], g: Graph, root: usize) -> Plan
     requires { ⌜ Laid (now forest) ⌝ }

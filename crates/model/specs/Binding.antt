@@ -10,6 +10,7 @@ use lib.ListN.{length, drop, take}
 use Rattle.model.specs.Lists.{isIn, anyIn, twice, first}
 use Rattle.model.specs.Bytes.{u32}
 use Rattle.model.specs.Tree.{Rec, Tree, Trees, node, nil, cons, isNil, top}
+use Rattle.model.specs.Opcodes.{ValUse, ValDef, BlockValue, FuncValue, SelectField}
 use Rattle.model.specs.Shape.{aOpt}
 
 -- ---- the kinds of record that the pass and the unfolding tell apart
@@ -20,15 +21,15 @@ pub data Kind : Type 0 where
 -- the kind of a shape
 unfoldable pub kind : ℕ → Kind
 kind s =
-    elim (eqb s 7) [
+    elim (eqb s ValUse) [
       | true ↦ valUse
-      | false ↦ elim (eqb s 10) [
+      | false ↦ elim (eqb s ValDef) [
         | true ↦ valDef
-        | false ↦ elim (eqb s 11) [
+        | false ↦ elim (eqb s BlockValue) [
           | true ↦ block
-          | false ↦ elim (eqb s 12) [
+          | false ↦ elim (eqb s FuncValue) [
             | true ↦ lambda
-            | false ↦ elim (eqb s 17) [
+            | false ↦ elim (eqb s SelectField) [
               | true ↦ field
               | false ↦ other
             ]
@@ -38,10 +39,10 @@ kind s =
     ]
 
 abbrev pub isDef : Tree → Bool
-isDef t = eqb (top t .shape) 10
+isDef t = eqb (top t .shape) ValDef
 
 abbrev pub isBlock : Rec → Bool
-isBlock r = eqb (r .shape) 11
+isBlock r = eqb (r .shape) BlockValue
 
 -- ---- ids, opts and arguments
 
@@ -77,7 +78,7 @@ after t = elim (isDef t) [ true ↦ idOf (top t) ∷ [] | false ↦ [] ]
 -- for each record; `d` says that a definition has to stand here
 unfoldable mutual
   pub misplaced : Tree → Bool → List Bool
-  misplaced (node r ts) d = not (Bool·beq (eqb (r .shape) 10) d) ∷ misplacedIn ts (isBlock r)
+  misplaced (node r ts) d = not (Bool·beq (eqb (r .shape) ValDef) d) ∷ misplacedIn ts (isBlock r)
 
   -- `b` says that these are a block's children, of which all but the last are definitions
   pub misplacedIn : Trees → Bool → List Bool
@@ -107,7 +108,7 @@ check9 ts = first (reboundIn ts [])
 
 unfoldable mutual
   pub unbound : Tree → List ℕ → List Bool
-  unbound (node r ts) ids = (eqb (r .shape) 7 && not (isIn (idOf r) ids)) ∷ unboundIn ts (inside r ++ ids)
+  unbound (node r ts) ids = (eqb (r .shape) ValUse && not (isIn (idOf r) ids)) ∷ unboundIn ts (inside r ++ ids)
 
   pub unboundIn : Trees → List ℕ → List Bool
   unboundIn nil ids = []

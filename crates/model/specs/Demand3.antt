@@ -10,6 +10,7 @@ use Prim.Native.Nat.{ℕ, _≤_}
 use lib.ListN.{length, drop}
 use Rattle.model.specs.Tree.{Tree, Trees, node, nil, cons, root}
 use Rattle.model.specs.Forest.{treesOf}
+use Rattle.model.specs.Opcodes.{ValUse}
 use Rattle.model.specs.Binding.{idOf}
 use Rattle.model.specs.Unfold.{unfolded}
 use Rattle.model.specs.Intern.{State}
@@ -21,7 +22,7 @@ use Rattle.model.specs.Conditions.{number, place, Accepted, NoneApplies,
 -- no record of a tree is a use of id i
 abbrev mutual
   pub NoUse : ℕ → Tree → Type 0
-  NoUse i (node r ts) = (r .shape ≡ 7 → idOf r ≡ i → ⊥) × NoUses i ts
+  NoUse i (node r ts) = (r .shape ≡ ValUse → idOf r ≡ i → ⊥) × NoUses i ts
 
   pub NoUses : ℕ → Trees → Type 0
   NoUses i nil = Unit {0}

@@ -6,6 +6,7 @@ use mathlib.Core.Bool.{Bool, true, false, not, _&&_}
 use mathlib.Core.List.{List, [], _∷_, _++_}
 use lib.Dec.{eqb, ltb}
 use Rattle.model.specs.Lists.{isIn, union, count}
+use Rattle.model.specs.Opcodes.{Const, HeightOp, InputsOp, OutputsOp, SelfBoxOp, GlobalOp}
 use Rattle.model.specs.Intern.{Sym, Scope, symAt}
 
 -- what is materialized: symbols, scopes, and the child slots of the symbols reached from the root
@@ -44,17 +45,15 @@ usage g s = count s (g .slots)
 
 -- ---- the gate
 
--- HEIGHT, INPUTS, OUTPUTS, SELF_BOX
 unfoldable pub isContextProperty : Sym → Bool
-isContextProperty s = isIn (s .rec .opcode) (0xA3 ∷ 0xA4 ∷ 0xA5 ∷ 0xA7 ∷ [])
+isContextProperty s = isIn (s .rec .opcode) (HeightOp ∷ InputsOp ∷ OutputsOp ∷ SelfBoxOp ∷ [])
 
--- GLOBAL
 unfoldable pub isInternal : Sym → Bool
-isInternal s = eqb (s .rec .opcode) 0xDD
+isInternal s = eqb (s .rec .opcode) GlobalOp
 
 -- a constant of a primitive class, SBoolean to SString
 unfoldable pub isConst : Sym → Bool
-isConst s = eqb (s .rec .shape) 0 && ltb (s .rec .aux) 6
+isConst s = eqb (s .rec .shape) Const && ltb (s .rec .aux) 6
 
 unfoldable pub shouldHoist : Sym → ℕ → Bool
 shouldHoist s uses = ltb 1 uses && not (isContextProperty s) && not (isInternal s) && not (isConst s)

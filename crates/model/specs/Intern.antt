@@ -11,6 +11,7 @@ use lib.ListN.{length, getD}
 use Rattle.model.specs.Lists.{anyIn, union, without, same, last}
 use Rattle.model.specs.Answer.{Answer, good, _>>=_, guard}
 use Rattle.model.specs.Tree.{Rec, rec, sameRec, Tree, Trees, node, nil, cons, top, size}
+use Rattle.model.specs.Opcodes.{Const, Unparsed, Tuple, IfOp, AndOp, OrOp}
 use Rattle.model.specs.Binding.{Kind, kind, valUse, valDef, block, lambda, field, other, isDef, idOf, argsOf}
 
 -- ---- symbols, scopes and the state
@@ -192,7 +193,7 @@ closeThunk st = record {
 
 -- "Operands 1 and 2 of IF and operand 1 of ED, EC (from 0) open a thunk"
 unfoldable pub thunked : ℕ → ℕ → Bool
-thunked op j = (eqb op 0x95 && (eqb j 1 || eqb j 2)) || ((eqb op 0xED || eqb op 0xEC) && eqb j 1)
+thunked op j = (eqb op IfOp && (eqb j 1 || eqb j 2)) || ((eqb op AndOp || eqb op OrOp) && eqb j 1)
 
 -- a child in its own thunk, or in the scope of its parent
 unfoldable pub internScoped : Bool → ℕ → (ℕ → State → Out) → State → Out
@@ -249,9 +250,9 @@ internLast m = do
 
 unfoldable pub nodeOf : Rec → List ℕ → Node
 nodeOf r brs =
-    elim (eqb (r .shape) 0) [
+    elim (eqb (r .shape) Const) [
       | true ↦ constant
-      | false ↦ elim (eqb (r .shape) 1) [ true ↦ unparsed | false ↦ operation brs ]
+      | false ↦ elim (eqb (r .shape) Unparsed) [ true ↦ unparsed | false ↦ operation brs ]
     ]
 
 -- the key of the record and its children's symbols
@@ -266,7 +267,7 @@ internField at cur r env kids ks st =
     let i = getD (r .lit) 0 0 in
     elim (eqb i 1 || eqb i 2) [
       | false ↦ finish at cur r ks [] (operation []) st
-      | true ↦ elim (eqb (symAt (st .syms) (last ks) .rec .shape) 16) [
+      | true ↦ elim (eqb (symAt (st .syms) (last ks) .rec .shape) Tuple) [
         | false ↦ pairProjection at cur r i (last ks) st
         | true ↦ internGeneral at cur r (kids cur env st)
       ]

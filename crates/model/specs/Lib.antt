@@ -4,6 +4,7 @@ pub mod Bytes
 pub mod Answer
 pub mod Down
 pub mod Tree
+pub mod Opcodes
 pub mod Shape
 pub mod Forest
 pub mod Binding

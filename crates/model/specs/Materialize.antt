@@ -9,6 +9,8 @@ use lib.ListN.{length, getD}
 use Rattle.model.specs.Bytes.{put32}
 use Rattle.model.specs.Down.{down}
 use Rattle.model.specs.Tree.{rec, Tree, Trees, node, nil, cons, top, below, snoc}
+use Rattle.model.specs.Opcodes.{ValUse, ValDef, BlockValue, FuncValue}
+use Rattle.model.specs.Opcodes.{ValUseOp, ValDefOp, BlockValueOp, FuncValueOp}
 use Rattle.model.specs.Binding.{idOf}
 use Rattle.model.specs.Intern.{Node, constant, unparsed, argument, func, operation, Sym, Scope, thunked, Env}
 use Rattle.model.specs.Gate.{Graph, symOf, reachable, usage, shouldHoist}
@@ -17,16 +19,16 @@ use Rattle.model.specs.Schedule.{isArg, schedule}
 -- ---- the records that are made
 
 unfoldable pub valUseOf : ℕ → Tree
-valUseOf i = node (rec 7 0x72 0 (put32 i)) nil
+valUseOf i = node (rec ValUse ValUseOp 0 (put32 i)) nil
 
 -- "its definitions have no type"
 unfoldable pub valDefOf : ℕ → Tree → Tree
-valDefOf i v = node (rec 10 0xD6 0 (put32 i ++ (0 ∷ []))) (cons v nil)
+valDefOf i v = node (rec ValDef ValDefOp 0 (put32 i ++ (0 ∷ []))) (cons v nil)
 
 -- the result is a use of definition d, whose value is a use
 unfoldable pub renames : Tree → Trees → Tree → Bool
 renames d nil r = false
-renames d (cons v vs) r = eqb (top v .shape) 7 && eqb (top r .shape) 7 && eqb (idOf (top r)) (idOf (top d))
+renames d (cons v vs) r = eqb (top v .shape) ValUse && eqb (top r .shape) ValUse && eqb (idOf (top r)) (idOf (top d))
 
 abbrev pub onlyOf : Trees → Tree → Tree
 onlyOf nil r = r
@@ -36,8 +38,11 @@ onlyOf (cons t ts) r = t
 unfoldable pub wrapBlock : Trees → Tree → Tree
 wrapBlock nil r = r
 wrapBlock (cons d nil) r =
-    elim (renames d (below d) r) [ true ↦ onlyOf (below d) r | false ↦ node (rec 11 0xD8 0 []) (cons d (cons r nil)) ]
-wrapBlock (cons d (cons e ds)) r = node (rec 11 0xD8 0 []) (cons d (cons e (snoc ds r)))
+    elim (renames d (below d) r) [
+      | true ↦ onlyOf (below d) r
+      | false ↦ node (rec BlockValue BlockValueOp 0 []) (cons d (cons r nil))
+    ]
+wrapBlock (cons d (cons e ds)) r = node (rec BlockValue BlockValueOp 0 []) (cons d (cons e (snoc ds r)))
 
 -- ---- scopes. `env` gives symbols their ids, `last` is the last id given
 
@@ -96,7 +101,7 @@ buildNode g build y constant sc env last = node (y .rec) nil
 buildNode g build y unparsed sc env last = node (y .rec) nil
 buildNode g build y argument sc env last = valUseOf 0
 buildNode g build y (func xs body) sc env last =
-    node (rec 12 0xD9 (length xs) (argLit last xs))
+    node (rec FuncValue FuncValueOp (length xs) (argLit last xs))
     (cons (processScope g build (getD (y .kids) 0 0) body (argEnv last xs env) (suc (last + length xs))) nil)
 buildNode g build y (operation brs) sc env last =
     node (y .rec) (buildOp g build sc env last (y .rec .opcode) 0 (y .kids) brs)

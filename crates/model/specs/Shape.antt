@@ -10,6 +10,9 @@ use lib.Dec.{eqb, leb, ltb}
 use lib.ListN.{length, getD, drop}
 use Rattle.model.specs.Lists.{isIn}
 use Rattle.model.specs.Tree.{Rec, Row}
+use Rattle.model.specs.Opcodes.{Zero, Two, Three, ValUse, ValDef, BlockValue, FuncValue, Tuple, SelectField}
+use Rattle.model.specs.Opcodes.{ValUseOp, ValDefOp, BlockValueOp, FuncValueOp, TupleOp, SelectFieldOp, IfOp, AndOp, OrOp}
+use Rattle.model.specs.Opcodes.{HeightOp, InputsOp, OutputsOp, SelfBoxOp, GlobalOp}
 
 -- ---- literals
 
@@ -146,13 +149,17 @@ unfoldable pub shapeOf : Pairs → ℕ → Option ℕ
 shapeOf [] o = none
 shapeOf (p ∷ ps) o = elim (eqb (p .0) o) [ true ↦ some (p .1) | false ↦ shapeOf ps o ]
 
--- "Only together, both ways": ValUse, ValDef, BlockValue, FuncValue, SelectField, Tuple
+-- "Only together, both ways"
 unfoldable pub bothWays : Pairs
-bothWays = (0x72, 7) ∷ (0xD6, 10) ∷ (0xD8, 11) ∷ (0xD9, 12) ∷ (0x8C, 17) ∷ (0x86, 16) ∷ []
+bothWays =
+    (ValUseOp, ValUse) ∷ (ValDefOp, ValDef) ∷ (BlockValueOp, BlockValue) ∷ (FuncValueOp, FuncValue) ∷
+    (SelectFieldOp, SelectField) ∷ (TupleOp, Tuple) ∷ []
 
--- the opcode has the shape, which others have too: IF, ED, EC, HEIGHT, INPUTS, OUTPUTS, SELF_BOX, GLOBAL
+-- the opcode has the shape, which others have too
 unfoldable pub oneWay : Pairs
-oneWay = (0x95, 5) ∷ (0xED, 4) ∷ (0xEC, 4) ∷ (0xA3, 2) ∷ (0xA4, 2) ∷ (0xA5, 2) ∷ (0xA7, 2) ∷ (0xDD, 2) ∷ []
+oneWay =
+    (IfOp, Three) ∷ (AndOp, Two) ∷ (OrOp, Two) ∷ (HeightOp, Zero) ∷ (InputsOp, Zero) ∷ (OutputsOp, Zero) ∷
+    (SelfBoxOp, Zero) ∷ (GlobalOp, Zero) ∷ []
 
 -- check 5: opcode against shape; "00 for shapes 0 and 1 and no other"
 unfoldable pub agrees : Rec → Bool

@@ -9,6 +9,7 @@ use lib.Dec.{eqb}
 use lib.ListN.{length, getD, set}
 use Rattle.model.specs.Bytes.{put32}
 use Rattle.model.specs.Tree.{rec, Row}
+use Rattle.model.specs.Opcodes as code
 use Rattle.model.specs.Shape.{aId, aOpt, _then_, times, whole}
 use Rattle.model.specs.Forest.{recordCount}
 use Rattle.model.specs.Binding.{argsOf}
@@ -54,13 +55,13 @@ planFrom ws at (suc n) = plannedAt ws at ∷ planFrom ws (at + 3) n
 
 unfoldable pub rowFor : List ℕ → Planned → Row
 rowFor bs (Copy i) = rowAt bs i
-rowFor bs (Field f) = record { rec = rec 17 0x8C 0 (f ∷ []); kids = 1 }
-rowFor bs (ValUse id) = record { rec = rec 7 0x72 0 (put32 id); kids = 0 }
-rowFor bs (ValDef id) = record { rec = rec 10 0xD6 0 (put32 id ++ (0 ∷ [])); kids = 1 }
-rowFor bs (Block kids) = record { rec = rec 11 0xD8 0 []; kids = kids }
+rowFor bs (Field f) = record { rec = rec code.SelectField code.SelectFieldOp 0 (f ∷ []); kids = 1 }
+rowFor bs (ValUse id) = record { rec = rec code.ValUse code.ValUseOp 0 (put32 id); kids = 0 }
+rowFor bs (ValDef id) = record { rec = rec code.ValDef code.ValDefOp 0 (put32 id ++ (0 ∷ [])); kids = 1 }
+rowFor bs (Block kids) = record { rec = rec code.BlockValue code.BlockValueOp 0 []; kids = kids }
 rowFor bs (Lambda i last) =
     let xs = argsOf (rowAt bs i .rec .aux) (rowAt bs i .rec .lit) in
-    record { rec = rec 12 0xD9 (length xs) (argLit last xs); kids = 1 }
+    record { rec = rec code.FuncValue code.FuncValueOp (length xs) (argLit last xs); kids = 1 }
 
 unfoldable pub rowsFor : List ℕ → List Planned → List Row
 rowsFor bs [] = []

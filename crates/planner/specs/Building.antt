@@ -8,6 +8,7 @@ use mathlib.Core.Option.{Option, none, some}
 use mathlib.Core.List.{List, [], _∷_}
 use lib.Dec.{eqb, ltb}
 use lib.ListN.{getD, take, drop}
+use Rattle.model.specs.Opcodes.{ValUse}
 use Rattle.model.specs.Shape.{aId, aOpt, _then_, times, whole}
 use Rattle.model.specs.Intern.{Env, thunked}
 use Rattle.model.specs.Gate.{usage}
@@ -57,11 +58,11 @@ Opens bs m s (Op o) = Thunks m o
 
 -- only an argument can have been made for a use
 abbrev pub NoUse : List ℕ → Node → Type 0
-NoUse bs (Const l) = recOf bs (Const l) .shape ≡ 7 → ⊥
-NoUse bs (Unparsed l) = recOf bs (Unparsed l) .shape ≡ 7 → ⊥
+NoUse bs (Const l) = recOf bs (Const l) .shape ≡ ValUse → ⊥
+NoUse bs (Unparsed l) = recOf bs (Unparsed l) .shape ≡ ValUse → ⊥
 NoUse bs (Arg l) = Unit {0}
-NoUse bs (Lambda f) = recOf bs (Lambda f) .shape ≡ 7 → ⊥
-NoUse bs (Op o) = recOf bs (Op o) .shape ≡ 7 → ⊥
+NoUse bs (Lambda f) = recOf bs (Lambda f) .shape ≡ ValUse → ⊥
+NoUse bs (Op o) = recOf bs (Op o) .shape ≡ ValUse → ⊥
 
 pub record Buildable (bs ws : List ℕ) (n m : ℕ) : Type 0 where
   pub arena : Arena bs ws n m

@@ -7,6 +7,7 @@ use mathlib.Core.List.{List, [], _∷_, _++_}
 use native.Mathlib.Omega.{arith}
 use lib.ListN.{length}
 use Rattle.model.specs.Bytes.{put16}
+use Rattle.model.specs.Opcodes.{FuncValue, FuncValueOp}
 use Rattle.model.specs.Tree.{Row, rowBytes, rowLen, directory, bodies, forestOf}
 use Rattle.model.specs.Binding.{argsOf}
 use Rattle.model.specs.Materialize.{argLit}
@@ -35,12 +36,12 @@ module _ (bs : List ℕ) (i last : ℕ) where
 
   lambda-bytes :
       rowBytes (rowFor bs (Lambda i last)) ≡
-      fixed 12 0xD9 1 (rowAt bs i .rec .aux) ++ argLit last (argsOf (rowAt bs i .rec .aux) (rowAt bs i .rec .lit))
+      fixed FuncValue FuncValueOp 1 (rowAt bs i .rec .aux) ++ argLit last (argsOf (rowAt bs i .rec .aux) (rowAt bs i .rec .lit))
   unfolding rowFor rowBytes fixed put16
   lambda-bytes = rw args-length
 
   pub lambda-put : {out o₁ o₂ lit : List ℕ} {at aux next₁ next₂ : ℕ} → aux ≡ rowAt bs i .rec .aux
-      → lit ≡ rowAt bs i .rec .lit → Wrote out at (fixed 12 0xD9 1 aux) o₁ next₁
+      → lit ≡ rowAt bs i .rec .lit → Wrote out at (fixed FuncValue FuncValueOp 1 aux) o₁ next₁
       → Wrote o₁ next₁ (argLit last (argsOf aux lit)) o₂ next₂
       → Wrote out at (rowBytes (rowFor bs (Lambda i last))) o₂ next₂
   lambda-put e f w₁ w₂ = wrote-as (rw (e, f) (sym lambda-bytes)) (wrote-then w₁ w₂)

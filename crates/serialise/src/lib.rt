@@ -1,5 +1,7 @@
 // A planned tree as bytes. In order: a lambda's arguments; one row, and its length; the tree's length; its directory,
 // its records, and the whole, front to back.
+use shape::FUNC_VALUE;
+use shape::FUNC_VALUE_OP;
 ghost use mathlib.Core.Path.{_≡_};
 ghost use mathlib.Core.Bool.{true};
 ghost use Prim.Native.Nat.{_+_, _*_, _<_, _≤_};
@@ -49,7 +51,7 @@ fn put_lambda(forest: &[u8], out: &mut [u8], at: usize, i: u32, last: u32) -> us
 {
     let aux = record::aux(forest, i as usize);
     let lit = record::literal(forest, i as usize);
-    let next = writer::put_fixed(out, at, 12, 0xD9, 1, aux);
+    let next = writer::put_fixed(out, at, FUNC_VALUE, FUNC_VALUE_OP, 1, aux);
     put_args(out, next, lit, aux as usize, last)
 }
 

@@ -1,6 +1,6 @@
 // Checks 4 and 5 of one record: its children, aux and literal against its shape, and its opcode against its shape.
-// Then which operands are thunks, and the arguments in a lambda's literal. In order: the table of shapes; opcodes; ids,
-// arguments. The parts of a literal are in parts.rt.
+// Then which operands are thunks, and the arguments in a lambda's literal. In order: names of shapes and
+// opcodes; the table of shapes; opcodes; ids, arguments. The parts of a literal are in parts.rt.
 mod parts;
 
 use parts::Part;
@@ -27,6 +27,50 @@ ghost use Rattle.model.specs.Shape.{aArg, bothWays};
 ghost use Rattle.model.specs.Shape as model;
 ghost use Rattle.model.specs.Intern.{thunked};
 ghost use Rattle.shape.specs.Args.{ArgEnd};
+
+// ---- the shapes and opcodes that code compares with (model's Opcodes has them too)
+
+pub const CONST: u8 = 0;
+
+pub const UNPARSED: u8 = 1;
+
+pub const VAL_USE: u8 = 7;
+
+pub const VAL_DEF: u8 = 10;
+
+pub const BLOCK_VALUE: u8 = 11;
+
+pub const FUNC_VALUE: u8 = 12;
+
+pub const TUPLE: u8 = 16;
+
+pub const SELECT_FIELD: u8 = 17;
+
+pub const VAL_USE_OP: u8 = 0x72;
+
+pub const VAL_DEF_OP: u8 = 0xD6;
+
+pub const BLOCK_VALUE_OP: u8 = 0xD8;
+
+pub const FUNC_VALUE_OP: u8 = 0xD9;
+
+pub const SELECT_FIELD_OP: u8 = 0x8C;
+
+pub const IF_OP: u8 = 0x95;
+
+pub const AND_OP: u8 = 0xED;
+
+pub const OR_OP: u8 = 0xEC;
+
+pub const HEIGHT_OP: u8 = 0xA3;
+
+pub const INPUTS_OP: u8 = 0xA4;
+
+pub const OUTPUTS_OP: u8 = 0xA5;
+
+pub const SELF_BOX_OP: u8 = 0xA7;
+
+pub const GLOBAL_OP: u8 = 0xDD;
 
 // ---- the table of shapes
 
@@ -135,16 +179,16 @@ pub fn is_thunked(opcode: u8, j: usize) -> bool
     if j == 0 {
         return false;
     }
-    if opcode == 0x95 {
+    if opcode == IF_OP {
         if j == 1 {
             return true;
         }
         return j == 2;
     }
-    if opcode == 0xED {
+    if opcode == AND_OP {
         return j == 1;
     }
-    if opcode == 0xEC {
+    if opcode == OR_OP {
         return j == 1;
     }
     false

@@ -2,6 +2,10 @@
 // followed by its children's subtrees, in order: the walk of a subtree gives the record after it. The ids in force
 // stand in work words.
 // In order: ids in force; what a record binds; the tests; the walk.
+use shape::BLOCK_VALUE;
+use shape::FUNC_VALUE;
+use shape::VAL_DEF;
+use shape::VAL_USE;
 ghost use mathlib.Core.Path.{_≡_};
 ghost use mathlib.Core.Bool.{not, Bool·beq};
 ghost use mathlib.Core.List.{_++_};
@@ -98,7 +102,7 @@ fn enter(forest: &[u8], work: &mut [u32], i: usize, top: usize) -> usize
     requires { ⌜ (i < recordCount (now forest)) × (top + 15 ≤ 3840) × (3840 ≤ length (now work)) ⌝ }
     ensures { λ r. ⌜ Bound (now (work .entry)) top (inside (recAt (now (forest .entry)) i)) (now (work .exit)) r ⌝ }
 {
-    if record::shape(forest, i) != 12 {
+    if record::shape(forest, i) != FUNC_VALUE {
         return top;
     }
     let n = record::wide(record::aux(forest, i));
@@ -123,7 +127,7 @@ fn define(forest: &[u8], work: &mut [u32], i: usize, top: usize) -> usize
     requires { ⌜ (i < recordCount (now forest)) × (top < 3840) × (3840 ≤ length (now work)) ⌝ }
     ensures { λ r. ⌜ Bound (now (work .entry)) top (after (treeAt (now (forest .entry)) i)) (now (work .exit)) r ⌝ }
 {
-    if record::shape(forest, i) != 10 {
+    if record::shape(forest, i) != VAL_DEF {
         return top;
     }
     let id = id_of(forest, i);
@@ -137,7 +141,7 @@ fn define(forest: &[u8], work: &mut [u32], i: usize, top: usize) -> usize
 fn misplaced(shape: u8, def: bool) -> bool
     ensures { λ r. ⌜ r ≡ not (Bool·beq (eqb shape 10) def) ⌝ }
 {
-    if shape == 10 {
+    if shape == VAL_DEF {
         return !def;
     }
     def
@@ -150,7 +154,7 @@ fn rebound(forest: &[u8], work: &[u32], i: usize, top: usize, end: usize) -> boo
     requires { ⌜ idsOf (now work) end ≡ inside (recAt (now forest) i) ++ idsOf (now work) top ⌝ }
     ensures { λ r. ⌜ r ≡ reboundAt (recAt (now (forest .entry)) i) (idsOf (now (work .entry)) top) ⌝ }
 {
-    if record::shape(forest, i) == 10 {
+    if record::shape(forest, i) == VAL_DEF {
         return in_force(work, top, id_of(forest, i));
     }
     clashes(work, top, end)
@@ -162,7 +166,7 @@ fn unbound(forest: &[u8], work: &[u32], i: usize, top: usize) -> bool
     requires { ⌜ (i < recordCount (now forest)) × (top ≤ length (now work)) ⌝ }
     ensures { λ r. ⌜ r ≡ unboundAt (recAt (now (forest .entry)) i) (idsOf (now (work .entry)) top) ⌝ }
 {
-    if record::shape(forest, i) == 7 {
+    if record::shape(forest, i) == VAL_USE {
         return !in_force(work, top, id_of(forest, i));
     }
     false
@@ -252,7 +256,7 @@ pub fn subtree(forest: &[u8], work: &mut [u32], number: u32, i: usize, at: Conte
     }
     let inner = Context {
         depth: depth + 1,
-        def: record::shape(forest, i) == 11,
+        def: record::shape(forest, i) == BLOCK_VALUE,
         top: end,
     };
     subtrees(forest, work, number, i + 1, count, inner)

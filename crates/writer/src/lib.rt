@@ -1,4 +1,12 @@
 // Records written over an output: a record's fixed bytes, a record of the forest, and the records that a plan makes.
+use shape::BLOCK_VALUE;
+use shape::BLOCK_VALUE_OP;
+use shape::SELECT_FIELD;
+use shape::SELECT_FIELD_OP;
+use shape::VAL_DEF;
+use shape::VAL_DEF_OP;
+use shape::VAL_USE;
+use shape::VAL_USE_OP;
 ghost use mathlib.Core.Path.{_≡_};
 ghost use mathlib.Core.List.{[]};
 ghost use Prim.Native.Nat.{_+_, _<_, _≤_};
@@ -46,7 +54,7 @@ pub fn put_field(out: &mut [u8], at: usize, field: u8) -> usize
     requires { ⌜ at + 6 ≤ length (now out) ⌝ }
     ensures { λ r. ⌜ Wrote (now (out .entry)) at (rowBytes (rowFor [] (Field field))) (now (out .exit)) r ⌝ }
 {
-    let b = put_fixed(out, at, 17, 0x8C, 1, 0);
+    let b = put_fixed(out, at, SELECT_FIELD, SELECT_FIELD_OP, 1, 0);
     output::put_byte(out, b, field)
 }
 
@@ -55,7 +63,7 @@ pub fn put_val_use(out: &mut [u8], at: usize, id: u32) -> usize
     requires { ⌜ at + 9 ≤ length (now out) ⌝ }
     ensures { λ r. ⌜ Wrote (now (out .entry)) at (rowBytes (rowFor [] (ValUse id))) (now (out .exit)) r ⌝ }
 {
-    let b = put_fixed(out, at, 7, 0x72, 0, 0);
+    let b = put_fixed(out, at, VAL_USE, VAL_USE_OP, 0, 0);
     output::put_32(out, b, id)
 }
 
@@ -64,7 +72,7 @@ pub fn put_val_def(out: &mut [u8], at: usize, id: u32) -> usize
     requires { ⌜ at + 10 ≤ length (now out) ⌝ }
     ensures { λ r. ⌜ Wrote (now (out .entry)) at (rowBytes (rowFor [] (ValDef id))) (now (out .exit)) r ⌝ }
 {
-    let b = put_fixed(out, at, 10, 0xD6, 1, 0);
+    let b = put_fixed(out, at, VAL_DEF, VAL_DEF_OP, 1, 0);
     let c = output::put_32(out, b, id);
     output::put_byte(out, c, 0)
 }
@@ -75,5 +83,5 @@ pub fn put_block(out: &mut [u8], at: usize, kids: usize) -> usize
     requires { ⌜ kids < 65536 ⌝ }
     ensures { λ r. ⌜ Wrote (now (out .entry)) at (rowBytes (rowFor [] (Block kids))) (now (out .exit)) r ⌝ }
 {
-    put_fixed(out, at, 11, 0xD8, kids, 0)
+    put_fixed(out, at, BLOCK_VALUE, BLOCK_VALUE_OP, kids, 0)
 }
