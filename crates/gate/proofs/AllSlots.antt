@@ -11,7 +11,7 @@ use Rattle.model.specs.Gate.{allSlots}
 use Rattle.symbols.specs.Symbols.{kidsAt, symOf, symFrom, symsOf}
 use Rattle.gate.specs.Gate.{usesAt, cleared, tallied, Countable, CountsOnly, Tallied}
 use Rattle.laws.proofs.Frame.{frame-none, frame-then}
-use Rattle.regions.specs.Regions.{REACHED, end}
+use Rattle.regions.specs.Regions.{WORDS}
 use Rattle.laws.proofs.Falls.{Under}
 use Rattle.gate.proofs.Words.{count-append, cleared-frame}
 use Rattle.gate.proofs.Words.{cleared-zero, allNoted-frame, allNoted-uses}
@@ -39,7 +39,7 @@ module _ (kids : ℕ → List ℕ) (ws : List ℕ) where
 
   -- the uses by the symbols that words vs hold
   module _ (bs vs : List ℕ) (n : ℕ) (same : (t : ℕ) → t < n → kids t ≡ kidsAt vs t)
-      (under : (t : ℕ) → t < n → Under 512 (kids t)) (long : end REACHED ≤ length ws) (s : ℕ) (lt : s < 512) where
+      (under : (t : ℕ) → t < n → Under 512 (kids t)) (long : WORDS ≤ length ws) (s : ℕ) (lt : s < 512) where
     tallied-uses : (m : ℕ) → m ≤ n →
         usesAt (tallied kids ws m) s ≡ usesAt ws s + count s (allSlots (symsOf bs vs m))
     unfolding tallied symsOf allSlots count symOf

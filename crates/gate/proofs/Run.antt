@@ -9,7 +9,7 @@ use native.Mathlib.Omega.{arith}
 use native.Mathlib.Numerals.{add-one}
 use lib.ListN.{length, getD}
 use Rattle.model.specs.Lists.{count}
-use Rattle.regions.specs.Regions.{SLOTS, REACHED, end}
+use Rattle.regions.specs.Regions.{SLOTS, WORDS}
 use Rattle.key.specs.declared.Symbol.{Symbol}
 use Rattle.key.specs.Key.{symbolAt}
 use Rattle.key.proofs.Laws.{symbol-agree}
@@ -50,7 +50,7 @@ module _ (ws : List ℕ) (at n : ℕ) (notable : Notable ws at n) (k : ℕ) (lt 
   kid-kept = rw is (allNoted-frame ws run run-under .before (at + k) (omega (arith, notable .fit)))
 
   -- what `note` requires
-  pub kid-fits : (getD ws′ (at + k) 0 < 512) × (end REACHED ≤ length ws′) × (usesAt ws′ (getD ws′ (at + k) 0) < 4000000000)
+  pub kid-fits : (getD ws′ (at + k) 0 < 512) × (WORDS ≤ length ws′) × (usesAt ws′ (getD ws′ (at + k) 0) < 4000000000)
   kid-fits =
       let kid = getD ws (at + k) 0 in
       let long = notable .long in
@@ -80,7 +80,7 @@ module _ (ws : List ℕ) (s : ℕ) (lower : Lower ws s) where
       )
 
   -- what `note_kids` shows of the symbol that it loads
-  module _ (few : s < 512) (long : end REACHED ≤ length ws) (small : Small ws s) (y : Symbol) (is : y ≡ symbolAt ws s) where
+  module _ (few : s < 512) (long : WORDS ≤ length ws) (small : Small ws s) (y : Symbol) (is : y ≡ symbolAt ws s) where
     pub kids-fit : Notable ws (SLOTS .first + y .kids) (y .count)
     kids-fit =
         rw is

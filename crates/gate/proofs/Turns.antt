@@ -7,7 +7,7 @@ use mathlib.Core.List.{List}
 use native.Mathlib.Omega.{arith}
 use native.Mathlib.Numerals.{add-one}
 use lib.ListN.{length}
-use Rattle.regions.specs.Regions.{SLOTS, REACHED, end}
+use Rattle.regions.specs.Regions.{SLOTS, WORDS}
 use Rattle.symbols.specs.Symbols.{kidsAt}
 use Rattle.gate.specs.Gate.{usesAt, allNoted, visited, visitedDown, tallied, Lower, Countable, Small, CountsOnly}
 use Rattle.laws.proofs.Frame.{frame-none, frame-then}
@@ -35,11 +35,11 @@ module _ (ws : List ℕ) (n : ℕ) where
     under : Under 512 (kidsAt ws′ s)
     under a i = omega (arith, below, kids-under ws′ s lower a i)
 
-    enough : end REACHED ≤ length ws′
+    enough : WORDS ≤ length ws′
     enough = omega (arith, going .kept .long, st .words)
 
     -- what `note_kids` and `visit_symbol` require
-    pub turn-fits : turns ≤ 512 → ((s < 512) × (end REACHED ≤ length ws′)) × (Lower ws′ s × Small ws′ s)
+    pub turn-fits : turns ≤ 512 → ((s < 512) × (WORDS ≤ length ws′)) × (Lower ws′ s × Small ws′ s)
     turn-fits few = ((below, enough), (lower, λ t l. omega (arith, going .uses t (omega arith))))
 
     -- the children as they were stored

@@ -14,7 +14,7 @@ use Rattle.model.specs.Lists.{isIn, count, union}
 use Rattle.model.specs.Intern.{Sym, symAt}
 use Rattle.model.specs.Gate.{reach, reachable, usage}
 use Rattle.laws.proofs.Frame.{frame-none, frame-then, frame-store}
-use Rattle.regions.specs.Regions.{SLOTS, USES, REACHED, end}
+use Rattle.regions.specs.Regions.{SLOTS, USES, REACHED, WORDS}
 use Rattle.laws.proofs.Members.{isIn-true, in-isIn, union-left}
 use Rattle.symbols.specs.Symbols.{kidsAt, symsOf}
 use Rattle.symbols.proofs.Laws.{kids-at}
@@ -52,7 +52,7 @@ module _ (kids : ℕ → List ℕ) (ws : List ℕ) (s : ℕ) where
         go false = frame-none _ _ ws
 
     -- a count goes up by at most the slots
-    pub visited-bound : end REACHED ≤ length ws → (t : ℕ) → t < 512 → count t (kids s) ≤ SLOTS .size →
+    pub visited-bound : WORDS ≤ length ws → (t : ℕ) → t < 512 → count t (kids s) ≤ SLOTS .size →
         usesAt (visited kids ws s) t ≤ usesAt ws t + SLOTS .size
     unfolding visited
     visited-bound long t lt short = go (eqb (reachedAt ws s) 1)
@@ -93,7 +93,7 @@ module _ (ss : List Sym) (n : ℕ) (few : n ≤ 512) (low : (t : ℕ) → t < n 
       (usesAt ws′ s ≡ usesAt ws s + total (λ t. count s (symAt ss t .kids)) is m) ×
       (eqb (reachedAt ws′ s) 1 ≡ isIn s is)
 
-  pub down-result : (m : ℕ) → m ≤ n → (ws seen : List ℕ) → end REACHED ≤ length ws →
+  pub down-result : (m : ℕ) → m ≤ n → (ws seen : List ℕ) → WORDS ≤ length ws →
       ((t : ℕ) → t < n → eqb (reachedAt ws t) 1 ≡ isIn t seen) → s < n →
       Result m ws (reach ss m seen) (visitedDown kids ws m)
   unfolding visitedDown reach

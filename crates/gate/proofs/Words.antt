@@ -14,7 +14,7 @@ use lib.Seq.{getD-set-same, getD-set-other}
 use borrow.Author.Tests.{eq-eqb, eqb-true, eqb-false}
 use Rattle.model.specs.Lists.{isIn, count, add, union}
 use Rattle.laws.proofs.Frame.{frame-none, frame-then, frame-store}
-use Rattle.regions.specs.Regions.{USES, REACHED, end}
+use Rattle.regions.specs.Regions.{USES, REACHED, WORDS}
 use Rattle.laws.proofs.Members.{in-isIn, in-right}
 use Rattle.laws.proofs.Falls.{Under}
 use Rattle.gate.specs.Gate.{usesAt, reachedAt, cleared, noted, allNoted, CountsOnly}
@@ -78,7 +78,7 @@ module _ (ws : List ℕ) (s u m : ℕ) where
           ∙ getD-set-other ws (USES .first + s) (REACHED .first + j) u 0 (λ e. omega arith),
     )
 
-    two-same : end REACHED ≤ length ws → (usesAt two s ≡ u) × (reachedAt two s ≡ m)
+    two-same : WORDS ≤ length ws → (usesAt two s ≡ u) × (reachedAt two s ≡ m)
     two-same h = (
       getD-set-other (set ws (USES .first + s) u) (REACHED .first + s) (USES .first + s) m 0 (λ e. omega arith)
           ∙ getD-set-same ws (USES .first + s) u 0 (omega arith),
@@ -98,7 +98,7 @@ module _ (ws : List ℕ) where
       frame-then _ _ ws (cleared ws n) (cleared ws (suc n)) (cleared-frame n (omega arith))
       (two-frame (cleared ws n) n 0 0 (omega arith))
 
-  pub cleared-zero : (n s : ℕ) → n ≤ 512 → end REACHED ≤ length ws → s < n → Zero (cleared ws n) s
+  pub cleared-zero : (n s : ℕ) → n ≤ 512 → WORDS ≤ length ws → s < n → Zero (cleared ws n) s
   unfolding cleared
   cleared-zero zero s l h lt = absurd (omega arith)
   cleared-zero (suc n) s l h lt =
@@ -121,7 +121,7 @@ module _ (ws : List ℕ) (k : ℕ) where
     unfolding noted
     noted-frame = two-frame ws k (usesAt ws k + 1) 1 few
 
-    module _ (long : end REACHED ≤ length ws) (s : ℕ) (lt : s < 512) where
+    module _ (long : WORDS ≤ length ws) (s : ℕ) (lt : s < 512) where
       -- a count, before the rest of a list
       noted-uses : (ks : List ℕ) → usesAt (noted ws k) s + count s ks ≡ usesAt ws s + count s (k ∷ ks)
       unfolding noted count
@@ -166,7 +166,7 @@ allNoted-frame ws (k ∷ ks) h =
     (allNoted-frame (noted ws k) ks (λ a i. h a (inr i)))
 
 -- a count goes up by how often the symbol is in the list
-pub allNoted-uses : (ws ks : List ℕ) → Under 512 ks → end REACHED ≤ length ws → (s : ℕ) → s < 512 →
+pub allNoted-uses : (ws ks : List ℕ) → Under 512 ks → WORDS ≤ length ws → (s : ℕ) → s < 512 →
     usesAt (allNoted ws ks) s ≡ usesAt ws s + count s ks
 unfolding allNoted
 allNoted-uses ws [] h long s lt = count-nil s (usesAt ws s)
@@ -175,7 +175,7 @@ allNoted-uses ws (k ∷ ks) h long s lt =
     ∙ noted-uses ws k (h k (inl refl)) long s lt ks
 
 -- what is reached is a union
-pub allNoted-reached : (ws ks : List ℕ) → Under 512 ks → end REACHED ≤ length ws → (s : ℕ) → s < 512 → (seen : List ℕ) →
+pub allNoted-reached : (ws ks : List ℕ) → Under 512 ks → WORDS ≤ length ws → (s : ℕ) → s < 512 → (seen : List ℕ) →
     eqb (reachedAt ws s) 1 ≡ isIn s seen → eqb (reachedAt (allNoted ws ks) s) 1 ≡ isIn s (union seen ks)
 unfolding allNoted union
 allNoted-reached ws [] h long s lt seen e = e

@@ -12,7 +12,7 @@ use Rattle.model.specs.Lists.{isIn, count}
 use Rattle.model.specs.Intern.{Scope}
 use Rattle.model.specs.Gate.{reach, reachable, usage, allSlots}
 use Rattle.laws.specs.Frame.{Frame}
-use Rattle.regions.specs.Regions.{SLOTS, USES, REACHED, end}
+use Rattle.regions.specs.Regions.{SLOTS, USES, REACHED, WORDS, end}
 use Rattle.key.specs.Key.{symbolAt}
 use Rattle.symbols.specs.Symbols.{symsOf}
 
@@ -61,7 +61,7 @@ pub record Lower (ws : List ℕ) (i : ℕ) : Type 0 where
 -- n symbols whose uses can be counted
 pub record Countable (ws : List ℕ) (n : ℕ) : Type 0 where
   pub few : n ≤ 512
-  pub words : end REACHED ≤ length ws
+  pub words : WORDS ≤ length ws
   pub kids : (i : ℕ) → i < n → Lower ws i
 
 -- the counts of the symbols below n are far from a word's largest number
@@ -71,7 +71,7 @@ Small ws n = (s : ℕ) → s < n → usesAt ws s < 2000000000
 -- n words from `at` on are symbols that may be noted
 pub record Notable (ws : List ℕ) (at n : ℕ) : Type 0 where
   pub fit : at + n ≤ USES .first
-  pub long : end REACHED ≤ length ws
+  pub long : WORDS ≤ length ws
   pub short : n ≤ SLOTS .size
   pub low : (k : ℕ) → k < n → getD ws (at + k) 0 < 512
   pub small : (k : ℕ) → k < n → usesAt ws (getD ws (at + k) 0) < 2000000000

@@ -16,7 +16,7 @@ ghost use lib.ListN.{length};
 ghost use Rattle.model.specs.Forest.{recordCount};
 ghost use Rattle.model.specs.Intern.{Sym, symAt};
 ghost use Rattle.model.specs.Gate.{isContextProperty, isInternal, isConst, shouldHoist};
-ghost use Rattle.regions.specs.Regions.{SLOTS, REACHED, end};
+ghost use Rattle.regions.specs.Regions.{SLOTS, WORDS};
 ghost use Rattle.record.specs.Record.{Laid};
 ghost use Rattle.symbols.specs.Words.{wordsFrom};
 ghost use Rattle.symbols.specs.Symbols.{keyRec, kidsAt, symsOf, Sound};
@@ -24,7 +24,7 @@ ghost use Rattle.gate.specs.Gate.{usesAt, cleared, noted, allNoted, visi
 ghost use Rattle.gate.specs.Gate.{Lower, Countable, Small, Notable, Reached, Tallied};
 
 fn clear(work: &mut [u32], n: usize)
-    requires { ⌜ (n ≤ 512) × (end REACHED ≤ length (now work)) ⌝ }
+    requires { ⌜ (n ≤ 512) × (WORDS ≤ length (now work)) ⌝ }
     ensures { λ _. ⌜ now (work .exit) ≡ cleared (now (work .entry)) n ⌝ }
 {
     let mut s = 0;
@@ -37,7 +37,7 @@ fn clear(work: &mut [u32], n: usize)
 
 // One use more of symbol s.
 fn note(work: &mut [u32], s: usize)
-    requires { ⌜ (s < 512) × (end REACHED ≤ length (now work)) × (usesAt (now work) s < 4000000000) ⌝ }
+    requires { ⌜ (s < 512) × (WORDS ≤ length (now work)) × (usesAt (now work) s < 4000000000) ⌝ }
     ensures { λ _. ⌜ now (work .exit) ≡ noted (now (work .entry)) s ⌝ }
 {
     work[USES + s] += 1;
@@ -59,7 +59,7 @@ fn note_all(work: &mut [u32], at: usize, count: usize)
 
 // The children of symbol s.
 fn note_kids(work: &mut [u32], s: usize)
-    requires { ⌜ (s < 512) × (end REACHED ≤ length (now work)) ⌝ }
+    requires { ⌜ (s < 512) × (WORDS ≤ length (now work)) ⌝ }
     requires { ⌜ Lower (now work) s ⌝ }
     requires { ⌜ Small (now work) s ⌝ }
     ensures { λ _. ⌜ now (work .exit) ≡ allNoted (now (work .entry)) (kidsAt (now (work .entry)) s) ⌝ }
@@ -72,7 +72,7 @@ fn note_kids(work: &mut [u32], s: usize)
 
 // The children of symbol s, if it is reached.
 fn visit_symbol(work: &mut [u32], s: usize)
-    requires { ⌜ (s < 512) × (end REACHED ≤ length (now work)) ⌝ }
+    requires { ⌜ (s < 512) × (WORDS ≤ length (now work)) ⌝ }
     requires { ⌜ Lower (now work) s ⌝ }
     requires { ⌜ Small (now work) s ⌝ }
     ensures { λ _. ⌜ now (work .exit) ≡ visited (kidsAt (now (work .entry))) (now (work .entry)) s ⌝ }

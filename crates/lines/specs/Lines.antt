@@ -9,7 +9,7 @@ use Rattle.model.specs.Text.{text}
 use Rattle.model.specs.Intern.{Node}
 use Rattle.model.specs.Lister.{decimal, hexByte, tagOf, opcodeShown}
 use Rattle.model.specs.Gate.{allSlots}
-use Rattle.regions.specs.Regions.{SLOTS, REACHED, end}
+use Rattle.regions.specs.Regions.{SLOTS, WORDS}
 use Rattle.record.specs.Record.{Laid}
 use Rattle.symbols.specs.Symbols.{symsOf, AllSound}
 use Rattle.gate.specs.Gate.{usesAt}
@@ -24,5 +24,5 @@ pub record Listable (bs ws : List ℕ) (n : ℕ) : Type 0 where
   pub laid : Laid bs
   pub sound : AllSound bs ws (SLOTS .size) n
   pub few : n ≤ 512
-  pub words : end REACHED ≤ length ws
+  pub words : WORDS ≤ length ws
   pub uses : (s : ℕ) → s < n → usesAt ws s ≡ count s (allSlots (symsOf bs ws n))

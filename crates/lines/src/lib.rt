@@ -10,7 +10,7 @@ ghost use Rattle.model.specs.Forest.{recordCount};
 ghost use Rattle.model.specs.Intern.{symAt};
 ghost use Rattle.model.specs.Lister.{decimal, tagOf, opcodeShown, yesNo, line, linesFrom, symbolLines};
 ghost use Rattle.model.specs.Gate.{allSlots};
-ghost use Rattle.regions.specs.Regions.{SYMBOLS, SLOTS, end};
+ghost use Rattle.regions.specs.Regions.{SLOTS, WORDS};
 ghost use Rattle.record.specs.Record.{Laid};
 ghost use Rattle.key.specs.Key.{partsOf};
 ghost use Rattle.symbols.specs.Symbols.{recOf, nodeOf, symsOf, Sound};
@@ -85,7 +85,7 @@ fn put_columns(forest: &[u8], out: &mut [u8], at: usize, s: usize, node: Node) -
 fn put_line(forest: &[u8], work: &[u32], out: &mut [u8], at: usize, s: usize, uses: u32) -> usize
     requires { ⌜ Laid (now forest) ⌝ }
     requires { ⌜ Sound (now forest) (now work) (SLOTS .size) s ⌝ }
-    requires { ⌜ (s < 512) × (end SYMBOLS ≤ length (now work)) × (uses < 1000000000) ⌝ }
+    requires { ⌜ (s < 512) × (WORDS ≤ length (now work)) × (uses < 1000000000) ⌝ }
     requires { ⌜ at + 40 ≤ length (now out) ⌝ }
     ensures { λ r. ⌜ ((n : ℕ) → s < n → Wrote (now (out .entry)) at
         (line s uses (symAt (symsOf (now (forest .entry)) (now (work .entry)) n) s)) (now (out .exit)) r) ⌝ }

@@ -8,7 +8,7 @@ use native.Mathlib.Omega.{arith}
 use lib.ListN.{length, length-append}
 use Rattle.model.specs.Tree.{Row}
 use Rattle.laws.proofs.Frame.{frame-none, frame-then, frame-wider}
-use Rattle.regions.specs.Regions.{PLAN, end}
+use Rattle.regions.specs.Regions.{PLAN, WORDS}
 use Rattle.plan.specs.Plan.{storePlanned, planFrom, rowFor, rowsFor, Writable, plannedRows}
 use Rattle.plan.specs.declared.Planned.{Planned}
 use Rattle.plan.proofs.Laws.{stored-frame, plan-more, rows-append, writable-append}
@@ -30,7 +30,7 @@ module _ (bs ws : List ℕ) (p : Plan) where
   -- ---- one row more
 
   module _ (row : Planned) (d : ℕ) where
-    pub grew-row : end PLAN ≤ length ws → Writable bs row → p .rows < 256 → (ws′ : List ℕ) (r : Plan)
+    pub grew-row : WORDS ≤ length ws → Writable bs row → p .rows < 256 → (ws′ : List ℕ) (r : Plan)
         → ws′ ≡ storePlanned ws (PLAN .first + 3 * p .rows) row → r .rows ≡ p .rows + 1 → r .deepest ≡ max (p .deepest) d
         → Grew bs ws p (rowFor bs row ∷ []) d ws′ r
     unfolding rowsFor

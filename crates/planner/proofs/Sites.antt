@@ -5,7 +5,7 @@ use mathlib.Core.Path.{_≡_, _∙_}
 use mathlib.Core.List.{List}
 use native.Mathlib.Omega.{arith}
 use lib.ListN.{length}
-use Rattle.regions.specs.Regions.{PLAN, end}
+use Rattle.regions.specs.Regions.{WORDS}
 use Rattle.planner.specs.declared.Plan.{Plan}
 use Rattle.planner.specs.Building.{Buildable}
 use Rattle.planner.specs.Planning.{Site}
@@ -13,7 +13,7 @@ use Rattle.planner.specs.Planning.{Site}
 module _ {n s slack : ℕ} {ids : List ℕ} {last above : ℕ} {p : Plan} (at : Site n s slack ids last above p) where
   module _ {bs ws : List ℕ} {m : ℕ} (b : Buildable bs ws n m) where
     -- what `put` asks, what `load` asks, and an id that is read
-    pub put-fits : (end PLAN ≤ length ws) × (p .rows ≤ 257) × (above < 4294967296)
+    pub put-fits : (WORDS ≤ length ws) × (p .rows ≤ 257) × (above < 4294967296)
     put-fits = (omega (arith, b .arena .words), at .count, omega (arith, at .room))
 
     pub load-fits : 5 * s + 5 ≤ length ws

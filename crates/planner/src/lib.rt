@@ -9,7 +9,7 @@ ghost use Prim.Native.Nat.{ℕ, _+_, _<_, _≤_, max};
 ghost use lib.ListN.{length, getD, take, replicate};
 ghost use lib.Seq.{sets};
 ghost use Rattle.laws.specs.Range.{range};
-ghost use Rattle.regions.specs.Regions.{PLAN, end};
+ghost use Rattle.regions.specs.Regions.{WORDS};
 ghost use Rattle.record.specs.Record.{Laid};
 ghost use Rattle.plan.specs.Plan.{rowFor, Writable};
 ghost use Rattle.planner.specs.Grew.{Grew};
@@ -49,7 +49,7 @@ fn deeper(a: usize, b: usize) -> usize
 // One row more, `above` levels below the root. Past 256 rows none is stored.
 // Rules out: a row over the one before it; a row at the depth of its parent.
 pub fn put(work: &mut [u32], p: Plan, above: usize, row: Planned) -> Plan
-    requires { ⌜ (end PLAN ≤ length (now work)) × (p .rows ≤ 257) × (above < 4294967296) ⌝ }
+    requires { ⌜ (WORDS ≤ length (now work)) × (p .rows ≤ 257) × (above < 4294967296) ⌝ }
     ensures { λ r. ⌜ ((bs : List ℕ) → Writable bs row
         → Grew bs (now (work .entry)) p (rowFor bs row ∷ []) (above + 1) (now (work .exit)) r) ⌝ }
 {

@@ -6,7 +6,7 @@ use denote.Ref.{now}
 use lib.ListN.{length}
 use Rattle.model.specs.Lister.{linesFrom}
 use Rattle.model.specs.Gate.{allSlots}
-use Rattle.regions.specs.Regions.{REACHED, end}
+use Rattle.regions.specs.Regions.{WORDS}
 use Rattle.symbols.specs.Symbols.{symsOf}
 use Rattle.output.specs.Output.{Wrote}
 use Rattle.lines.proofs.Lines.{uses-few, lines-start, lines-turn, lines-end, lines-all}
@@ -41,7 +41,7 @@ put-line-requires c κs =
     let lt = c .before .before .loop-test .taken in
     let far = lines-end _ _ _ _ (i .inv .2) in
     let few : s .args .n ≤ 512 = h .few in
-    let all : end REACHED ≤ length (now (s .args .work)) = h .words in
+    let all : WORDS ≤ length (now (s .args .work)) = h .words in
     (h .laid, (h .sound _ lt, ((omega arith, omega arith, uses-few _ _ _ _ h lt), omega (arith, s .pre .1, i .inv .1))))
 
 loop-again : tie.Need-loop-again Inv-loop μ-loop
