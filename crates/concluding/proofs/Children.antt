@@ -6,6 +6,7 @@ use mathlib.Core.Path.{_≡_, ap, _∙_, subst, sym}
 use mathlib.Core.List.{List}
 use native.Mathlib.Omega.{arith}
 use lib.ListN.{getD, drop}
+use Rattle.regions.specs.Regions.{PENDING}
 use Rattle.model.specs.Bytes.{u32}
 use Rattle.model.specs.Lists.{last}
 use Rattle.model.specs.Tree.{Rec}
@@ -27,17 +28,17 @@ last-word ws at zero = let e : at + 0 ≡ at = omega arith in rw e
 last-word ws at (suc n) = let e : at + suc n ≡ suc at + n = omega arith in rw e (last-word ws (suc at) n)
 
 pub last-pending : (ws : List ℕ) (held count : ℕ) → 0 < count →
-    last (pendingFrom ws held count) ≡ getD ws (8200 + held + count - 1) 0
+    last (pendingFrom ws held count) ≡ getD ws (PENDING .first + held + count - 1) 0
 last-pending ws held zero lt = absurd (omega arith)
 last-pending ws held (suc n) lt =
-    let e : 8200 + held + n ≡ 8200 + held + suc n - 1 = omega arith in last-word ws (8200 + held) n ∙ rw e
+    let e : PENDING .first + held + n ≡ PENDING .first + held + suc n - 1 = omega arith in last-word ws (PENDING .first + held) n ∙ rw e
 
 -- ---- that it is a symbol
 
 pub last-low : (ws : List ℕ) (held count n : ℕ) → 0 < count →
-    ((k : ℕ) → k < count → getD ws (8200 + held + k) 0 < n) → last (pendingFrom ws held count) < n
+    ((k : ℕ) → k < count → getD ws (PENDING .first + held + k) 0 < n) → last (pendingFrom ws held count) < n
 last-low ws held zero n lt h = absurd (omega arith)
-last-low ws held (suc m) n lt h = rw (last-word ws (8200 + held) m) (h m (omega arith))
+last-low ws held (suc m) n lt h = rw (last-word ws (PENDING .first + held) m) (h m (omega arith))
 
 -- ---- an id
 

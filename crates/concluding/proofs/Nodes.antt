@@ -164,7 +164,7 @@ module _ (bs ws : List ℕ) (t : Tables) (st : State) (i cur held first body : �
       first < 4096 → BodyOf ws (st .scopes) cur body ownArgs → Ready bs ws st cur lambdaNode held 1
   lambda-ready rep h shape low b = record {
     fresh = fresh-from bs ws st i cur body held 1 h lambdaNode refl refl (omega arith) low
-        (omega (arith, b .low, rep .few-scopes)) (shape, refl);
+        (omega (arith, b .low, rep .arena .scoped .few-scopes)) (shape, refl);
     keyed = b;
     forced = h .forced;
   }

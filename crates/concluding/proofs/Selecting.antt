@@ -9,6 +9,7 @@ use native.Mathlib.Omega.{arith}
 use borrow.Author.Tests.{eq-eqb, ne-eqb}
 use lib.Dec.{eqb}
 use lib.ListN.{length, getD}
+use Rattle.regions.specs.Regions.{PENDING}
 use Rattle.model.specs.Lists.{last, union}
 use Rattle.model.specs.Forest.{recordCount}
 use Rattle.model.specs.Tree.{Rec}
@@ -41,10 +42,10 @@ field-literal bs i sound l e = fits-field (rowAt bs i) (row-fits bs i (sound .fi
 
 module _ (bs ws : List ℕ) (st : State) (i cur held : ℕ) (rep : Rep bs ws st) (h : Selects bs ws st i cur held) where
   abbrev pend : ℕ
-  pend = getD ws (8200 + held) 0
+  pend = getD ws (PENDING .first + held) 0
 
   pend-low : pend < st .symbols
-  pend-low = let e : 8200 + held + 0 ≡ 8200 + held = omega arith in rw e at (h .concludes .lower 0 (omega arith))
+  pend-low = let e : PENDING .first + held + 0 ≡ PENDING .first + held = omega arith in rw e at (h .concludes .lower 0 (omega arith))
 
   -- what `reads_again` asks
   pub selects-input : Input bs ws i held
@@ -53,9 +54,9 @@ module _ (bs ws : List ℕ) (st : State) (i cur held : ℕ) (rep : Rep bs ws st)
     shape = h .shape;
     pending = h .concludes .pending;
     stored = record {
-      few = omega (arith, pend-low, rep .few-symbols);
-      from = rep .sound pend pend-low .from;
-      words = omega (arith, rep .words);
+      few = omega (arith, pend-low, rep .arena .scoped .few);
+      from = rep .arena .sound pend pend-low .from;
+      words = rep .arena .scoped .words;
     };
   }
 
@@ -99,7 +100,7 @@ pair-second f n = rw (ne-eqb f 1 n)
 
 module _ (bs ws : List ℕ) (n i held f : ℕ) (is : f ≡ fieldAt bs i) (t : Bool) (told : t ≡ ofPair f) where
   abbrev tupled : Bool
-  tupled = eqb (symAt (symsOf bs ws n) (getD ws (8200 + held) 0) .rec .shape) 16
+  tupled = eqb (symAt (symsOf bs ws n) (getD ws (PENDING .first + held) 0) .rec .shape) 16
 
   again-is : readsAgain bs ws n i held ≡ t && tupled
   unfolding readsAgain
@@ -119,7 +120,7 @@ node-field r e = rw (ne-eqb (r .shape) 0 (λ z. omega arith), ne-eqb (r .shape) 
 
 module _ (bs ws : List ℕ) (t : Tables) (st : State) (i cur held : ℕ) where
   abbrev input : ℕ
-  input = getD ws (8200 + held) 0
+  input = getD ws (PENDING .first + held) 0
 
   abbrev isTuple : Bool
   isTuple = eqb (symAt (symsOf bs ws (st .symbols)) input .rec .shape) 16

@@ -7,10 +7,10 @@ use mathlib.Core.Bool.{Bool, _&&_, _||_}
 use mathlib.Core.List.{List, [], _∷_}
 use lib.Dec.{eqb}
 use lib.ListN.{length, getD, take}
+use Rattle.regions.specs.Regions.{SLOTS, PENDING, BINDINGS, WORDS}
 use Rattle.model.specs.Forest.{recordCount}
 use Rattle.model.specs.Intern.{unionDeps, symAt}
 use Rattle.record.specs.Record.{rowAt}
-use Rattle.regions.specs.Regions.{WORDS}
 use Rattle.key.specs.declared.Node.{Node}
 use Rattle.key.specs.declared.Node.the-variants.{Const, Unparsed, Op}
 use Rattle.key.specs.Key.{choose, partsOf, symbolAt}
@@ -42,9 +42,9 @@ pub record Concludes (bs ws : List ℕ) (st : State) (i cur inner held count : �
   pub from : i < recordCount bs
   pub children : rowAt bs i .kids ≡ count
   pub current : cur < st .scopes
-  pub slots : st .slots + count ≤ 2560
-  pub pending : held + count ≤ 256
-  pub lower : (k : ℕ) → k < count → getD ws (8200 + held + k) 0 < st .symbols
+  pub slots : st .slots + count ≤ SLOTS .size
+  pub pending : held + count ≤ PENDING .size
+  pub lower : (k : ℕ) → k < count → getD ws (PENDING .first + held + k) 0 < st .symbols
   pub forced : InForce (scopesOf ws (st .scopes)) inner
       (unionDeps (symsOf bs ws (st .symbols)) (pendingFrom ws held count))
 
@@ -64,7 +64,7 @@ fieldAt bs i = getD (rowAt bs i .rec .lit) 0 0
 unfoldable pub readsAgain : List ℕ → List ℕ → ℕ → ℕ → ℕ → Bool
 readsAgain bs ws n i held =
     (eqb (fieldAt bs i) 1 || eqb (fieldAt bs i) 2) &&
-    eqb (symAt (symsOf bs ws n) (getD ws (8200 + held) 0) .rec .shape) 16
+    eqb (symAt (symsOf bs ws n) (getD ws (PENDING .first + held) 0) .rec .shape) 16
 
 -- the words have symbol s, made for a record of the forest
 pub record Stored (bs ws : List ℕ) (s : ℕ) : Type 0 where
@@ -76,15 +76,15 @@ pub record Stored (bs ws : List ℕ) (s : ℕ) : Type 0 where
 pub record Input (bs ws : List ℕ) (i held : ℕ) : Type 0 where
   pub from : i < recordCount bs
   pub shape : rowAt bs i .rec .shape ≡ 17
-  pub pending : held + 1 ≤ 256
-  pub stored : Stored bs ws (getD ws (8200 + held) 0)
+  pub pending : held + 1 ≤ PENDING .size
+  pub stored : Stored bs ws (getD ws (PENDING .first + held) 0)
 
 -- a SelectField, with room for both projections
 pub record Selects (bs ws : List ℕ) (st : State) (i cur held : ℕ) : Type 0 where
   pub concludes : Concludes bs ws st i cur cur held 1
   pub shape : rowAt bs i .rec .shape ≡ 17
   pub opcode : rowAt bs i .rec .opcode ≡ 0x8C
-  pub slots : st .slots + 2 ≤ 2560
+  pub slots : st .slots + 2 ≤ SLOTS .size
 
 -- ---- a use
 
@@ -92,4 +92,4 @@ pub record Selects (bs ws : List ℕ) (st : State) (i cur held : ℕ) : Type 0 w
 pub record Uses (bs ws : List ℕ) (i top : ℕ) : Type 0 where
   pub from : i < recordCount bs
   pub shape : rowAt bs i .rec .shape ≡ 7
-  pub words : 8456 + 2 * top ≤ length ws
+  pub words : BINDINGS .first + 2 * top ≤ length ws

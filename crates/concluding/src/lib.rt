@@ -1,5 +1,5 @@
 // What a record gives once its children's symbols are pending (intern.rs): the symbol of its key, a lambda's, a
-// projection's, a use's, or that of its last child. The pending symbols of the children start at word 8,200 + held.
+// projection's, a use's, or that of its last child. The pending symbols of the children start `held` words into their region.
 use interner::State;
 use interner::Step;
 use key::Func;
@@ -17,6 +17,7 @@ ghost use mathlib.Core.List.{[]};
 ghost use Prim.Native.Nat.{ℕ, _+_, _<_, _≤_};
 ghost use lib.Dec.{eqb};
 ghost use lib.ListN.{length, getD};
+ghost use Rattle.regions.specs.Regions.{PENDING, WORDS};
 ghost use Rattle.model.specs.Lists.{last};
 ghost use Rattle.model.specs.Forest.{recordCount};
 ghost use Rattle.model.specs.Binding.{argsOf, idOf};
@@ -24,7 +25,6 @@ ghost use Rattle.model.specs.Intern.{finish, nodeOf, func, withOpts, internFiel
 ghost use Rattle.laws.specs.Range.{range};
 ghost use Rattle.record.specs.Record.{Laid, rowAt};
 ghost use Rattle.walk.specs.Walk.{Sound};
-ghost use Rattle.regions.specs.Regions.{WORDS};
 ghost use Rattle.tables.specs.Tables.{Open};
 ghost use Rattle.symbols.specs.Words.{pendingFrom};
 ghost use Rattle.symbols.specs.Symbols.{symsOf};
@@ -168,7 +168,7 @@ pub fn reads_again(forest: &[u8], work: &[u32], i: usize, held: usize) -> bool
     requires { ⌜ Sound (now forest) ⌝ }
     requires { ⌜ Input (now forest) (now work) i held ⌝ }
     ensures { λ r.
-        ⌜ ((n : ℕ) → getD (now (work .entry)) (8200 + held) 0 < n →
+        ⌜ ((n : ℕ) → getD (now (work .entry)) (PENDING .first + held) 0 < n →
         r ≡ readsAgain (now (forest .entry)) (now (work .entry)) n i held) ⌝ }
 {
     let s = work[PENDING + held] as usize;
@@ -213,7 +213,7 @@ pub fn field(
 
 // The symbol of the last of `count` pending children. Rules out: that of a block's first definition; a new symbol.
 pub fn last(work: &[u32], st: State, held: usize, count: usize) -> Step
-    requires { ⌜ (0 < count) × (held + count ≤ 256) × (WORDS ≤ length (now work)) ⌝ }
+    requires { ⌜ (0 < count) × (held + count ≤ PENDING .size) × (WORDS ≤ length (now work)) ⌝ }
     ensures { λ r. ⌜ r ≡ given st (last (pendingFrom (now (work .entry)) held count)) ⌝ }
 {
     interner::given(st, work[PENDING + held + count - 1])

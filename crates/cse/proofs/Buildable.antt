@@ -2,13 +2,14 @@
 -- (`Rep`) and from the theorems on interning.
 -- In order: a node's scopes and arguments; no node stands for a use; counting; building, in words that agree.
 -- Assumes nothing.
-use Prim.Native.Nat.{ℕ, zero, suc, _+_, _-_, _<_, _≤_}
+use Prim.Native.Nat.{ℕ, zero, suc, _+_, _-_, _*_, _<_, _≤_}
 use mathlib.Core.Path.{_≡_, refl, sym, ap, _∙_, subst}
 use mathlib.Core.Logic.{inl, inr}
 use mathlib.Core.Option.{none}
 use mathlib.Core.List.{List, [], _∷_}
 use native.Mathlib.Omega.{arith}
 use lib.ListN.{length, take}
+use Rattle.regions.specs.Regions.{SLOTS, SCOPES}
 use Rattle.model.specs.Answer.{good}
 use Rattle.model.specs.Tree.{Rec}
 use Rattle.model.specs.Shape.{shapes}
@@ -35,18 +36,16 @@ use Rattle.key.specs.declared.Node.{Node}
 use Rattle.key.specs.declared.Node.the-variants.{Const, Unparsed, Arg, Lambda, Op}
 use Rattle.key.specs.Key.{partsOf, symbolAt}
 use Rattle.laws.specs.Frame.{Agree}
-use Rattle.key.proofs.Laws.{symbol-agree}
-use Rattle.symbols.specs.Symbols.{symsOf, symOf, recOf, nodeOf, kidsAt, AllSound}
-use Rattle.symbols.proofs.Laws.{syms-length, sym-at, rec-at, sounds-agree}
+use Rattle.symbols.specs.Symbols.{symsOf, symOf, recOf, nodeOf, kidsAt}
+use Rattle.symbols.proofs.Laws.{syms-length, sym-at, rec-at}
 use Rattle.scopes.specs.Scopes.{scopesOf}
 use Rattle.scopes.proofs.Laws.{scopes-length}
-use Rattle.scopes.proofs.Open.{nested-kept}
 use Rattle.interner.specs.declared.State.{State}
 use Rattle.tables.specs.Tables.{first}
 use Rattle.symbols.specs.Sourced.{Sourced}
 use Rattle.interner.specs.State.{absOf, Rep}
 use Rattle.gate.specs.Gate.{Countable}
-use Rattle.graph.specs.Graph.{Arena}
+use Rattle.graph.proofs.Laws.{node-agree, arena-agree}
 use Rattle.planner.specs.Building.{Opens, NoUse, Buildable}
 
 -- ---- a node's scopes and arguments
@@ -112,17 +111,10 @@ module _ (bs : List ℕ) (fin : List Sym) (scs : List Scope) (s : ℕ) where
 module _ (bs ws : List ℕ) (st : State) (rep : Rep bs ws st) where
   pub symbols-stored : Countable ws (st .symbols)
   symbols-stored = record {
-    few = rep .few-symbols;
-    words = omega (arith, rep .words);
-    kids = λ i l.
-        let s = rep .sound i l in
-        record { slots = omega (arith, s .slots, rep .few-slots); lower = s .lower };
+    few = rep .arena .scoped .few;
+    words = omega (arith, rep .arena .scoped .words);
+    kids = λ i l. let s = rep .arena .sound i l in record { slots = s .slots; lower = s .lower };
   }
-
-  pub symbols-sound : AllSound bs ws 2560 (st .symbols)
-  symbols-sound i l =
-      let s = rep .sound i l in
-      record { from = s .from; slots = omega (arith, s .slots, rep .few-slots); lower = s .lower }
 
   -- ---- building
 
@@ -138,16 +130,6 @@ module _ (bs ws : List ℕ) (st : State) (rep : Rep bs ws st) where
         SymSound Any s (length (scopesOf ws (st .scopes))) (symAt (symsOf bs ws (st .symbols)) s)
     sym-sound s l = leaves .sound .syms-sound s (omega (arith, syms-length bs ws (st .symbols)))
 
-    placed-low : (s : ℕ) → s < st .symbols → symbolAt ws s .scope < st .scopes
-    unfolding symOf
-    placed-low s l =
-        omega (
-          arith,
-          sym-sound s l .scope-low,
-          ap (λ (y : Sym). y .scope) (sym-at bs ws (st .symbols) s l),
-          scopes-length ws (st .scopes),
-        )
-
     opens-at : (s : ℕ) → s < st .symbols → Opens bs (st .scopes) s (symbolAt ws s .node)
     unfolding symOf
     opens-at s l =
@@ -156,7 +138,7 @@ module _ (bs ws : List ℕ) (st : State) (rep : Rep bs ws st) where
         (λ (z : Sym). NodeSound Any s (length (scopesOf ws (st .scopes))) (z .rec) (z .kids) (z .node))
         (sym-at bs ws (st .symbols) s l) (sym-sound s l .node-sound) in
         opens-node bs (accept-passed bs (treesOf bs) accepted .shaped .sound .fit) (st .scopes) s (y .count)
-        (kidsAt ws s) (y .node) (rep .sound s l .from) (rep .sourced s l)
+        (kidsAt ws s) (y .node) (rep .arena .sound s l .from) (rep .sourced s l)
         (subst (λ (m : ℕ). NodeSound Any s m (recOf bs (y .node)) (kidsAt ws s) (nodeOf bs (y .node)))
         (scopes-length ws (st .scopes)) placed)
 
@@ -172,27 +154,23 @@ module _ (bs ws : List ℕ) (st : State) (rep : Rep bs ws st) where
 
     -- in words that are the same below 8,456
     module _ (ws′ : List ℕ) (long : length ws′ ≡ length ws) (same : Agree ws ws′ 0 8456) where
-      symbol-same : (s : ℕ) → s < st .symbols → symbolAt ws′ s ≡ symbolAt ws s
-      symbol-same s l = symbol-agree ws ws′ s (λ k a b. same k (omega arith) (omega (arith, rep .few-symbols)))
+      own : Agree ws ws′ 0 (5 * st .symbols)
+      own k a b = same k a (omega (arith, rep .arena .scoped .few))
 
-      arena : Arena bs ws′ (st .symbols) (st .scopes)
-      arena = record {
-        few = rep .few-symbols;
-        words = omega (arith, rep .words);
-        sound =
-            sounds-agree bs ws ws′ 2560 (λ k a b. same k (omega arith) (omega arith)) (st .symbols)
-            (λ k a b. same k (omega arith) (omega (arith, rep .few-symbols))) symbols-sound;
-        some-scope = rep .some-scope;
-        few-scopes = rep .few-scopes;
-        nested =
-            nested-kept ws′ ws (st .scopes) (rep .some-scope)
-            (λ k l. same (5120 + k) (omega arith) (omega (arith, rep .few-scopes))) (rep .nested);
-        placed = λ s l. rw (symbol-same s l) (placed-low s l);
-      }
+      slots : Agree ws ws′ (SLOTS .first) (SLOTS .first + SLOTS .size)
+      slots k a b = same k (omega arith) (omega arith)
+
+      scopes : Agree ws ws′ (SCOPES .first) (SCOPES .first + st .scopes)
+      scopes k a b = same k (omega arith) (omega (arith, rep .arena .scoped .few-scopes))
+
+      symbol-same : (s : ℕ) → s < st .symbols → symbolAt ws′ s ≡ symbolAt ws s
+      symbol-same = node-agree bs ws ws′ (SLOTS .size) (st .symbols) (st .scopes) long own slots scopes
 
       pub buildable : Buildable bs ws′ (st .symbols) (st .scopes)
       buildable = record {
-        arena = arena;
+        arena =
+            arena-agree bs ws ws′ (SLOTS .size) (st .symbols) (st .scopes) long own slots scopes
+            (λ i l. rep .arena .sound i l .slots) (rep .arena);
         sourced = λ s l. rw (symbol-same s l) (rep .sourced s l);
         opens = λ s l. rw (symbol-same s l) (opens-at s l);
         no-use = λ s l. rw (symbol-same s l) (no-use-at s l);

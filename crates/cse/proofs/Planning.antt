@@ -23,7 +23,6 @@ use Rattle.planner.specs.declared.Plan.{Plan}
 use Rattle.planner.specs.Grew.{Grown}
 use Rattle.materialize.specs.Materialize.{Counted, Materialized}
 use Rattle.cse.specs.Call.{PlanOf, Planned}
-use Rattle.cse.proofs.Buildable.{symbols-sound}
 
 -- words ws₁ with the uses counted, and ws₂ with the tree planned too
 module _ (bs ws : List ℕ) (st : State) (rep : Rep bs ws st) (root : ℕ) (ws₁ : List ℕ)
@@ -34,11 +33,11 @@ module _ (bs ws : List ℕ) (st : State) (rep : Rep bs ws st) (root : ℕ) (ws�
   syms-same : symsOf bs ws₁ (st .symbols) ≡ symsOf bs ws (st .symbols)
   syms-same =
       syms-agree bs ws ws₁ 2560 (λ k a b. counted-same k (omega arith) (omega arith)) (st .symbols)
-      (λ k a b. counted-same k (omega arith) (omega (arith, rep .few-symbols))) (symbols-sound bs ws st rep)
+      (λ k a b. counted-same k (omega arith) (omega (arith, rep .arena .scoped .few))) (rep .arena .sound)
 
   scopes-same : scopesOf ws₁ (st .scopes) ≡ scopesOf ws (st .scopes)
   scopes-same =
-      scopes-kept ws₁ ws (st .scopes) (λ k l. counted-same (5120 + k) (omega arith) (omega (arith, rep .few-scopes)))
+      scopes-kept ws₁ ws (st .scopes) (λ k l. counted-same (5120 + k) (omega arith) (omega (arith, rep .arena .scoped .few-scopes)))
 
   -- how many symbols and scopes there are
   abbrev graph : Graph

@@ -1,6 +1,7 @@
--- Laws of the graph in the words. In order: a symbol's parts; its children, which are lower; the tests of it.
+-- Laws of the graph in the words. In order: a symbol's parts; its children, which are lower; slots in use; the words
+-- that it hangs on; the tests of it.
 -- Assumes nothing.
-use Prim.Native.Nat.{ℕ, zero, suc, _+_, _<_, _≤_}
+use Prim.Native.Nat.{ℕ, zero, suc, _+_, _*_, _<_, _≤_}
 use mathlib.Core.Path.{_≡_, refl, sym, ap, subst, _∙_}
 use mathlib.Core.Bool.{Bool, true, false}
 use mathlib.Core.Logic.{inl, inr}
@@ -9,9 +10,11 @@ use native.Mathlib.Omega.{arith}
 use lib.Dec.{eqb, ltb}
 use lib.ListN.{length, getD, List·getD-eq-default}
 use borrow.Author.Tests.{ltb-true, ltb-false}
+use Rattle.regions.specs.Regions.{SLOTS, SCOPES}
 use Rattle.model.specs.Intern.{Sym, noSym, symAt}
 use Rattle.model.specs.Gate.{symOf}
 use Rattle.model.specs.Schedule.{isArg, isOutside, relOf}
+use Rattle.laws.specs.Frame.{Agree}
 use Rattle.laws.proofs.Falls.{Under}
 use Rattle.regions.specs.Regions.{SCOPES}
 use Rattle.key.specs.declared.Symbol.{Symbol}
@@ -19,14 +22,16 @@ use Rattle.key.specs.declared.Parts.{Parts}
 use Rattle.key.specs.declared.Node.{Node}
 use Rattle.key.specs.declared.Node.the-variants.{Const, Unparsed, Arg, Lambda, Op}
 use Rattle.key.specs.Key.{partsOf, symbolAt}
+use Rattle.key.proofs.Laws.{symbol-agree}
 use Rattle.symbols.specs.Words.{wordsFrom}
-use Rattle.symbols.specs.Symbols.{nodeOf, symsOf}
+use Rattle.symbols.specs.Symbols.{nodeOf, symsOf, AllSound}
 use Rattle.symbols.specs.Symbols as symbols
-use Rattle.symbols.proofs.Laws.{syms-length, sym-at, kids-at}
+use Rattle.symbols.proofs.Laws.{syms-length, sym-at, kids-at, sounds-agree}
 use Rattle.scopes.specs.declared.Rel.{Rel}
-use Rattle.scopes.specs.Scopes.{Nested}
+use Rattle.scopes.specs.Scopes.{Nested, scopeWord}
 use Rattle.scopes.specs.Relation.{relIn, Classified}
-use Rattle.graph.specs.Graph.{Arena, Scoped, graphOf, Related, Tests, isOutsider}
+use Rattle.scopes.proofs.Open.{nested-kept}
+use Rattle.graph.specs.Graph.{Within, Scoped, Arena, graphOf, Related, Tests, isOutsider}
 
 -- ---- a symbol's parts
 
@@ -64,16 +69,42 @@ kids-low bs ws n m arena slots s = go (ltb s n) refl
         subst (λ (y : Sym). Under s (y .kids)) (sym (List·getD-eq-default (symsOf bs ws n) noSym
         (omega (arith, syms-length bs ws n, ltb-false s n e)))) (λ x i. absurd i)
 
--- ---- the tests
+-- ---- slots in use
 
-pub scoped : (bs ws : List ℕ) (n m : ℕ) → Arena bs ws n m → Scoped ws n m
-scoped bs ws n m a = record {
-  few = a .few;
-  words = a .words;
-  few-scopes = a .few-scopes;
-  nested = a .nested;
-  placed = a .placed;
-}
+pub within-sound : (bs ws : List ℕ) (used n : ℕ) → Within ws used n → AllSound bs ws (SLOTS .size) n → AllSound bs ws used n
+within-sound bs ws used n within sound i lt =
+    let s = sound i lt in record { from = s .from; slots = within i lt; lower = s .lower }
+
+-- ---- the words that they hang on: the symbols' own, the slots in use, and the scopes'
+
+module _ (bs ws ws′ : List ℕ) (used n m : ℕ) (long : length ws′ ≡ length ws) (own : Agree ws ws′ 0 (5 * n))
+    (slots : Agree ws ws′ (SLOTS .first) (SLOTS .first + used))
+    (scopes : Agree ws ws′ (SCOPES .first) (SCOPES .first + m)) where
+  pub scope-agree : (c : ℕ) → c < m → scopeWord ws′ c ≡ scopeWord ws c
+  scope-agree c lt = scopes (SCOPES .first + c) (omega arith) (omega arith)
+
+  pub node-agree : (s : ℕ) → s < n → symbolAt ws′ s ≡ symbolAt ws s
+  node-agree s lt = symbol-agree ws ws′ s (λ k l r. own k (omega arith) (omega arith))
+
+  scoped-agree : Scoped ws n m → Scoped ws′ n m
+  scoped-agree h = record {
+    few = h .few;
+    words = omega (arith, h .words);
+    some-scope = h .some-scope;
+    few-scopes = h .few-scopes;
+    nested = nested-kept ws′ ws m (h .some-scope) scope-agree (h .nested);
+    placed = λ s lt. rw (node-agree s lt) (h .placed s lt);
+  }
+
+  pub arena-agree : Within ws used n → Arena bs ws n m → Arena bs ws′ n m
+  arena-agree within h = record {
+    scoped = scoped-agree (h .scoped);
+    sound = λ i lt.
+        let s = sounds-agree bs ws ws′ used slots n own (within-sound bs ws used n within (h .sound)) i lt in
+        record { from = s .from; slots = rw (node-agree i lt) (h .sound i lt .slots); lower = s .lower };
+  }
+
+-- ---- the tests
 
 arg-tag : (bs : List ℕ) (x : Node) → eqb (partsOf x .tag) 2 ≡ isArg (nodeOf bs x)
 arg-tag bs (Const l) = refl

@@ -1,13 +1,13 @@
 -- The graph in the work words. In order: what holds of the words; the graph in them; tests of it.
 -- Assumes nothing.
-use Prim.Native.Nat.{ℕ, _<_, _≤_}
+use Prim.Native.Nat.{ℕ, _+_, _<_, _≤_}
 use mathlib.Core.Path.{_≡_}
 use mathlib.Core.Bool.{Bool, not, _&&_}
 use mathlib.Core.List.{List}
 use lib.ListN.{length}
+use Rattle.regions.specs.Regions.{SLOTS, WORDS}
 use Rattle.model.specs.Gate.{Graph, symOf}
 use Rattle.model.specs.Schedule.{isArg, isOutside, relOf}
-use Rattle.regions.specs.Regions.{WORDS}
 use Rattle.key.specs.Key.{symbolAt}
 use Rattle.symbols.specs.Symbols.{symsOf, AllSound}
 use Rattle.scopes.specs.declared.Rel.{Rel}
@@ -16,23 +16,23 @@ use Rattle.scopes.specs.Relation.{relIn}
 
 -- ---- what holds of the words
 
--- n symbols and m scopes stand in the words
-pub record Arena (bs ws : List ℕ) (n m : ℕ) : Type 0 where
+-- the child slots of n symbols are the first `used`
+abbrev pub Within : List ℕ → ℕ → ℕ → Type 0
+Within ws used n = (i : ℕ) → i < n → symbolAt ws i .kids + symbolAt ws i .count ≤ used
+
+-- m scopes, and in them n symbols
+pub record Scoped (ws : List ℕ) (n m : ℕ) : Type 0 where
   pub few : n ≤ 512
   pub words : WORDS ≤ length ws
-  pub sound : AllSound bs ws 2560 n
   pub some-scope : 0 < m
   pub few-scopes : m ≤ 2049
   pub nested : Nested ws m
   pub placed : (s : ℕ) → s < n → symbolAt ws s .scope < m
 
--- what of this the scopes of symbols hang on
-pub record Scoped (ws : List ℕ) (n m : ℕ) : Type 0 where
-  pub few : n ≤ 512
-  pub words : WORDS ≤ length ws
-  pub few-scopes : m ≤ 2049
-  pub nested : Nested ws m
-  pub placed : (s : ℕ) → s < n → symbolAt ws s .scope < m
+-- the symbols stand for records of the forest, over lower symbols
+pub record Arena (bs ws : List ℕ) (n m : ℕ) : Type 0 where
+  pub scoped : Scoped ws n m
+  pub sound : AllSound bs ws (SLOTS .size) n
 
 -- ---- the graph in the words
 

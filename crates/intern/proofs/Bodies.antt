@@ -1,13 +1,13 @@
 -- A lambda's body entered: its arguments made, its scope opened, its arguments bound.
 -- In order: no arguments; the children of a record; kinds; before; the arguments made; the body opened.
 -- Assumes nothing.
-use Prim.Native.Nat.{ℕ, zero, suc, _+_, _-_, _<_, _≤_}
+use Prim.Native.Nat.{ℕ, zero, suc, _+_, _-_, _*_, _<_, _≤_}
 use mathlib.Core.Path.{_≡_, refl, sym, ap, _∙_}
 use mathlib.Core.List.{List, []}
 use native.Mathlib.Omega.{arith}
 use borrow.Author.Tests.{eq-eqb, ne-eqb}
-use lib.ListN.{length, length-set, getD}
-use lib.Seq.{getD-set-other}
+use lib.ListN.{length}
+use Rattle.regions.specs.Regions.{SCOPES, BINDINGS, WORDS, end}
 use Rattle.model.specs.Answer.{refused, good}
 use Rattle.model.specs.Tree.{Trees, node, nil, cons, many, takeT, depth, depths}
 use Rattle.model.specs.Forest.{recordCount}
@@ -15,12 +15,12 @@ use Rattle.model.specs.Binding.{kind, lambda, argsOf}
 use Rattle.model.specs.Intern.{bindArgs}
 use Rattle.laws.specs.Range.{range}
 use Rattle.laws.specs.Members.{Every}
+use Rattle.laws.specs.Frame.{Frame}
 use Rattle.laws.proofs.ArgLists.{args-length}
 use Rattle.record.specs.Record.{rowAt}
 use Rattle.shape.proofs.Fitting.{fits-func}
 use Rattle.walk.specs.Walk.{treesFrom, recAt, kidsAt, treeAt, Sound}
 use Rattle.walk.proofs.Bridge.{row-fits, records-few, kids-there}
-use Rattle.regions.specs.Regions.{WORDS}
 use Rattle.scopes.specs.Scopes.{scopeWord, levelOf, lambdaWord, withLambda}
 use Rattle.bindings.specs.Bindings.{envOf}
 use Rattle.bindings.specs.Made.{ArgsBound}
@@ -35,13 +35,14 @@ use Rattle.interner.specs.State.{absOf, Rep}
 use Rattle.interner.specs.Step.{outsOf, Binds, Bindings, BodyOf}
 use Rattle.opening.specs.Opening.{withScope}
 use Rattle.opening.proofs.Counts.{scopes-count}
+use Rattle.opening.proofs.Scopes.{scope-frame}
 use Rattle.opening.proofs.Bodies.{body-level, body-of, body-abs, body-rep}
 use Rattle.standing.proofs.Enter.{lambda-well}
 use Rattle.intern.specs.declared.Here.{Here}
 use Rattle.intern.specs.declared.Entered.{Entered}
 use Rattle.intern.specs.Words.{Words, Kept}
 use Rattle.intern.specs.Intern.{Stands, Counted, argsMade, Body, Enters}
-use Rattle.intern.proofs.Kept.{words-then, leaves-kept, later-rep, later-abs, beside-words, beside-low}
+use Rattle.intern.proofs.Kept.{words-then, scope-words, leaves-kept, later-rep, later-abs, beside-frame, beside-words}
 
 -- ---- no arguments, from whatever symbol on
 
@@ -112,7 +113,7 @@ module _ (bs ws : List ℕ) (t : Tables) (st : State) (i : ℕ) (at : Here) (sou
 
   module _ (ws₁ : List ℕ) (made : Step) (n : ℕ) (en : n ≡ aux) (b : Bindings bs ws st (at .scope) i n ws₁ made) where
     first-kept : Kept at ws ws₁ st (made .st)
-    first-kept = leaves-kept at (stands .rep .few-scopes) (b .leaves)
+    first-kept = leaves-kept at (stands .rep .arena .scoped .few-scopes) (b .leaves)
 
     made-opened : Open t (made .st .entries)
     made-opened = open-later t (st .entries) (stands .opened) (made .st .entries) (b .leaves .entries)
@@ -136,7 +137,7 @@ module _ (bs ws : List ℕ) (t : Tables) (st : State) (i : ℕ) (at : Here) (sou
       gives = sym made-is ∙ outs-good bs ws₁ t n made ok
 
       pub enter-few : made .symbol + n ≤ 512
-      enter-few = let f = b .first ok in omega (arith, f .0, f .1, b .rep .few-symbols)
+      enter-few = let f = b .first ok in omega (arith, f .0, f .1, b .rep .arena .scoped .few)
 
       scopes-few : made .st .scopes ≤ 2048
       scopes-few =
@@ -145,7 +146,7 @@ module _ (bs ws : List ℕ) (t : Tables) (st : State) (i : ℕ) (at : Here) (sou
           omega (arith, e .0, scopes-count bs ws₁ t (made .st))
 
       scope-word : scopeWord ws₁ (at .scope) ≡ scopeWord ws (at .scope)
-      scope-word = first-kept .words .scopes (5120 + at .scope) (omega arith) (omega (arith, stands .scope))
+      scope-word = first-kept .words .scopes (SCOPES .first + at .scope) (omega arith) (omega (arith, stands .scope))
 
       scope-low : at .scope < made .st .scopes
       scope-low = omega (arith, stands .scope, b .leaves .scopes)
@@ -155,7 +156,7 @@ module _ (bs ws : List ℕ) (t : Tables) (st : State) (i : ℕ) (at : Here) (sou
 
       pub enter-room : (WORDS ≤ length ws₁) × (at .scope < made .st .scopes) × (made .st .scopes ≤ 2048) × (n ≤ 15)
           × (levelOf (scopeWord ws₁ (at .scope)) < 63)
-      enter-room = (b .rep .words, scope-low, scopes-few, omega (arith, en, fitting .1), level-low)
+      enter-room = (b .rep .arena .scoped .words, scope-low, scopes-few, omega (arith, en, fitting .1), level-low)
 
       -- ---- the body opened
 
@@ -164,16 +165,13 @@ module _ (bs ws : List ℕ) (t : Tables) (st : State) (i : ℕ) (at : Here) (sou
         abbrev m : ℕ
         m = made .st .scopes
 
-        long : length ws₂ ≡ length ws₁
-        long = ap length opened ∙ length-set ws₁ (5120 + m) (lambdaWord ws₁ (at .scope) first n)
-
-        other : (k : ℕ) → (k ≡ 5120 + m → ⊥) → getD ws₂ k 0 ≡ getD ws₁ k 0
-        other k h = rw opened (getD-set-other ws₁ (5120 + m) k (lambdaWord ws₁ (at .scope) first n) 0 h)
+        opens : Frame (SCOPES .first + m) (end SCOPES) ws₁ ws₂
+        opens = rw opened (scope-frame bs ws₁ (made .st) (b .rep) scopes-few (lambdaWord ws₁ (at .scope) first n))
 
         pub enter-bind : (at .top + 15 ≤ 1200) × (WORDS ≤ length ws₂) × (first ≤ 512)
         enter-bind = (
           omega (arith, stands .top, deep, lt, records-few bs sound),
-          omega (arith, long, b .rep .words),
+          omega (arith, opens .long, b .rep .arena .scoped .words),
           omega arith,
         )
 
@@ -186,40 +184,38 @@ module _ (bs ws : List ℕ) (t : Tables) (st : State) (i : ℕ) (at : Here) (sou
             (omega (arith, en, fitting .1)) own)
 
         words₂ : Words (st .scopes) (at .held) (at .top) ws₁ ws₂
-        words₂ = record {
-          long = long;
-          scopes = λ k l r. other k (λ e. omega (arith, b .leaves .scopes));
-          pending = λ k l r. other k (λ e. omega (arith, scopes-few));
-          bound = λ k l r. other k (λ e. omega (arith, scopes-few));
-          later = λ k l. other k (λ e. omega (arith, scopes-few));
-        }
+        words₂ =
+            scope-words (st .scopes) (at .held) (at .top) m ws₁ ws₂ (omega (arith, b .leaves .scopes)) opens
 
-        module _ (inside : State) (is : inside ≡ withScope (made .st)) (ws₃ : List ℕ) (end : ℕ)
-            (bound : ArgsBound bs i (at .top) first ws₂ ws₃ end) where
+        module _ (inside : State) (is : inside ≡ withScope (made .st)) (ws₃ : List ℕ) (top′ : ℕ)
+            (bound : ArgsBound bs i (at .top) first ws₂ ws₃ top′) where
           abbrev e : Entered
           e = record {
             st = withScope (made .st);
             number = 0;
             place = 0;
-            at = record { scope = m; held = at .held; top = end };
+            at = record { scope = m; held = at .held; top = top′ };
             first = first;
           }
 
+          binds : Frame (BINDINGS .first + 2 * at .top) (BINDINGS .first + 2 * top′) ws₂ ws₃
+          binds = beside-frame (bound .kept)
+
           words₃ : Words (st .scopes) (at .held) (at .top) ws₂ ws₃
           words₃ =
-              beside-words (st .scopes) (at .held) (stands .rep .few-scopes)
+              beside-words (st .scopes) (at .held) (stands .rep .arena .scoped .few-scopes)
               (omega (arith, stands .held, lt, records-few bs sound))
-              (omega (arith, enter-bind .0, bound .most)) (bound .kept)
+              (omega (arith, enter-bind .0, bound .most)) binds
 
-          scope₃ : (k : ℕ) → k < 2056 → scopeWord ws₃ k ≡ scopeWord ws₂ k
-          scope₃ k l = bound .kept .low (5120 + k) (omega arith)
+          scope₃ : (k : ℕ) → k < SCOPES .size → scopeWord ws₃ k ≡ scopeWord ws₂ k
+          scope₃ k l = binds .before (SCOPES .first + k) (omega arith)
 
           body₂ : BodyOf ws₂ (m + 1) (at .scope) m (range first n)
           body₂ =
               rw opened (body-of bs ws₁ (made .st) (at .scope) first n (b .rep) scopes-few scope-low low
               (omega (arith, en, fitting .1)))
 
-          env₃ : envOf ws₃ end ≡ bindArgs xs (range first aux) (envOf ws (at .top))
+          env₃ : envOf ws₃ top′ ≡ bindArgs xs (range first aux) (envOf ws (at .top))
           env₃ =
               bound .env
               ∙ ap (bindArgs xs (range first aux))
@@ -231,8 +227,8 @@ module _ (bs ws : List ℕ) (t : Tables) (st : State) (i : ℕ) (at : Here) (sou
             is = gives ∙ rw (← same, en);
             scope = sym (scopes-count bs ws₁ t (made .st));
             abs =
-                later-abs bs ws₂ ws₃ (withScope (made .st)) rep₂ (bound .kept .size) (beside-low (bound .kept)) t
-                made-opened
+                later-abs bs ws₂ ws₃ (withScope (made .st)) rep₂ (BINDINGS .first + 2 * at .top) (BINDINGS .first + 2 * top′)
+                (omega arith) binds t made-opened
                 ∙ ap (λ (z : List ℕ). absOf bs z t (withScope (made .st))) opened
                 ∙ body-abs bs ws₁ (made .st) (at .scope) first n (b .rep) scopes-few scope-low low
                 (omega (arith, en, fitting .1)) t made-opened
@@ -258,7 +254,8 @@ module _ (bs ws : List ℕ) (t : Tables) (st : State) (i : ℕ) (at : Here) (sou
 
           done : Enters bs ws t st i at ws₃ e
           done = record {
-            rep = later-rep bs ws₂ ws₃ (withScope (made .st)) rep₂ (bound .kept .size) (beside-low (bound .kept));
+            rep = later-rep bs ws₂ ws₃ (withScope (made .st)) rep₂ (BINDINGS .first + 2 * at .top)
+                (BINDINGS .first + 2 * top′) (omega arith) binds;
             opened = made-opened;
             kept = record {
               words =
@@ -274,7 +271,7 @@ module _ (bs ws : List ℕ) (t : Tables) (st : State) (i : ℕ) (at : Here) (sou
             st = inside;
             number = 0;
             place = 0;
-            at = record { scope = m; held = at .held; top = end };
+            at = record { scope = m; held = at .held; top = top′ };
             first = first;
           })
           enter-done = rw is done

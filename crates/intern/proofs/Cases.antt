@@ -300,7 +300,7 @@ module _ (bs ws : List ℕ) (t : Tables) (st : State) (i : ℕ) (at : Here) (sou
       record-uses e = record {
         from = lt;
         shape = e;
-        words = omega (arith, stands .top, stands .rep .words, lt, records-few bs sound);
+        words = omega (arith, stands .top, stands .rep .arena .scoped .words, lt, records-few bs sound);
       }
 
       use-kids : recAt bs i .shape ≡ 7 → rowAt bs i .kids ≡ 0

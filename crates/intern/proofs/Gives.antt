@@ -7,6 +7,7 @@ use mathlib.Core.Bool.{Bool, true, false}
 use mathlib.Core.List.{List}
 use native.Mathlib.Omega.{arith}
 use lib.ListN.{getD}
+use Rattle.regions.specs.Regions.{PENDING}
 use Rattle.model.specs.Tree.{Rec, depth}
 use Rattle.model.specs.Forest.{recordCount}
 use Rattle.model.specs.Binding.{field, isBlock}
@@ -186,9 +187,9 @@ module _ (bs ws : List ℕ) (t : Tables) (st : State) (i : ℕ) (at : Here) (sou
         field-input = selects-input bs ws₁ (k .st) i (at .scope) (at .held) (v .rep) field-selects
 
         -- what is said of any number of symbols that has the input is so of the state's
-        input-low : getD ws₁ (8200 + at .held) 0 < k .st .symbols
+        input-low : getD ws₁ (PENDING .first + at .held) 0 < k .st .symbols
         input-low =
-            let e : 8200 + at .held + 0 ≡ 8200 + at .held = omega arith in
+            let e : PENDING .first + at .held + 0 ≡ PENDING .first + at .held = omega arith in
             rw e at (field-selects .concludes .lower 0 (omega arith))
 
         field-is : fieldOut
@@ -245,7 +246,7 @@ module _ (bs ws : List ℕ) (t : Tables) (st : State) (i : ℕ) (at : Here) (sou
             field-plain
 
         module _ (b : Bool)
-            (told : (n : ℕ) → getD ws₁ (8200 + at .held) 0 < n → b ≡ readsAgain bs ws₁ n i (at .held)) where
+            (told : (n : ℕ) → getD ws₁ (PENDING .first + at .held) 0 < n → b ≡ readsAgain bs ws₁ n i (at .held)) where
           pub field-once : b ≡ false → readsAgain bs ws₁ (k .st .symbols) i (at .held) ≡ false
           field-once e = sym (told (k .st .symbols) input-low) ∙ e
 

@@ -2,14 +2,16 @@
 -- In order: words; words and state; stores that a state does not hang on; a child's symbol stored, and its definition
 -- bound.
 -- Assumes nothing.
-use Prim.Native.Nat.{ℕ, suc, _+_, _<_, _≤_}
+use Prim.Native.Nat.{ℕ, suc, _+_, _*_, _<_, _≤_}
 use mathlib.Core.Path.{_≡_, refl, ap, _∙_}
 use mathlib.Core.List.{List, [], _∷_, _++_}
 use native.Mathlib.Omega.{arith}
-use lib.ListN.{length, set, length-set, getD}
-use lib.Seq.{getD-set-same, getD-set-other}
+use lib.ListN.{set, getD}
+use lib.Seq.{getD-set-same}
+use Rattle.regions.specs.Regions.{SYMBOLS, SCOPES, PENDING, BINDINGS, end}
 use Rattle.model.specs.Intern.{bindDef}
-use Rattle.laws.specs.Frame.{Agree}
+use Rattle.laws.specs.Frame.{Frame}
+use Rattle.laws.proofs.Frame.{frame-none, frame-then, frame-wider, frame-store}
 use Rattle.walk.specs.Walk.{treeAt}
 use Rattle.symbols.specs.Words.{pendingFrom}
 use Rattle.symbols.proofs.Words.{words-more, words-agree}
@@ -29,21 +31,29 @@ use Rattle.intern.specs.Words.{Words, Kept}
 
 pub words-none : (n held top : ℕ) (ws : List ℕ) → Words n held top ws ws
 words-none n held top ws = record {
-  long = refl;
+  frame = frame-none (SYMBOLS .first) (end BINDINGS) ws;
   scopes = λ k l r. refl;
   pending = λ k l r. refl;
   bound = λ k l r. refl;
-  later = λ k l. refl;
 }
 
 pub words-then : {n held top m held′ top′ : ℕ} {ws ws₁ ws₂ : List ℕ} → n ≤ m → held ≤ held′ → top ≤ top′ →
     Words n held top ws ws₁ → Words m held′ top′ ws₁ ws₂ → Words n held top ws ws₂
-words-then a b c h g = record {
-  long = g .long ∙ h .long;
+words-then {ws = ws} {ws₁} {ws₂} a b c h g = record {
+  frame = frame-then (SYMBOLS .first) (end BINDINGS) ws ws₁ ws₂ (h .frame) (g .frame);
   scopes = λ k l r. g .scopes k l (omega arith) ∙ h .scopes k l r;
   pending = λ k l r. g .pending k l (omega arith) ∙ h .pending k l r;
   bound = λ k l r. g .bound k l (omega arith) ∙ h .bound k l r;
-  later = λ k l. g .later k l ∙ h .later k l;
+}
+
+-- a scope opened after the first n
+pub scope-words : (n held top m : ℕ) (ws ws′ : List ℕ) → n ≤ m → Frame (SCOPES .first + m) (end SCOPES) ws ws′ →
+    Words n held top ws ws′
+scope-words n held top m ws ws′ le f = record {
+  frame = frame-wider (SCOPES .first + m) (end SCOPES) (SYMBOLS .first) (end BINDINGS) ws ws′ f (omega arith) (omega arith);
+  scopes = λ k l r. f .before k (omega arith);
+  pending = λ k l r. f .after k (omega arith);
+  bound = λ k l r. f .after k (omega arith);
 }
 
 -- ---- words and state
@@ -61,40 +71,41 @@ kept-then a b h g = record {
 -- a step that makes symbols only
 pub leaves-kept : (at : Here) {ws ws′ : List ℕ} {st st′ : State} → st .scopes ≤ 2049 → Leaves ws ws′ st st′ →
     Kept at ws ws′ st st′
-leaves-kept at few h = record {
+leaves-kept at {ws} {ws′} few h = record {
   words = record {
-    long = h .long;
+    frame = frame-wider (SYMBOLS .first) (PENDING .first) (SYMBOLS .first) (end BINDINGS) ws ws′ (h .frame) (omega arith)
+        (omega arith);
     scopes = λ k l r. h .scope-words k l (omega arith);
-    pending = λ k l r. h .later k (omega arith);
-    bound = λ k l r. h .later k (omega arith);
-    later = λ k l. h .later k (omega arith);
+    pending = λ k l r. h .frame .after k l;
+    bound = λ k l r. h .frame .after k (omega arith);
   };
   scopes = omega (arith, h .scopes);
 }
 
 -- ---- stores that a state does not hang on
 
-module _ (bs ws ws′ : List ℕ) (st : State) (rep : Rep bs ws st) (long : length ws′ ≡ length ws)
-    (low : Agree ws ws′ 0 8200) where
+module _ (bs ws ws′ : List ℕ) (st : State) (rep : Rep bs ws st) (lo hi : ℕ) (le : PENDING .first ≤ lo)
+    (f : Frame lo hi ws ws′) where
   pub later-rep : Rep bs ws′ st
-  later-rep = rep-same bs ws ws′ st rep (same-later bs ws ws′ st rep long low)
+  later-rep = rep-same bs ws ws′ st rep (same-later bs ws ws′ st rep lo hi le f)
 
   pub later-abs : (t : Tables) → Open t (st .entries) → absOf bs ws′ t st ≡ absOf bs ws t st
-  later-abs t open′ = abs-same bs ws ws′ t st rep open′ (same-later bs ws ws′ st rep long low)
+  later-abs = abs-same bs ws ws′ st rep (same-later bs ws ws′ st rep lo hi le f)
+
+pub beside-frame : {top r : ℕ} {ws ws′ : List ℕ} → Beside top r ws ws′ →
+    Frame (BINDINGS .first + 2 * top) (BINDINGS .first + 2 * r) ws ws′
+beside-frame h = record { long = h .size; before = h .low; after = h .high }
 
 -- bindings changed above `top`
-pub beside-words : (n held : ℕ) {top r : ℕ} {ws ws′ : List ℕ} → n ≤ 2049 → held ≤ 256 → r ≤ 1200 →
-    Beside top r ws ws′ → Words n held top ws ws′
-beside-words n held few pend room h = record {
-  long = h .size;
-  scopes = λ k l r. h .low k (omega arith);
-  pending = λ k l r. h .low k (omega arith);
-  bound = λ k l r. h .low k (omega arith);
-  later = λ k l. h .high k (omega arith);
+pub beside-words : (n held : ℕ) {top r : ℕ} {ws ws′ : List ℕ} → n ≤ 2049 → held ≤ PENDING .size → r ≤ 1200 →
+    Frame (BINDINGS .first + 2 * top) (BINDINGS .first + 2 * r) ws ws′ → Words n held top ws ws′
+beside-words n held {top} {r} {ws} {ws′} few pend room h = record {
+  frame = frame-wider (BINDINGS .first + 2 * top) (BINDINGS .first + 2 * r) (SYMBOLS .first) (end BINDINGS) ws ws′ h
+      (omega arith) (omega arith);
+  scopes = λ k l r. h .before k (omega arith);
+  pending = λ k l r. h .before k (omega arith);
+  bound = λ k l r. h .before k (omega arith);
 }
-
-pub beside-low : {top r : ℕ} {ws ws′ : List ℕ} → Beside top r ws ws′ → Agree ws ws′ 0 8200
-beside-low h k l r = h .low k (omega arith)
 
 -- ---- a child's symbol stored at word p, and its definition bound
 
@@ -108,63 +119,55 @@ pub record Stored (bs ws : List ℕ) (t : Tables) (st : State) (i held top symbo
         pendingFrom ws′ from (suc j) ≡ pendingFrom ws from j ++ (symbol ∷ [])
 
 module _ (bs ws : List ℕ) (t : Tables) (st : State) (i held top symbol : ℕ) (ws′ : List ℕ) (top′ : ℕ)
-    (rep : Rep bs ws st) (open′ : Open t (st .entries)) (pend : held < 256) (room : top < 1200)
-    (d : DefBound bs i top symbol (set ws (8200 + held) symbol) ws′ top′) where
+    (rep : Rep bs ws st) (open′ : Open t (st .entries)) (pend : held < PENDING .size) (room : top < 1200)
+    (d : DefBound bs i top symbol (set ws (PENDING .first + held) symbol) ws′ top′) where
   abbrev ws₁ : List ℕ
-  ws₁ = set ws (8200 + held) symbol
+  ws₁ = set ws (PENDING .first + held) symbol
 
-  store-other : (k : ℕ) → (k ≡ 8200 + held → ⊥) → getD ws₁ k 0 ≡ getD ws k 0
-  store-other k h = getD-set-other ws (8200 + held) k symbol 0 h
+  first : Frame (PENDING .first + held) (end PENDING) ws ws₁
+  first = frame-store (PENDING .first + held) (end PENDING) (PENDING .first + held) symbol ws (omega arith) (omega arith)
 
-  both-low : Agree ws ws′ 0 8200
-  both-low k l r = beside-low (d .kept) k l r ∙ store-other k (λ e. omega arith)
-
-  both-long : length ws′ ≡ length ws
-  both-long = d .kept .size ∙ length-set ws (8200 + held) symbol
-
-  stored-rep : Rep bs ws′ st
-  stored-rep = later-rep bs ws ws′ st rep both-long both-low
-
-  stored-abs : absOf bs ws′ t st ≡ absOf bs ws t st
-  stored-abs = later-abs bs ws ws′ st rep both-long both-low t open′
+  both : Frame (PENDING .first) (end BINDINGS) ws ws′
+  both =
+      frame-then (PENDING .first) (end BINDINGS) ws ws₁ ws′
+      (frame-wider (PENDING .first + held) (end PENDING) (PENDING .first) (end BINDINGS) ws ws₁ first (omega arith)
+      (omega arith))
+      (frame-wider (BINDINGS .first + 2 * top) (BINDINGS .first + 2 * top′) (PENDING .first) (end BINDINGS) ws₁ ws′
+      (beside-frame (d .kept)) (omega arith) (omega (arith, d .most)))
 
   stored-env : envOf ws′ top′ ≡ bindDef (treeAt bs i) symbol (envOf ws top)
   stored-env =
       d .env
       ∙ ap (bindDef (treeAt bs i) symbol)
-      (env-words ws₁ ws top (λ k l r. store-other k (λ e. omega arith)))
+      (env-words ws₁ ws top (λ k l r. first .after k (omega arith)))
 
   stored-words : (n : ℕ) → n ≤ 2049 → Words n held top ws ws′
-  stored-words n few = words-then (omega arith) (omega arith) (omega arith) first
-      (beside-words n held few (omega arith) (omega (arith, d .most)) (d .kept))
-    where
-      first : Words n held top ws ws₁
-      first = record {
-        long = length-set ws (8200 + held) symbol;
-        scopes = λ k l r. store-other k (λ e. omega arith);
-        pending = λ k l r. store-other k (λ e. omega arith);
-        bound = λ k l r. store-other k (λ e. omega arith);
-        later = λ k l. store-other k (λ e. omega arith);
-      }
+  stored-words n few = words-then (omega arith) (omega arith) (omega arith) (record {
+    frame = frame-wider (PENDING .first + held) (end PENDING) (SYMBOLS .first) (end BINDINGS) ws ws₁ first (omega arith)
+        (omega arith);
+    scopes = λ k l r. first .before k (omega arith);
+    pending = λ k l r. first .before k r;
+    bound = λ k l r. first .after k l;
+  }) (beside-words n held few (omega arith) (omega (arith, d .most)) (beside-frame (d .kept)))
 
-  stored-at : getD ws′ (8200 + held) 0 ≡ symbol
+  stored-at : getD ws′ (PENDING .first + held) 0 ≡ symbol
   stored-at =
-      d .kept .low (8200 + held) (omega arith)
-      ∙ getD-set-same ws (8200 + held) symbol 0 (omega (arith, rep .words))
+      beside-frame (d .kept) .before (PENDING .first + held) (omega arith)
+      ∙ getD-set-same ws (PENDING .first + held) symbol 0 (omega (arith, rep .arena .scoped .words))
 
   stored-pending : (from j : ℕ) → from + j ≡ held →
       pendingFrom ws′ from (suc j) ≡ pendingFrom ws from j ++ (symbol ∷ [])
   stored-pending from j e =
-      let at : 8200 + from + j ≡ 8200 + held = omega arith in
+      let at : PENDING .first + from + j ≡ PENDING .first + held = omega arith in
       let old : pendingFrom ws′ from j ≡ pendingFrom ws from j =
-      words-agree ws ws′ (8200 + from) j (λ k l r. stored-words 0 (omega arith) .pending k (omega arith) (omega
+      words-agree ws ws′ (PENDING .first + from) j (λ k l r. stored-words 0 (omega arith) .pending k (omega arith) (omega
       arith)) in
-      words-more ws′ (8200 + from) j ∙ rw (at, old, stored-at)
+      words-more ws′ (PENDING .first + from) j ∙ rw (at, old, stored-at)
 
   pub stored : Stored bs ws t st i held top symbol ws′ top′
   stored = record {
-    rep = stored-rep;
-    abs = stored-abs;
+    rep = later-rep bs ws ws′ st rep (PENDING .first) (end BINDINGS) (omega arith) both;
+    abs = later-abs bs ws ws′ st rep (PENDING .first) (end BINDINGS) (omega arith) both t open′;
     env = stored-env;
     words = stored-words;
     pending = stored-pending;

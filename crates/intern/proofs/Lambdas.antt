@@ -7,6 +7,7 @@ use mathlib.Core.Option.{some}
 use mathlib.Core.List.{List, []}
 use native.Mathlib.Omega.{arith}
 use lib.ListN.{length}
+use Rattle.regions.specs.Regions.{SCOPES}
 use Rattle.model.specs.Tree.{Rec, depth}
 use Rattle.model.specs.Forest.{recordCount}
 use Rattle.model.specs.Binding.{argsOf}
@@ -140,7 +141,7 @@ module _ (bs ws : List ℕ) (t : Tables) (st : State) (i : ℕ) (at : Here) (sou
 
           body-word : scopeWord ws₂ (e .at .scope) ≡ scopeWord ws₁ (e .at .scope)
           body-word =
-              v .kept .words .scopes (5120 + e .at .scope) (omega arith) (omega (arith, body .body .low))
+              v .kept .words .scopes (SCOPES .first + e .at .scope) (omega arith) (omega (arith, body .body .low))
 
           pub lambda-body : BodyOf ws₂ (k .st .scopes) (at .scope) (e .at .scope) own
           lambda-body = record {

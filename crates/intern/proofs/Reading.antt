@@ -8,6 +8,7 @@ use mathlib.Core.List.{List, [], _∷_, _++_}
 use native.Mathlib.Omega.{arith}
 use native.Mathlib.Numerals.{add-one}
 use lib.ListN.{length, set}
+use Rattle.regions.specs.Regions.{SCOPES, PENDING}
 use Rattle.model.specs.Answer.{good}
 use Rattle.model.specs.Tree.{Tree, Trees, cons, isNil, many, takeT, dropT, size, sizes, depth, depths}
 use Rattle.model.specs.Forest.{recordCount}
@@ -125,7 +126,7 @@ module _ (bs : List ℕ) (t : Tables) (i count op : ℕ) (at : Here) (ws₀ : Li
       scope-low = omega (arith, h₀ .stands .scope, h .kept .scopes)
 
       scope-kept : scopeWord ws (at .scope) ≡ scopeWord ws₀ (at .scope)
-      scope-kept = h .kept .words .scopes (5120 + at .scope) (omega arith) (omega (arith, h₀ .stands .scope))
+      scope-kept = h .kept .words .scopes (SCOPES .first + at .scope) (omega arith) (omega (arith, h₀ .stands .scope))
 
       next-stands : Stands bs ws t (k .st) (k .next) (depth u) (childAt at j top)
       next-stands = record {
@@ -203,14 +204,14 @@ module _ (bs : List ℕ) (t : Tables) (i count op : ℕ) (at : Here) (ws₀ : Li
           -- ---- a child read
 
           module _ (ok : r .step .number ≡ 0) (ws₂ : List ℕ) (top′ : ℕ)
-              (d₀ : DefBound bs (k .next) top (r .step .symbol) (set ws₁ (8200 + at .held + j) (r .step .symbol)) ws₂
+              (d₀ : DefBound bs (k .next) top (r .step .symbol) (set ws₁ (PENDING .first + at .held + j) (r .step .symbol)) ws₂
               top′)
             where
               abbrev s : ℕ
               s = r .step .symbol
 
-              d : DefBound bs (k .next) top s (set ws₁ (8200 + (at .held + j)) s) ws₂ top′
-              d = let e : 8200 + (at .held + j) ≡ 8200 + at .held + j = omega arith in rw e d₀
+              d : DefBound bs (k .next) top s (set ws₁ (PENDING .first + (at .held + j)) s) ws₂ top′
+              d = let e : PENDING .first + (at .held + j) ≡ PENDING .first + at .held + j = omega arith in rw e d₀
 
               next-is : r .next ≡ k .next + size u
               next-is = v .past ok .0
@@ -246,7 +247,7 @@ module _ (bs : List ℕ) (t : Tables) (i count op : ℕ) (at : Here) (ws₀ : Li
               pending₂ =
                   after₁ .pending (at .held) j refl
                   ∙ ap (λ (z : List ℕ). z ++ (s ∷ []))
-                  (words-agree ws ws₁ (8200 + at .held) j
+                  (words-agree ws ws₁ (PENDING .first + at .held) j
                   (λ x l y. v .kept .words .pending x (omega arith) (omega arith)))
 
               branches₂ : branchesOf (noted thunk (k .branches) (k .st .scopes))
@@ -268,7 +269,7 @@ module _ (bs : List ℕ) (t : Tables) (i count op : ℕ) (at : Here) (ws₀ : Li
                   ∙ left-whole
 
               step₂ : Kept (childAt at j top) ws₁ ws₂ st₁ st₁
-              step₂ = record { words = after₁ .words (st₁ .scopes) (v .rep .few-scopes); scopes = omega arith }
+              step₂ = record { words = after₁ .words (st₁ .scopes) (v .rep .arena .scoped .few-scopes); scopes = omega arith }
 
               turned : Reading bs t i count op at ws₀ st₀ ws₂ (withChild k thunk r) top′ (j + 1)
               turned = record {
@@ -294,7 +295,7 @@ module _ (bs : List ℕ) (t : Tables) (i count op : ℕ) (at : Here) (ws₀ : Li
                   pending = omega (arith, next-room .0);
                   more = omega (arith, h .more, d .least);
                   few = omega (arith, forward, h .few, d .most);
-                  branched = noted-branched (k .branches) (k .st .scopes) thunk (h .branched) (h .rep .few-scopes);
+                  branched = noted-branched (k .branches) (k .st .scopes) thunk (h .branched) (h .rep .arena .scoped .few-scopes);
                   thunks =
                       subst (λ (z : ℕ). Thunks z (noted thunk (k .branches) (k .st .scopes) .count)) (sym (add-one j))
                       (noted-thunks (k .branches) (k .st .scopes) op j thunk et (h .thunks));
@@ -372,7 +373,7 @@ module _ (bs : List ℕ) (t : Tables) (i count op : ℕ) (at : Here) (ws₀ : Li
               (next-refused (g .left - 1) some thunk et ws₁ r v n)
 
           pub reading-turn : r .step .number ≡ 0 → (ws₂ : List ℕ) (top′ : ℕ) →
-              DefBound bs (k .next) top (r .step .symbol) (set ws₁ (8200 + at .held + j) (r .step .symbol)) ws₂ top′ →
+              DefBound bs (k .next) top (r .step .symbol) (set ws₁ (PENDING .first + at .held + j) (r .step .symbol)) ws₂ top′ →
               (z : Kids) → z ≡ withChild k thunk r → Reading bs t i count op at ws₀ st₀ ws₂ z top′ (j + 1)
           reading-turn ok ws₂ top′ d z e =
               subst (λ (y : Kids). Reading bs t i count op at ws₀ st₀ ws₂ y top′ (j + 1)) (sym e)

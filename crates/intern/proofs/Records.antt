@@ -12,6 +12,7 @@ use native.Mathlib.Numerals.{add-one}
 use borrow.Author.Tests.{eq-eqb, ne-eqb}
 use lib.Dec.{eqb}
 use lib.ListN.{getD}
+use Rattle.regions.specs.Regions.{SLOTS, SCOPES, PENDING}
 use Rattle.model.specs.Answer.{refused, _>>=_}
 use Rattle.model.specs.Lists.{last}
 use Rattle.model.specs.Tree.{Rec, many, size, sizes, depth, depths}
@@ -72,7 +73,7 @@ module _ {bs ws ws₁ : List ℕ} {t : Tables} {st st₁ : State} (i : ℕ) (at 
     opened = open-later t (st₁ .entries) open′ (r .st .entries) (a .leaves .entries);
     is = a .is;
     past = λ z. p;
-    kept = kept-then (omega arith) (omega arith) kept (leaves-kept at (rep .few-scopes) (a .leaves));
+    kept = kept-then (omega arith) (omega arith) kept (leaves-kept at (rep .arena .scoped .few-scopes) (a .leaves));
   }
 
 -- ---- definitions and blocks, and any other record
@@ -193,7 +194,7 @@ stands-later {at} h rep open′ kept = record {
       omega (
         arith,
         h .level,
-        ap levelOf (kept .words .scopes (5120 + at .scope) (omega arith) (omega (arith, h .scope))),
+        ap levelOf (kept .words .scopes (SCOPES .first + at .scope) (omega arith) (omega (arith, h .scope))),
       );
   tables = h .tables;
 }
@@ -204,7 +205,7 @@ pub record Gave (bs ws : List ℕ) (t : Tables) (st : State) (i : ℕ) (at : Her
   where
     pub is : kidsRead bs i (at .scope) (envOf ws (at .top)) (absOf bs ws t st) ≡ kidsAnswer bs ws₁ t (at .held) n k
     pub past : Past bs i (size (treeAt bs i)) (restAt bs i) (k .next)
-    pub slots : k .st .slots + (1 + n) ≤ 2560
+    pub slots : k .st .slots + (1 + n) ≤ SLOTS .size
     pub conclude : (cur : ℕ) → cur < st .scopes → Concludes bs ws₁ (k .st) i cur (at .scope) (at .held) n
     pub again : WellAll (kidsAt bs i) b (recAt bs i .opcode) 0 (at .scope) (envOf ws₁ (at .top))
         (absOf bs ws₁ t (k .st)) 1
@@ -269,10 +270,10 @@ module _ (bs : List ℕ) (i : ℕ) (sound : Sound bs) (lt : i < recordCount bs) 
       kids-all = all-results well (suc i) _ kids-give
 
       kids-count : many (kidsAt bs i) ≡ n
-      kids-count = sym (kids-all .count) ∙ words-length ws₁ (8200 + at .held) n
+      kids-count = sym (kids-all .count) ∙ words-length ws₁ (PENDING .first + at .held) n
 
-      kids-slots : k .st .slots + (1 + n) ≤ 2560
-      kids-slots = omega (arith, kids-all .slots, kids-count, v .rep .slots-used)
+      kids-slots : k .st .slots + (1 + n) ≤ SLOTS .size
+      kids-slots = omega (arith, kids-all .slots, kids-count, v .rep .slots .all)
 
       kids-conclude : (cur : ℕ) → cur < st .scopes → Concludes bs ws₁ (k .st) i cur (at .scope) (at .held) n
       kids-conclude cur l = record {
@@ -284,7 +285,7 @@ module _ (bs : List ℕ) (i : ℕ) (sound : Sound bs) (lt : i < recordCount bs) 
         lower = λ j m.
             omega (
               arith,
-              kids-all .results (getD ws₁ (8200 + at .held + j) 0) (pending-in ws₁ (8200 + at .held) n j m) .low,
+              kids-all .results (getD ws₁ (PENDING .first + at .held + j) 0) (pending-in ws₁ (PENDING .first + at .held) n j m) .low,
               symbols-count bs ws₁ t (k .st),
             );
         forced = union-forced (absOf bs ws₁ t (k .st)) (at .scope) (pendingFrom ws₁ (at .held) n) (kids-all .results);

@@ -9,6 +9,7 @@ use mathlib.Core.List.{List, []}
 use native.Mathlib.Omega.{arith}
 use borrow.Author.Tests.{ltb-false}
 use lib.ListN.{length, getD}
+use Rattle.regions.specs.Regions.{SYMBOLS, PENDING, BINDINGS, WORDS, end}
 use Rattle.model.specs.Answer.{refused, good, _>>=_}
 use Rattle.model.specs.Lists.{last}
 use Rattle.model.specs.Tree.{Tree, Trees, node, nil, cons, many, depth, depths}
@@ -17,13 +18,14 @@ use Rattle.model.specs.Accept.{accept}
 use Rattle.model.specs.Intern.{Outs, Env, start, internLast, internAll, internForest}
 use Rattle.model.specs.Intern as intern
 use Rattle.model.specs.Call.{interned}
+use Rattle.laws.specs.Frame.{Frame}
+use Rattle.laws.proofs.Frame.{frame-then, frame-wider}
 use Rattle.laws.proofs.Clear.{Clear, clear-left, clear-right, first-clear}
 use Rattle.laws.proofs.Header.{header-of}
 use Rattle.walk.specs.Walk.{Sound}
 use Rattle.walk.proofs.Bridge.{tree-count}
 use Rattle.walk.proofs.Walking.{trees-there, trees-whole}
 use Rattle.codec.proofs.Accepting.{Passed, accept-passed}
-use Rattle.regions.specs.Regions.{WORDS}
 use Rattle.symbols.specs.Words.{pendingFrom}
 use Rattle.scopes.specs.Scopes.{scopeWord, levelOf}
 use Rattle.bindings.specs.Bindings.{envOf}
@@ -95,7 +97,7 @@ module _ (bs ws : List ℕ) (accepted : accept bs ≡ good (treesOf bs)) where
     shallow = rw whole (forest-flat bs (passed .shallow))
 
     outermost : levelOf (scopeWord ws₁ 0) ≡ 0
-    outermost = ap levelOf (rep .nested .outermost)
+    outermost = ap levelOf (rep .arena .scoped .nested .outermost)
 
     operands₁ : Operands bs ws₁ first st 0 count 0 origin
     operands₁ = record {
@@ -104,7 +106,7 @@ module _ (bs ws : List ℕ) (accepted : accept bs ≡ good (treesOf bs)) where
       stands = record {
         rep = rep;
         opened = started .opened;
-        scope = rep .some-scope;
+        scope = rep .arena .scoped .some-scope;
         held = omega arith;
         top = omega arith;
         level = omega (arith, outermost, shallow);
@@ -143,8 +145,11 @@ module _ (bs ws : List ℕ) (accepted : accept bs ≡ good (treesOf bs)) where
         unfolding interned _>>=_
         interned-is m e = rw (accepted, e)
 
-        later₂ : (j : ℕ) → 10856 ≤ j → getD ws₂ j 0 ≡ getD ws j 0
-        later₂ j l = v .kept .words .later j l ∙ started .later j (omega arith)
+        frame₂ : Frame (SYMBOLS .first) (end BINDINGS) ws ws₂
+        frame₂ =
+            frame-then (SYMBOLS .first) (end BINDINGS) ws ws₁ ws₂
+            (frame-wider (SYMBOLS .first) (PENDING .first) (SYMBOLS .first) (end BINDINGS) ws ws₁ (started .frame)
+            (omega arith) (omega arith)) (v .kept .words .frame)
 
         pub forest-refused : (k .number ≡ 0 → ⊥) →
             Interned bs ws ws₂ (record { st = k .st; symbol = 0; number = k .number; place = k .place })
@@ -156,15 +161,15 @@ module _ (bs ws : List ℕ) (accepted : accept bs ≡ good (treesOf bs)) where
               ∙ sym (interned-is (refused (k .number) (k .place))
               (sym (v .is ∙ all-read) ∙ kids-refused bs ws₂ first 0 count k h));
           low = λ e. absurd (h e);
-          later = later₂;
+          frame = frame₂;
         }
 
         module _ (ok : k .number ≡ 0) where
-          pub forest-last : (0 < count) × (0 + count ≤ 256) × (WORDS ≤ length ws₂)
+          pub forest-last : (0 < count) × (0 + count ≤ PENDING .size) × (WORDS ≤ length ws₂)
           forest-last = (
             omega (arith, is, header-of bs (forest-sound .laid .header) .trees-least),
             v .pending ok,
-            omega (arith, v .rep .words),
+            v .rep .arena .scoped .words,
           )
 
           root-low : last (pendingFrom ws₂ 0 count) < k .st .symbols
@@ -189,5 +194,5 @@ module _ (bs ws : List ℕ) (accepted : accept bs ≡ good (treesOf bs)) where
                 out-good bs ws₂ first (given (k .st) (last (pendingFrom ws₂ 0 count))) refl
                 ∙ sym (interned-is _ (sym (v .is ∙ all-read) ∙ kids-good bs ws₂ first 0 count k ok));
             low = λ z. root-low;
-            later = later₂;
+            frame = frame₂;
           })

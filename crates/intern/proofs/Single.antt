@@ -7,6 +7,7 @@ use mathlib.Core.List.{List, _∷_}
 use native.Mathlib.Omega.{arith}
 use lib.Dec.{eqb}
 use lib.ListN.{getD}
+use Rattle.regions.specs.Regions.{PENDING}
 use Rattle.model.specs.Answer.{refused, good, _>>=_}
 use Rattle.model.specs.Lists.{last}
 use Rattle.model.specs.Tree.{Tree, Trees, nil, cons, many, takeT, dropT, size, sizes, depth, depths}
@@ -54,7 +55,7 @@ one-well {u} w = record {
 -- what the one operand gives
 abbrev pub oneRead : List ℕ → ℕ → Kids → Read
 oneRead ws held k = record {
-  step = record { st = k .st; symbol = getD ws (8200 + held) 0; number = k .number; place = k .place };
+  step = record { st = k .st; symbol = getD ws (PENDING .first + held) 0; number = k .number; place = k .place };
   next = k .next;
 }
 
@@ -65,7 +66,7 @@ one-out bs ws t held k = go (eqb (k .number) 0)
   where
     go : (b : Bool) →
         _≡_ {A = Out} (elim b [
-          | true ↦ good (getD ws (8200 + held) 0, absOf bs ws t (k .st))
+          | true ↦ good (getD ws (PENDING .first + held) 0, absOf bs ws t (k .st))
           | false ↦ refused (k .number) (k .place)
         ]) (internLast (elim b [
           | true ↦ kidsAnswer bs ws t held 1 k

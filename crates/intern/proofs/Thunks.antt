@@ -6,16 +6,15 @@ use mathlib.Core.Path.{_≡_, refl, sym, ap, _∙_, subst}
 use mathlib.Core.Bool.{Bool, true, false}
 use mathlib.Core.List.{List}
 use native.Mathlib.Omega.{arith}
-use lib.ListN.{length, length-set, getD}
-use lib.Seq.{getD-set-other}
+use lib.ListN.{length}
 use lib.Dec.{eqb}
+use Rattle.regions.specs.Regions.{WORDS}
 use Rattle.model.specs.Answer.{refused, good, _>>=_}
 use Rattle.model.specs.Tree.{depth}
 use Rattle.model.specs.Forest.{recordCount}
 use Rattle.model.specs.Intern.{Out, Env, openThunk, closeThunk, internScoped, intern}
 use Rattle.model.specs.Intern as intern
 use Rattle.walk.specs.Walk.{treeAt}
-use Rattle.regions.specs.Regions.{WORDS}
 use Rattle.scopes.specs.Scopes.{scopeWord, levelOf, thunkWord, withThunk}
 use Rattle.bindings.specs.Bindings.{envOf}
 use Rattle.bindings.proofs.Laws.{env-words}
@@ -27,6 +26,7 @@ use Rattle.interner.specs.State.{absOf, Rep}
 use Rattle.interner.specs.Step.{outOf}
 use Rattle.opening.specs.Opening.{withScope, thunkClosed}
 use Rattle.opening.proofs.Counts.{scopes-count}
+use Rattle.opening.proofs.Scopes.{scope-frame}
 use Rattle.opening.proofs.Thunks.{thunk-level, thunk-abs, thunk-rep, closed-abs, closed-rep}
 use Rattle.standing.specs.Standing.{Well}
 use Rattle.intern.specs.declared.Here.{Here}
@@ -35,7 +35,7 @@ use Rattle.intern.specs.declared.Kids.{Kids}
 use Rattle.intern.specs.Steps.{closedRead}
 use Rattle.intern.specs.Words.{Words}
 use Rattle.intern.specs.Intern.{Stands, Reads, RecordRead, InThunk, ThunkRead, Operands, ReadsAll}
-use Rattle.intern.proofs.Kept.{words-then}
+use Rattle.intern.proofs.Kept.{words-then, scope-words}
 use Rattle.intern.proofs.Single.{one-operands, oneRead, one-reads}
 
 -- ---- an answer whose state is closed
@@ -94,11 +94,11 @@ module _ (bs ws : List ℕ) (t : Tables) (st : State) (i : ℕ) (at : Here) (lt 
   pub thunk-room : (WORDS ≤ length ws) × (at .scope < st .scopes) × (st .scopes ≤ 2048) × (t .depth < 64)
       × (st .entries ≤ 512)
   thunk-room = (
-    h .stands .rep .words,
+    h .stands .rep .arena .scoped .words,
     h .stands .scope,
     h .few,
     tables-room,
-    omega (arith, h .stands .rep .few-entries, h .stands .rep .few-symbols),
+    omega (arith, h .stands .rep .entries .few, h .stands .rep .arena .scoped .few),
   )
 
   module _ (ws₁ : List ℕ) (inside : State) (wrote : ws₁ ≡ withThunk ws (st .scopes) (at .scope))
@@ -106,17 +106,10 @@ module _ (bs ws : List ℕ) (t : Tables) (st : State) (i : ℕ) (at : Here) (lt 
     abbrev own : Here
     own = record { scope = st .scopes; held = at .held; top = at .top }
 
-    other : (k : ℕ) → (k ≡ 5120 + st .scopes → ⊥) → getD ws₁ k 0 ≡ getD ws k 0
-    other k n = rw wrote (getD-set-other ws (5120 + st .scopes) k (thunkWord ws (at .scope)) 0 n)
-
     words₁ : Words (st .scopes) (at .held) (at .top) ws ws₁
-    words₁ = record {
-      long = ap length wrote ∙ length-set ws (5120 + st .scopes) (thunkWord ws (at .scope));
-      scopes = λ k l r. other k (λ e. omega arith);
-      pending = λ k l r. other k (λ e. omega (arith, h .few));
-      bound = λ k l r. other k (λ e. omega (arith, h .few));
-      later = λ k l. other k (λ e. omega (arith, h .few));
-    }
+    words₁ =
+        scope-words (st .scopes) (at .held) (at .top) (st .scopes) ws ws₁ (omega arith)
+        (rw wrote (scope-frame bs ws st (h .stands .rep) (h .few) (thunkWord ws (at .scope))))
 
     rep₁ : Rep bs ws₁ inside
     rep₁ =

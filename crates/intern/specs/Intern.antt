@@ -8,7 +8,8 @@ use mathlib.Core.Bool.{Bool, true, false}
 use mathlib.Core.Option.{some}
 use mathlib.Core.List.{List, []}
 use lib.Dec.{eqb}
-use lib.ListN.{length, getD}
+use lib.ListN.{length}
+use Rattle.regions.specs.Regions.{SYMBOLS, PENDING, BINDINGS, end}
 use Rattle.model.specs.Answer.{refused, good}
 use Rattle.model.specs.Tree.{Rec, Tree, Trees, many, takeT, dropT, size, sizes, depth, depths}
 use Rattle.model.specs.Forest.{recordCount}
@@ -18,6 +19,7 @@ use Rattle.model.specs.Intern.{internLast, internGeneral, internFunc, internKin
 use Rattle.model.specs.Intern as intern
 use Rattle.model.specs.Call.{interned}
 use Rattle.laws.specs.Range.{range}
+use Rattle.laws.specs.Frame.{Frame}
 use Rattle.record.specs.Record.{rowAt}
 use Rattle.walk.specs.Walk.{treesFrom, recAt, kidsAt, restAt, treeAt}
 use Rattle.symbols.specs.Words.{pendingFrom}
@@ -217,7 +219,7 @@ pub record ReadsAll (bs ws : List ℕ) (t : Tables) (st : State) (i count op : �
   pub is : kidsOf bs ws′ t (at .held) count k
       ≡ internAll (trees bs i count) op 0 i (at .scope) (envOf ws (at .top)) (absOf bs ws t st)
   pub past : k .number ≡ 0 → Past bs i (sizes (trees bs i count)) (dropT count (treesFrom bs i)) (k .next)
-  pub pending : k .number ≡ 0 → at .held + count ≤ 256
+  pub pending : k .number ≡ 0 → at .held + count ≤ PENDING .size
   pub branched : Branched (k .branches)
   pub kept : Kept at ws ws′ st (k .st)
 
@@ -259,4 +261,4 @@ pub record Interned (bs ws ws′ : List ℕ) (r : Step) : Type 0 where
   pub rep : Rep bs ws′ (r .st)
   pub is : outOf bs ws′ first r ≡ interned bs
   pub low : r .number ≡ 0 → r .symbol < r .st .symbols
-  pub later : (k : ℕ) → 10856 ≤ k → getD ws′ k 0 ≡ getD ws k 0
+  pub frame : Frame (SYMBOLS .first) (end BINDINGS) ws ws′

@@ -17,12 +17,12 @@ use tables::Tables;
 ghost use mathlib.Core.Path.{_≡_};
 ghost use Prim.Native.Nat.{_<_, _≤_};
 ghost use lib.ListN.{length};
+ghost use Rattle.regions.specs.Regions.{WORDS};
 ghost use Rattle.model.specs.Answer.{good};
 ghost use Rattle.model.specs.Forest.{recordCount, treesOf};
 ghost use Rattle.model.specs.Accept.{accept};
 ghost use Rattle.model.specs.Opcodes.{SelectField, SelectFieldOp};
 ghost use Rattle.walk.specs.Walk.{recAt, Sound};
-ghost use Rattle.regions.specs.Regions.{WORDS};
 ghost use Rattle.tables.specs.Tables.{Open};
 ghost use Rattle.interner.specs.State.{Rep};
 ghost use Rattle.concluding.specs.Concluding.{Branched};
@@ -335,7 +335,7 @@ fn in_thunk(forest: &[u8], work: &mut [u32], t: Tables, i: usize, at: Here, st: 
 
 // ---- a forest
 
-// The root's symbol: the last tree is the root. Rules out: the first tree's symbol; words from 10,856 on changed.
+// The root's symbol: the last tree is the root. Rules out: the first tree's symbol; words after the bindings changed.
 pub fn forest(forest: &[u8], work: &mut [u32]) -> Step
     requires { ⌜ accept (now forest) ≡ good (treesOf (now forest)) ⌝ }
     requires { ⌜ WORDS ≤ length (now work) ⌝ }

@@ -13,6 +13,7 @@ use native.Mathlib.Nat.{eq-or-lt-of-le}
 use borrow.Author.Tests.{lt-ltb, le-ltb, ne-eqb}
 use lib.Dec.{eqb}
 use lib.ListN.{length, length-append}
+use Rattle.regions.specs.Regions.{SCOPES}
 use Rattle.model.specs.Lists.{anyIn}
 use Rattle.model.specs.Answer.{refused, good, _>>=_, guard}
 use Rattle.model.specs.Tree.{Rec}
@@ -125,7 +126,7 @@ module _ (bs ws : List ℕ) (st : State) (cur at levels : ℕ) (rep : Rep bs ws 
     first = omega arith;
     second = omega arith;
     current = current;
-    slots = omega (arith, rep .few-slots);
+    slots = omega (arith, rep .slots .few);
     pending = omega arith;
     lower = λ k lt. absurd (omega arith);
     sourced = refl;
@@ -140,9 +141,9 @@ module _ (bs ws : List ℕ) (st : State) (cur at levels : ℕ) (rep : Rep bs ws 
     apart =
         each-args scs (λ xs. anyIn xs (st .symbols ∷ []) ≡ false) (st .scopes) (outward scs cur)
         (subst (λ (z : ℕ). Below z (outward scs cur)) (scopes-length ws (st .scopes))
-        (outward-below ws (st .scopes) (rep .nested) cur current))
+        (outward-below ws (st .scopes) (rep .arena .scoped .nested) cur current))
         (λ s lt xs e. apart-anyIn xs (st .symbols ∷ []) (λ a i j.
-        let l = rep .arguments s lt xs (sym (scope-args ws (st .scopes) (st .scopes) s (rep .nested) lt lt) ∙ e) a i in
+        let l = rep .levels .arguments s lt xs (sym (scope-args ws (st .scopes) (st .scopes) s (rep .arena .scoped .nested) lt lt) ∙ e) a i in
         omega (arith, l .low, in-one j)))
 
     pub arg-levels : Levels ws st cur (st .symbols ∷ []) levels
@@ -151,7 +152,7 @@ module _ (bs ws : List ℕ) (st : State) (cur at levels : ℕ) (rep : Rep bs ws 
       are = λ ws′ stored j.
           sym (anyHas-one ws′ j (st .symbols) ∙ ap (λ (z : ℕ). has z j) (stored .own));
       tracks =
-          let e = scope-level ws (st .scopes) (st .scopes) cur (rep .nested) current current in
+          let e = scope-level ws (st .scopes) (st .scopes) cur (rep .arena .scoped .nested) current current in
           tracks-apart scs levels (st .symbols ∷ []) (outward scs cur) (levelOf (scopeWord ws cur)) (omega (arith, e))
           (λ j le. are j ∙ ne-eqb j (levelOf (scopeWord ws cur) + 1) (λ d. omega arith)) apart;
     }
@@ -182,7 +183,7 @@ module _ (bs ws₀ : List ℕ) (st₀ : State) (cur at count : ℕ) where
   -- the scope is as it was
   pub cur-level : (k : ℕ) (ws : List ℕ) (s : State) → Rep bs ws₀ st₀ → cur < st₀ .scopes →
       SoFar bs ws₀ st₀ cur at count k ws s → scopeWord ws cur ≡ scopeWord ws₀ cur
-  cur-level k ws s rep lt f = f .leaves .scope-words (5120 + cur) (omega arith) (omega (arith, rep .few-scopes))
+  cur-level k ws s rep lt f = f .leaves .scope-words (SCOPES .first + cur) (omega arith) (omega (arith, rep .arena .scoped .few-scopes))
 
   pub next-levels : (k levels : ℕ) (ws : List ℕ) (s : State) → Rep bs ws₀ st₀ → at < recordCount bs →
       cur < st₀ .scopes → ((j : ℕ) → has levels j ≡ eqb j (levelOf (scopeWord ws₀ cur) + 1)) →
@@ -279,5 +280,5 @@ module _ (bs ws₀ : List ℕ) (st₀ : State) (cur at count : ℕ) where
             ≡ outsOf bs ws₀ t count (overFull st₀ (arg at))
         full-args t xs l =
             let n = syms-length bs ws₀ (st₀ .symbols) in
-            args-full at cur (rowAt bs at .rec) xs (absOf bs ws₀ t st₀) (omega (arith, n, rep .few-symbols))
+            args-full at cur (rowAt bs at .rec) xs (absOf bs ws₀ t st₀) (omega (arith, n, rep .arena .scoped .few))
             (omega (arith, n))

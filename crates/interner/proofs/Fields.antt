@@ -10,6 +10,7 @@ use native.Mathlib.Omega.{arith}
 use borrow.Author.Tests.{eq-eqb, ne-eqb}
 use lib.Dec.{eqb}
 use lib.ListN.{getD}
+use Rattle.regions.specs.Regions.{PENDING}
 use Rattle.model.specs.Lists.{union}
 use Rattle.model.specs.Answer.{refused, good, _>>=_}
 use Rattle.model.specs.Tree.{Rec}
@@ -75,7 +76,7 @@ module _ (bs ws : List ℕ) (st : State) (cur at i held : ℕ) where
       current = h .current;
       slots = h .slots;
       pending = h .pending;
-      lower = λ k l. let e : 8200 + held + k ≡ 8200 + held = omega arith in rw e (h .low);
+      lower = λ k l. let e : PENDING .first + held + k ≡ PENDING .first + held = omega arith in rw e (h .low);
       sourced = record {
         plain = λ e. absurd (omega arith);
         made = λ n. record { shape = h .shape; opcode = h .opcode; one = refl };
@@ -88,15 +89,15 @@ module _ (bs ws : List ℕ) (st : State) (cur at i held : ℕ) where
 module _ (bs ws : List ℕ) (t : Tables) (st : State) (cur at i held : ℕ) where
   pub field-is : 0 < i →
       finishOf bs ws t st cur (field at i) held 1
-      ≡ fieldOf at cur (rowAt bs at .rec) i (getD ws (8200 + held) 0) (absOf bs ws t st)
+      ≡ fieldOf at cur (rowAt bs at .rec) i (getD ws (PENDING .first + held) 0) (absOf bs ws t st)
   unfolding wordsFrom
   field-is lt =
-      ap (λ (r : Rec). finish at cur r (getD ws (8200 + held) 0 ∷ []) [] (operation []) (absOf bs ws t st))
+      ap (λ (r : Rec). finish at cur r (getD ws (PENDING .first + held) 0 ∷ []) [] (operation []) (absOf bs ws t st))
       (key-field bs at i lt)
 
   pub field-answers : (ws′ : List ℕ) (r : Step) → 0 < i →
       Answers bs ws t st (finishOf bs ws t st cur (field at i) held 1) ws′ r →
-      Answers bs ws t st (fieldOf at cur (rowAt bs at .rec) i (getD ws (8200 + held) 0) (absOf bs ws t st)) ws′ r
+      Answers bs ws t st (fieldOf at cur (rowAt bs at .rec) i (getD ws (PENDING .first + held) 0) (absOf bs ws t st)) ws′ r
   field-answers ws′ r lt a =
       record { rep = a .rep; leaves = a .leaves; low = a .low; is = a .is ∙ field-is lt }
 
@@ -112,7 +113,7 @@ module _ (bs ws : List ℕ) (t : Tables) (r : Step) where
 
 module _ (bs ws : List ℕ) (t : Tables) (st : State) (cur at held : ℕ) where
   abbrev pend : List ℕ → ℕ
-  pend us = getD us (8200 + held) 0
+  pend us = getD us (PENDING .first + held) 0
 
   abbrev own : Rec
   own = rowAt bs at .rec
@@ -128,7 +129,7 @@ module _ (bs ws : List ℕ) (t : Tables) (st : State) (cur at held : ℕ) where
         (finish-keeps at cur (fieldRec own i) (pend ws ∷ []) [] (operation []) (absOf bs ws t st))
 
     pub same-pending : pend ws₁ ≡ pend ws
-    same-pending = h .leaves .later (8200 + held) (omega arith)
+    same-pending = h .leaves .frame .after (PENDING .first + held) (omega arith)
 
     pub projects-next : Rep bs ws st → Projects bs ws st cur at held 2 → Projects bs ws₁ (a .st) cur at held 1
     projects-next rep p =
@@ -142,7 +143,7 @@ module _ (bs ws : List ℕ) (t : Tables) (st : State) (cur at held : ℕ) where
           shape = p .shape;
           opcode = p .opcode;
           current = omega (arith, p .current, h .leaves .scopes);
-          slots = omega (arith, p .slots, k .slots, rep .slots-used, h .rep .slots-used);
+          slots = omega (arith, p .slots, k .slots, rep .slots .all, h .rep .slots .all);
           pending = p .pending;
           low = omega (arith, p .low, same-pending, h .leaves .more);
           forced =
@@ -158,7 +159,7 @@ module _ (bs ws : List ℕ) (t : Tables) (st : State) (cur at held : ℕ) where
 
 module _ (bs ws : List ℕ) (t : Tables) (st : State) (cur at held : ℕ) where
   abbrev pend′ : List ℕ → ℕ
-  pend′ us = getD us (8200 + held) 0
+  pend′ us = getD us (PENDING .first + held) 0
 
   abbrev own′ : Rec
   own′ = rowAt bs at .rec
@@ -231,7 +232,8 @@ module _ (bs ws : List ℕ) (t : Tables) (st : State) (cur at held : ℕ) where
         low-a = omega (arith, h .low, g .leaves .more)
 
         pub room-memo : b .st .memo < 512
-        room-memo = memo-room bs ws₂ (b .st) (pend′ ws) (g .rep) low-p still-new
+        room-memo =
+            omega (arith, memo-room bs ws₂ (b .st) (pend′ ws) (g .rep) low-p still-new, g .rep .arena .scoped .few)
 
         still-open : Open t (b .st .entries)
         still-open =
@@ -284,7 +286,7 @@ module _ (bs ws : List ℕ) (t : Tables) (st : State) (cur at held : ℕ) where
     pub recalled : (x y : ℕ) (r : Step) → Rep bs ws st → recall (memoOf ws (st .memo)) (pend′ ws) ≡ some (x, y) →
         r ≡ given st (pick i (x, y)) → Answers bs ws t st pairOf ws r
     recalled x y r rep f e =
-        let low = recall-low (st .symbols) (memoOf ws (st .memo)) (pend′ ws) x y (rep .remembered) f in
+        let low = recall-low (st .symbols) (memoOf ws (st .memo)) (pend′ ws) x y (rep .memo .below) f in
         subst (Answers bs ws t st pairOf ws) (sym e) (record {
           rep = rep;
           leaves = leaves-none ws st;

@@ -27,6 +27,7 @@ use Rattle.tables.specs.Tables.{foundOf, entries, tables, tablesOf, Open, Entri
 use Rattle.tables.proofs.Stack.{entries-sound}
 use Rattle.interner.specs.declared.State.{State}
 use Rattle.interner.specs.declared.Step.{Step}
+use Rattle.interner.proofs.Same.{used-sound}
 use Rattle.interner.specs.State.{absOf, Rep}
 use Rattle.interner.specs.Step.{stepTo, Answers, allocOf, finishOf, newDeps, Keyed}
 use Rattle.interner.proofs.Sharing.{leaves-none, step-found, out-given}
@@ -100,7 +101,7 @@ module _ (bs ws : List ℕ) (t : Tables) (st : State) (cur : ℕ) (node : Node) 
   found-low s f =
       lookup-low (symsOf bs ws (st .symbols)) (recOf bs node) (pendingFrom ws held count) (st .symbols)
       (tablesOf ws t (st .entries)) s
-      (tables-low ws (st .entries) (st .symbols) (rep .below) (t .base) (t .depth) (st .entries) (opened .starts)
+      (tables-low ws (st .entries) (st .symbols) (rep .entries .below) (t .base) (t .depth) (st .entries) (opened .starts)
       (omega arith))
       (sym f)
 
@@ -149,7 +150,7 @@ module _ (bs ws : List ℕ) (t : Tables) (st : State) (cur : ℕ) (node : Node) 
         (tablesOf ws t (st .entries))) →
         foundOf f ≡ o → o ≡ sought
     found-is f o h e =
-        sym e ∙ (h (st .symbols) (rep .below)
+        sym e ∙ (h (st .symbols) (rep .entries .below)
         ∙ ap (λ (z : Parts). lookup (symsOf bs ws (st .symbols)) (keyRec bs (z .source) (z .field))
         (pendingFrom ws held count) (tablesOf ws t (st .entries))) is)
 
@@ -159,5 +160,5 @@ module _ (bs ws : List ℕ) (st : State) (cur : ℕ) (node : Node) (held count :
 
   pub sought-entries : Entries bs ws (st .entries)
   sought-entries =
-      entries-sound bs ws (st .slots) (st .symbols) (st .entries) (rep .sound) (rep .few-slots) (rep .few-symbols)
-      (omega (arith, rep .few-entries, rep .few-symbols)) (rep .below) (rep .hinted)
+      entries-sound bs ws (st .slots) (st .symbols) (st .entries) (used-sound bs ws st rep) (rep .slots .few) (rep .arena .scoped .few)
+      (omega (arith, rep .entries .few, rep .arena .scoped .few)) (rep .entries .below) (rep .entries .hinted)

@@ -10,13 +10,15 @@ use mathlib.Core.List.{List, [], _∷_}
 use native.Mathlib.Omega.{arith}
 use borrow.Author.Tests.{eq-eqb}
 use lib.Dec.{eqb}
-use lib.ListN.{length, getD, length-set}
-use lib.Seq.{getD-set-other}
+use lib.ListN.{length}
+use Rattle.regions.specs.Regions.{SYMBOLS, MEMO, PENDING, end}
 use Rattle.model.specs.Lists.{isIn, without}
 use Rattle.model.specs.Intern.{recall, remember}
 use Rattle.model.specs.Intern as intern
 use Rattle.laws.proofs.Apart.{none-some, some-none}
+use Rattle.laws.specs.Frame.{Frame}
 use Rattle.laws.specs.Members.{In, Every, Once}
+use Rattle.laws.proofs.Frame.{frame-wider, frame-store}
 use Rattle.laws.proofs.Members.{isIn-true, in-one, without-cases}
 use Rattle.tables.specs.declared.Tables.{Tables}
 use Rattle.tables.specs.Tables.{Open}
@@ -116,44 +118,45 @@ keys-length ws (suc k) = ap suc (keys-length ws k)
 
 module _ (bs ws : List ℕ) (st : State) (p : ℕ) (rep : Rep bs ws st) (low : p < st .symbols)
     (new : recall (memoOf ws (st .memo)) p ≡ none) where
-  pub memo-room : st .memo < 512
+  pub memo-room : st .memo < st .symbols
   memo-room =
       let ms = memoOf ws (st .memo) in
-      let f = once-few (st .symbols) (p ∷ keysIn ms) (recall-new ms p new, rep .once) (λ x i. each x i) in
-      omega (arith, f, keys-length ws (st .memo), rep .few-symbols)
+      let f = once-few (st .symbols) (p ∷ keysIn ms) (recall-new ms p new, rep .memo .once) (λ x i. each x i) in
+      omega (arith, f, keys-length ws (st .memo))
     where
       each : (x : ℕ) → In x (p ∷ keysIn (memoOf ws (st .memo))) → x < st .symbols
       each x (inl e) = omega (arith, low)
-      each x (inr i) = keys-low (st .symbols) (memoOf ws (st .memo)) (rep .remembered) x i
+      each x (inr i) = keys-low (st .symbols) (memoOf ws (st .memo)) (rep .memo .below) x i
 
   module _ (a b : ℕ) (la : a < st .symbols) (lb : b < st .symbols) where
     abbrev ws₁ : List ℕ
     ws₁ = remembered ws (st .memo) p a b
 
-    other : (k : ℕ) → (k ≡ 7688 + st .memo → ⊥) → getD ws₁ k 0 ≡ getD ws k 0
-    other k h = getD-set-other ws (7688 + st .memo) k _ 0 h
+    frame : Frame (MEMO .first + st .memo) (end MEMO) ws ws₁
+    frame = frame-store (MEMO .first + st .memo) (end MEMO) (MEMO .first + st .memo) _ ws (omega arith)
+        (omega (arith, memo-room, rep .arena .scoped .few))
 
     same : Same ws ws₁ st
     same = record {
-      long = length-set ws (7688 + st .memo) _;
-      symbols = λ k l r. other k (λ e. omega (arith, rep .few-symbols));
-      slots = λ k l r. other k (λ e. omega (arith, rep .few-slots));
-      scopes = λ k l r. other k (λ e. omega (arith, rep .few-scopes));
-      entries = λ k l r. other k (λ e. omega (arith, rep .few-entries, rep .few-symbols));
-      memo = λ k l r. other k (λ e. omega arith);
+      long = frame .long;
+      symbols = λ k l r. frame .before k (omega (arith, rep .arena .scoped .few));
+      slots = λ k l r. frame .before k (omega (arith, rep .slots .few));
+      scopes = λ k l r. frame .before k (omega (arith, rep .arena .scoped .few-scopes));
+      entries = λ k l r. frame .before k (omega (arith, rep .entries .few, rep .arena .scoped .few));
+      memo = λ k l r. frame .before k r;
     }
 
     memo-is : memoOf ws₁ (st .memo + 1) ≡ (p, a, b) ∷ memoOf ws (st .memo)
     memo-is =
-        memo-remembered ws (st .memo) p a b (omega (arith, rep .words, memo-room))
-        (omega (arith, low, rep .few-symbols)) (omega (arith, la, rep .few-symbols))
+        memo-remembered ws (st .memo) p a b (omega (arith, rep .arena .scoped .words, rep .arena .scoped .few, memo-room))
+        (omega (arith, low, rep .arena .scoped .few)) (omega (arith, la, rep .arena .scoped .few))
 
     pub abs-remembered : (t : Tables) → Open t (st .entries) →
         absOf bs ws₁ t (withPair st) ≡ remember p a b (absOf bs ws t st)
     abs-remembered t opened =
         ap (λ (ms : List (ℕ × ℕ × ℕ)). withMemo (absOf bs ws₁ t st) ms) memo-is
         ∙ ap (λ (s : intern.State). withMemo s ((p, a, b) ∷ memoOf ws (st .memo)))
-        (abs-same bs ws ws₁ t st rep opened same)
+        (abs-same bs ws ws₁ st rep same t opened)
       where
         withMemo : intern.State → List (ℕ × ℕ × ℕ) → intern.State
         withMemo s ms = record {
@@ -168,31 +171,24 @@ module _ (bs ws : List ℕ) (st : State) (p : ℕ) (rep : Rep bs ws st) (low : p
     rep-remembered =
         let old = rep-same bs ws ws₁ st rep same in
         record {
-          words = old .words;
-          few-symbols = old .few-symbols;
-          slots-used = old .slots-used;
-          few-slots = old .few-slots;
-          some-scope = old .some-scope;
-          few-scopes = old .few-scopes;
-          few-entries = old .few-entries;
-          few-memo = omega (arith, memo-room);
-          few-readings = old .few-readings;
-          below = old .below;
-          hinted = old .hinted;
-          sound = old .sound;
+          arena = old .arena;
+          slots = old .slots;
           sourced = old .sourced;
-          nested = old .nested;
-          levelled = old .levelled;
-          arguments = old .arguments;
-          remembered = rw memo-is ((low, la, lb), rep .remembered);
-          once = rw memo-is (recall-new (memoOf ws (st .memo)) p new, rep .once);
+          levels = old .levels;
+          entries = old .entries;
+          memo = record {
+            few = omega (arith, memo-room);
+            below = rw memo-is ((low, la, lb), rep .memo .below);
+            once = rw memo-is (recall-new (memoOf ws (st .memo)) p new, rep .memo .once);
+          };
+          few-readings = rep .few-readings;
         }
 
     pub leaves-remembered : Leaves ws ws₁ st (withPair st)
     leaves-remembered = record {
-      long = length-set ws (7688 + st .memo) _;
-      scope-words = λ k l r. other k (λ e. omega arith);
-      later = λ k l. other k (λ e. omega (arith, memo-room));
+      frame = frame-wider (MEMO .first + st .memo) (end MEMO) (SYMBOLS .first) (PENDING .first) ws ws₁ frame (omega arith)
+          (omega arith);
+      scope-words = λ k l r. frame .before k (omega arith);
       scopes = refl;
       entries = omega arith;
       readings = refl;

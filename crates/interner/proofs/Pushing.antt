@@ -9,11 +9,14 @@ use mathlib.Core.List.{List, [], _∷_, _++_}
 use native.Mathlib.Omega.{arith}
 use native.Mathlib.Nat.{eq-or-lt-of-le}
 use native.Mathlib.Numerals.{add-one}
-use lib.ListN.{getD}
 use lib.Seq.{getD-at}
+use Rattle.regions.specs.Regions.{SYMBOLS, SLOTS, PENDING, end}
 use Rattle.model.specs.Forest.{recordCount}
 use Rattle.model.specs.Intern.{Sym, noSym, symAt, placement, push}
+use Rattle.model.specs.Intern as intern
+use Rattle.laws.specs.Frame.{Frame}
 use Rattle.laws.specs.Slots.{slotsIn}
+use Rattle.laws.proofs.Frame.{frame-wider}
 use Rattle.laws.proofs.Slots.{slots-more}
 use Rattle.laws.proofs.Header.{header-of}
 use Rattle.record.specs.Record.{Laid}
@@ -21,27 +24,25 @@ use Rattle.key.specs.declared.Node.{Node}
 use Rattle.key.specs.declared.Symbol.{Symbol}
 use Rattle.key.specs.Key.{symbolAt}
 use Rattle.symbols.specs.Words.{pendingFrom}
-use Rattle.symbols.specs.Symbols.{symsOf, symOf, recOf, nodeOf, made, Room}
-use Rattle.symbols.specs.Sourced.{Sourced, AllSourced}
+use Rattle.symbols.specs.Symbols.{symsOf, symOf, recOf, nodeOf, made, Room, AllSound}
+use Rattle.symbols.specs.Sourced.{Sourced}
 use Rattle.symbols.proofs.Laws.{syms-length, made-length, made-before, made-between, made-after, made-symbol, syms-made}
 use Rattle.symbols.proofs.Laws.{made-kids, sound-made}
 use Rattle.symbols.proofs.Words.{words-length}
 use Rattle.tables.specs.declared.Tables.{Tables}
 use Rattle.tables.specs.Tables.{hint, hintOf, Open}
-use Rattle.tables.proofs.Stack.{tables-agree}
 use Rattle.scopes.specs.Scopes.{scopesOf, outward, Placed}
 use Rattle.scopes.proofs.Laws.{scopes-length}
 use Rattle.scopes.proofs.Climb as climb
-use Rattle.scopes.proofs.Open as scopes
 use Rattle.scopes.proofs.Tracks.{Below, outward-below}
 use Rattle.memo.specs.Memo.{memoOf, MemoBelow}
-use Rattle.memo.proofs.Laws as memo
+use Rattle.graph.specs.Graph.{Arena}
 use Rattle.interner.specs.declared.State.{State}
 use Rattle.interner.specs.Levels.{depsAt, Levelled, ArgLevels}
 use Rattle.interner.specs.State.{absOf, Rep}
 use Rattle.interner.specs.Step.{Fresh, Stored, Levels, Pushed, newDeps, withSymbol}
 use Rattle.interner.proofs.Tracks.{climb-low}
-use Rattle.interner.proofs.Same.{Same, symbol-same, rep-same}
+use Rattle.interner.proofs.Same.{used-sound, Same, symbol-same, rep-same, abs-same}
 
 pub memo-more : (n m : ℕ) (ts : List (ℕ × ℕ × ℕ)) → n ≤ m → MemoBelow n ts → MemoBelow m ts
 memo-more n m [] le b = tt
@@ -72,9 +73,9 @@ module _ (bs ws : List ℕ) (st : State) (cur : ℕ) (node : Node) (held count l
   pub scope-low : scope < st .scopes
   scope-low =
       rw (place (st .scopes) deps (fresh .current) (lv .tracks))
-      (climb-low (scopesOf ws (st .scopes)) deps _ (st .scopes) (rep .some-scope)
+      (climb-low (scopesOf ws (st .scopes)) deps _ (st .scopes) (rep .arena .scoped .some-scope)
       (subst (λ (z : ℕ). Below z (outward (scopesOf ws (st .scopes)) cur)) (scopes-length ws (st .scopes))
-      (outward-below ws (st .scopes) (rep .nested) cur (fresh .current))))
+      (outward-below ws (st .scopes) (rep .arena .scoped .nested) cur (fresh .current))))
 
   -- ---- its words
 
@@ -90,30 +91,34 @@ module _ (bs ws : List ℕ) (st : State) (cur : ℕ) (node : Node) (held count l
       few = few;
       slots = fresh .slots;
       pending = fresh .pending;
-      words = omega (arith, rep .words);
+      words = omega (arith, rep .arena .scoped .words);
       fits = record {
         from = omega (arith, fresh .from);
         field = fresh .field;
         branches = fresh .branches;
         first = fresh .first;
         second = fresh .second;
-        kids = omega (arith, rep .few-slots);
+        kids = omega (arith, rep .slots .few);
         count = omega (arith, fresh .pending);
-        scope = omega (arith, scope-low, rep .few-scopes);
+        scope = omega (arith, scope-low, rep .arena .scoped .few-scopes);
       };
     }
 
-    after : (k : ℕ) → 5120 ≤ k → getD ws₁ k 0 ≡ getD ws k 0
-    after k h = made-after ws (st .symbols) held y few k (omega (arith, fresh .slots))
+    frame : Frame (SYMBOLS .first) (end SLOTS) ws ws₁
+    frame = record {
+      long = made-length ws (st .symbols) held y;
+      before = λ k l. absurd (omega arith);
+      after = λ k l. made-after ws (st .symbols) held y few k (omega (arith, fresh .slots));
+    }
 
     same : Same ws ws₁ st
     same = record {
-      long = made-length ws (st .symbols) held y;
+      long = frame .long;
       symbols = made-before ws (st .symbols) held y few;
       slots = λ k l r. made-between ws (st .symbols) held y k (omega arith) (omega arith);
-      scopes = λ k l r. after k (omega arith);
-      entries = λ k l r. after k (omega arith);
-      memo = λ k l r. after k (omega arith);
+      scopes = λ k l r. frame .after k l;
+      entries = λ k l r. frame .after k (omega arith);
+      memo = λ k l r. frame .after k (omega arith);
     }
 
     -- ---- what the state stands for
@@ -122,7 +127,7 @@ module _ (bs ws : List ℕ) (st : State) (cur : ℕ) (node : Node) (held count l
     newSym = symOf bs (symsOf bs ws (st .symbols)) (st .symbols) y (pendingFrom ws held count)
 
     syms-new : symsOf bs ws₁ (suc (st .symbols)) ≡ symsOf bs ws (st .symbols) ++ (newSym ∷ [])
-    syms-new = syms-made ws (st .symbols) held y room bs (st .slots) (omega arith) (rep .sound)
+    syms-new = syms-made ws (st .symbols) held y room bs (st .slots) (omega arith) (used-sound bs ws st rep)
 
     abbrev st₁ : State
     st₁ = withSymbol st count
@@ -131,12 +136,13 @@ module _ (bs ws : List ℕ) (st : State) (cur : ℕ) (node : Node) (held count l
         ≡ push cur (recOf bs node) (pendingFrom ws held count) deps false (nodeOf bs node) (absOf bs ws t st)
     unfolding push symOf
     abs-pushed t opened =
+        let kept = abs-same bs ws ws₁ st rep same t opened in
         rw (
           add-one (st .symbols),
           syms-new,
-          tables-agree ws ws₁ t (st .entries) opened (same .entries),
-          scopes.scopes-kept ws₁ ws (st .scopes) (λ k lt. after (5120 + k) (omega arith)),
-          memo.memo-kept ws₁ ws (st .memo) (λ k lt. after (7688 + k) (omega arith)),
+          ap (λ (z : intern.State). z .tables) kept,
+          ap (λ (z : intern.State). z .scopes) kept,
+          ap (λ (z : intern.State). z .memo) kept,
           ← scope-is t,
         )
 
@@ -168,52 +174,69 @@ module _ (bs ws : List ℕ) (st : State) (cur : ℕ) (node : Node) (held count l
       is = λ j. rw (deps-new, stored .own) (lv .are ws₁ stored j);
     }
 
-    sourced-new : Sourced bs (symbolAt ws₁ (st .symbols) .node) (symbolAt ws₁ (st .symbols) .count)
-    sourced-new = rw (made-symbol ws (st .symbols) held y room) (fresh .sourced)
-
-    sourced-pushed : AllSourced bs ws₁ (st .symbols + 1)
-    sourced-pushed s lt =
+    -- what holds of the new symbol and of the others holds of all
+    each-pushed : (P : ℕ → Type 0) → P (st .symbols) → ((s : ℕ) → s < st .symbols → P s) → (s : ℕ) →
+        s < st .symbols + 1 → P s
+    each-pushed P new others s lt =
         let le : s ≤ st .symbols = omega arith in
-        ⊎-elim (λ e. rw e sourced-new) (λ l. old .sourced s l) (eq-or-lt-of-le le)
+        ⊎-elim (λ e. subst P (sym e) new) (others s) (eq-or-lt-of-le le)
 
-    levelled-pushed : (s : ℕ) → s < st .symbols + 1 → Levelled bs ws₁ s
-    levelled-pushed s lt =
-        let le : s ≤ st .symbols = omega arith in
-        ⊎-elim (λ e. subst (Levelled bs ws₁) (sym e) levelled-new) (λ l. old .levelled s l) (eq-or-lt-of-le le)
+    sound-pushed : AllSound bs ws₁ (st .slots + count) (st .symbols + 1)
+    sound-pushed =
+        rw (add-one (st .symbols))
+        (sound-made ws (st .symbols) held y room bs (st .slots) (omega arith) (used-sound bs ws st rep) (fresh .from)
+        (fresh .lower))
 
-    args-pushed : ArgLevels ws₁ (st .symbols + 1) (st .scopes)
-    args-pushed c lt xs e x i =
-        let h = old .arguments c lt xs e x i in record { low = omega (arith, h .low); one = h .one }
+    arena-pushed : Arena bs ws₁ (st .symbols + 1) (st .scopes)
+    arena-pushed =
+        let h = old .arena .scoped in
+        record {
+          scoped = record {
+            few = omega arith;
+            words = h .words;
+            some-scope = h .some-scope;
+            few-scopes = h .few-scopes;
+            nested = h .nested;
+            placed = each-pushed (λ s. symbolAt ws₁ s .scope < st .scopes)
+                (rw (made-symbol ws (st .symbols) held y room) scope-low) (h .placed);
+          };
+          sound = λ i lt.
+              let s = sound-pushed i lt in
+              record { from = s .from; slots = omega (arith, s .slots, fresh .slots); lower = s .lower };
+        }
 
     slots-pushed : slotsIn (symsOf bs ws₁ (st .symbols + 1)) ≡ st .slots + count
     unfolding symOf
     slots-pushed =
         rw (add-one (st .symbols), syms-new)
         (slots-more (symsOf bs ws (st .symbols)) newSym
-        ∙ omega (arith, rep .slots-used, words-length ws (8200 + held) count))
+        ∙ omega (arith, rep .slots .all, words-length ws (PENDING .first + held) count))
+
+    args-pushed : ArgLevels ws₁ (st .symbols + 1) (st .scopes)
+    args-pushed c lt xs e x i =
+        let h = old .levels .arguments c lt xs e x i in record { low = omega (arith, h .low); one = h .one }
 
     rep-pushed : Rep bs ws₁ st₁
     rep-pushed = record {
-      words = old .words;
-      few-symbols = omega arith;
-      slots-used = slots-pushed;
-      few-slots = fresh .slots;
-      some-scope = rep .some-scope;
-      few-scopes = rep .few-scopes;
-      few-entries = omega (arith, rep .few-entries);
-      few-memo = rep .few-memo;
+      arena = arena-pushed;
+      slots = record { few = fresh .slots; all = slots-pushed; within = λ i lt. sound-pushed i lt .slots };
+      sourced = each-pushed (λ s. Sourced bs (symbolAt ws₁ s .node) (symbolAt ws₁ s .count))
+          (rw (made-symbol ws (st .symbols) held y room) (fresh .sourced)) (old .sourced);
+      levels = record {
+        each = each-pushed (Levelled bs ws₁) levelled-new (old .levels .each);
+        arguments = args-pushed;
+      };
+      entries = record {
+        few = omega (arith, rep .entries .few);
+        below = λ k lt. let h = old .entries .below k lt in omega (arith, h);
+        hinted = old .entries .hinted;
+      };
+      memo = record {
+        few = omega (arith, rep .memo .few);
+        below = memo-more (st .symbols) (st .symbols + 1) (memoOf ws₁ (st .memo)) (omega arith) (old .memo .below);
+        once = old .memo .once;
+      };
       few-readings = rep .few-readings;
-      below = λ k lt. let h = old .below k lt in omega (arith, h);
-      hinted = old .hinted;
-      sound = rw (add-one (st .symbols))
-          (sound-made ws (st .symbols) held y room bs (st .slots) (omega arith) (rep .sound) (fresh .from)
-          (fresh .lower));
-      sourced = sourced-pushed;
-      nested = old .nested;
-      levelled = levelled-pushed;
-      arguments = args-pushed;
-      remembered = memo-more (st .symbols) (st .symbols + 1) (memoOf ws₁ (st .memo)) (omega arith) (old .remembered);
-      once = old .once;
     }
 
     -- ---- the whole
@@ -223,9 +246,9 @@ module _ (bs ws : List ℕ) (st : State) (cur : ℕ) (node : Node) (held count l
       state = refl;
       rep = rep-pushed;
       leaves = record {
-        long = same .long;
-        scope-words = λ k l r. after k l;
-        later = λ k l. after k (omega arith);
+        frame = frame-wider (SYMBOLS .first) (end SLOTS) (SYMBOLS .first) (PENDING .first) ws ws₁ frame (omega arith)
+            (omega arith);
+        scope-words = λ k l r. frame .after k l;
         scopes = refl;
         entries = omega arith;
         readings = refl;

@@ -11,6 +11,7 @@ use native.Mathlib.Omega.{arith}
 use borrow.Author.Tests.{eq-eqb, ne-eqb}
 use lib.Dec.{eqb}
 use lib.ListN.{getD}
+use Rattle.regions.specs.Regions.{PENDING}
 use Rattle.model.specs.Lists.{without}
 use Rattle.model.specs.Intern.{Sym, symAt, scopeAt, unionDeps}
 use Rattle.laws.specs.Members.{In}
@@ -45,7 +46,7 @@ words-in ws at (suc n) s (inr h) =
     (suc (w .0), omega (arith, w .1), rw z (w .2))
 
 module _ (bs ws : List ℕ) (st : State) (rep : Rep bs ws st) (held count : ℕ)
-    (lower : (k : ℕ) → k < count → getD ws (8200 + held + k) 0 < st .symbols) where
+    (lower : (k : ℕ) → k < count → getD ws (PENDING .first + held + k) 0 < st .symbols) where
   abbrev kids : List ℕ
   kids = pendingFrom ws held count
 
@@ -53,7 +54,7 @@ module _ (bs ws : List ℕ) (st : State) (rep : Rep bs ws st) (held count : ℕ)
   syms = symsOf bs ws (st .symbols)
 
   pub kid-low : (k : ℕ) → In k kids → k < st .symbols
-  kid-low k i = let w = words-in ws (8200 + held) count k i in rw (w .2) (lower (w .0) (w .1))
+  kid-low k i = let w = words-in ws (PENDING .first + held) count k i in rw (w .2) (lower (w .0) (w .1))
 
   kid-deps : (k : ℕ) → k < st .symbols → symAt syms k .deps ≡ depsAt bs ws k
   kid-deps k lt = ap (λ (z : Sym). z .deps) (sym-kept bs ws (st .symbols) (suc k) k lt (omega arith))
@@ -62,13 +63,13 @@ module _ (bs ws : List ℕ) (st : State) (rep : Rep bs ws st) (held count : ℕ)
   deps-low a i =
       let w = unionDeps-from syms kids a i in
       let lt : w .0 < st .symbols = kid-low (w .0) (w .1) in
-      let l : a < suc (w .0) = rep .levelled (w .0) lt .low a (subst (In a) (kid-deps (w .0) lt) (w .2)) in
+      let l : a < suc (w .0) = rep .levels .each (w .0) lt .low a (subst (In a) (kid-deps (w .0) lt) (w .2)) in
       omega arith
 
   pub kids-levels : (j : ℕ) → anyHas ws j kids ≡ anyHas ws j (unionDeps syms kids)
   kids-levels j =
       anyHas-deps ws j syms kids (λ k i. let lt = kid-low k i in
-      rep .levelled k lt .is j ∙ ap (anyHas ws j) (sym (kid-deps k lt)))
+      rep .levels .each k lt .is j ∙ ap (anyHas ws j) (sym (kid-deps k lt)))
 
   -- ---- the deps that it will have
 
@@ -85,7 +86,7 @@ module _ (bs ws : List ℕ) (st : State) (rep : Rep bs ws st) (held count : ℕ)
     levels-of levels are forced = record {
       low = λ a i. let l = left-low a i in omega arith;
       are = λ ws′ stored j. are j ∙ sym (anyHas-same ws ws′ j left (λ a i. stored .others a (left-low a i)));
-      tracks = tracks-forced ws (st .scopes) (rep .nested) (st .symbols) (rep .arguments) cur current levels left are
+      tracks = tracks-forced ws (st .scopes) (rep .arena .scoped .nested) (st .symbols) (rep .levels .arguments) cur current levels left are
           forced;
     }
 
@@ -106,7 +107,7 @@ module _ (bs ws : List ℕ) (st : State) (rep : Rep bs ws st) (held count : ℕ)
       (forced : InForce (scopesOf ws (st .scopes)) b (unionDeps syms kids)) where
     around-body : scopeAt (scopesOf ws (st .scopes)) b .around ≡ outward (scopesOf ws (st .scopes)) cur
     around-body =
-        scope-around ws (st .scopes) (st .scopes) b (rep .nested) (body .inside) (body .low) (body .low)
+        scope-around ws (st .scopes) (st .scopes) b (rep .arena .scoped .nested) (body .inside) (body .low) (body .low)
         ∙ ap (λ (z : ℕ). outward (scopesOf ws (st .scopes)) z) (body .parent)
 
     forced-left : InForce (scopesOf ws (st .scopes)) cur (without (unionDeps syms kids) own)
@@ -115,7 +116,7 @@ module _ (bs ws : List ℕ) (st : State) (rep : Rep bs ws st) (held count : ℕ)
       where
         at-body : (r : Bound (scopesOf ws (st .scopes)) b a) → r .scope ≡ b → In a own
         at-body r e =
-            let p = bound-args ws (st .scopes) (rep .nested) b a (body .low) r in
+            let p = bound-args ws (st .scopes) (rep .arena .scoped .nested) b a (body .low) r in
             let d : r .args ≡ own =
             Option·some-injective (r .args) own
             (sym (p .1) ∙ (ap (λ (z : ℕ). argsIn (scopeWord ws z)) e ∙ body .args)) in
@@ -140,9 +141,9 @@ module _ (bs ws : List ℕ) (st : State) (rep : Rep bs ws st) (held count : ℕ)
         has (symbolAt ws a .levels) (levelOf (scopeWord ws b)) ≡ false
     left-level a i =
         let r = forced-left a i in
-        let lt = outside ws (st .scopes) (rep .nested) b (r .scope) (body .low) (body .inside) (own, body .args)
+        let lt = outside ws (st .scopes) (rep .arena .scoped .nested) b (r .scope) (body .low) (body .inside) (own, body .args)
         (subst (λ (z : ℕ). In (r .scope) (outward (scopesOf ws (st .scopes)) z)) (sym (body .parent)) (r .around)) in
-        bound-level ws (st .scopes) (rep .nested) (st .symbols) (rep .arguments) cur current a r .one
+        bound-level ws (st .scopes) (rep .arena .scoped .nested) (st .symbols) (rep .levels .arguments) cur current a r .one
         (levelOf (scopeWord ws b))
         ∙ ne-eqb (levelOf (scopeWord ws b)) (levelOf (scopeWord ws (r .scope))) (λ e. omega arith)
 
@@ -153,7 +154,7 @@ module _ (bs ws : List ℕ) (st : State) (rep : Rep bs ws st) (held count : ℕ)
         levels-of cur current own levels
         (λ j. are j ∙ (ap (λ (z : Bool). not (eqb j (levelOf (scopeWord ws b))) && z) (kids-levels j)
         ∙ levels-without ws j (levelOf (scopeWord ws b)) (unionDeps syms kids) own
-        (λ x i. rep .arguments b (body .low) own (body .args) x i .one j)
+        (λ x i. rep .levels .arguments b (body .low) own (body .args) x i .one j)
         (λ e a i. ap (has (symbolAt ws a .levels)) e ∙ left-level a i)))
         forced-left
 

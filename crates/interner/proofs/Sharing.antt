@@ -7,11 +7,13 @@ use mathlib.Core.Bool.{Bool, true, false}
 use mathlib.Core.List.{List}
 use native.Mathlib.Omega.{arith}
 use borrow.Author.Tests.{lt-ltb, le-ltb, eq-eqb, ne-eqb}
-use lib.ListN.{length, getD, set, length-set}
-use lib.Seq.{getD-set-other}
+use lib.ListN.{length, set}
+use Rattle.regions.specs.Regions.{SYMBOLS, ENTRIES, PENDING, end}
 use Rattle.model.specs.Answer.{refused, good, guard}
 use Rattle.model.specs.Intern.{push, alloc, enter}
 use Rattle.model.specs.Intern as intern
+use Rattle.laws.specs.Frame.{Frame}
+use Rattle.laws.proofs.Frame.{frame-none, frame-then, frame-wider, frame-store}
 use Rattle.record.specs.Record.{rowAt}
 use Rattle.key.specs.declared.Node.{Node}
 use Rattle.key.specs.declared.Parts.{Parts}
@@ -28,7 +30,7 @@ use Rattle.interner.specs.declared.Step.{Step}
 use Rattle.interner.specs.State.{absOf, Rep}
 use Rattle.interner.specs.Step.{outOf, given, overFull, withSymbol, entered, stepTo, Leaves, newDeps}
 use Rattle.interner.specs.Step.{Pushed, allocOf, Answers}
-use Rattle.interner.proofs.Same.{Same, abs-same, rep-same}
+use Rattle.interner.proofs.Same.{used-sound, Same, abs-same, rep-same}
 use Rattle.interner.proofs.Pushing.{pushed-entries, pushed-symbols}
 
 -- ---- entering
@@ -45,64 +47,59 @@ withTables s ts = record {
 module _ (bs ws : List ℕ) (t : Tables) (st : State) (s m : ℕ) (rep : Rep bs ws st) (opened : Open t (st .entries))
     (few : st .entries < 512) (low : s < st .symbols) where
   abbrev ws₁ : List ℕ
-  ws₁ = set ws (7176 + st .entries) (s + 512 * m)
+  ws₁ = set ws (ENTRIES .first + st .entries) (s + 512 * m)
 
-  other : (k : ℕ) → (k ≡ 7176 + st .entries → ⊥) → getD ws₁ k 0 ≡ getD ws k 0
-  other k h = getD-set-other ws (7176 + st .entries) k (s + 512 * m) 0 h
+  frame : Frame (ENTRIES .first + st .entries) (end ENTRIES) ws ws₁
+  frame = frame-store (ENTRIES .first + st .entries) (end ENTRIES) (ENTRIES .first + st .entries) (s + 512 * m) ws
+      (omega arith) (omega arith)
 
   same-entered : Same ws ws₁ st
   same-entered = record {
-    long = length-set ws (7176 + st .entries) (s + 512 * m);
-    symbols = λ k l r. other k (λ e. omega (arith, rep .few-symbols));
-    slots = λ k l r. other k (λ e. omega (arith, rep .few-slots));
-    scopes = λ k l r. other k (λ e. omega (arith, rep .few-scopes));
-    entries = λ k l r. other k (λ e. omega arith);
-    memo = λ k l r. other k (λ e. omega arith);
+    long = frame .long;
+    symbols = λ k l r. frame .before k (omega (arith, rep .arena .scoped .few));
+    slots = λ k l r. frame .before k (omega (arith, rep .slots .few));
+    scopes = λ k l r. frame .before k (omega (arith, rep .arena .scoped .few-scopes));
+    entries = λ k l r. frame .before k r;
+    memo = λ k l r. frame .after k l;
   }
 
   small : s < 512
-  small = omega (arith, rep .few-symbols)
+  small = omega (arith, rep .arena .scoped .few)
 
-  room : 7176 + st .entries < length ws
-  room = omega (arith, rep .words)
+  room : ENTRIES .first + st .entries < length ws
+  room = omega (arith, rep .arena .scoped .words)
 
   abs-entered : absOf bs ws₁ t (entered st) ≡ withTables (absOf bs ws t st) (enter s (tablesOf ws t (st .entries)))
   abs-entered =
       ap (λ (z : List (List ℕ)). withTables (absOf bs ws₁ t st) z)
       (entered-tables t (st .entries) opened ws s m small room)
       ∙ ap (λ (z : intern.State). withTables z (enter s (tablesOf ws t (st .entries))))
-      (abs-same bs ws ws₁ t st rep opened same-entered)
+      (abs-same bs ws ws₁ st rep same-entered t opened)
 
   rep-entered : st .entries < st .symbols → m ≡ hintOf bs ws s → Rep bs ws₁ (entered st)
   rep-entered more own =
       let old = rep-same bs ws ws₁ st rep same-entered in
       record {
-        words = old .words;
-        few-symbols = old .few-symbols;
-        slots-used = old .slots-used;
-        few-slots = old .few-slots;
-        some-scope = old .some-scope;
-        few-scopes = old .few-scopes;
-        few-entries = omega arith;
-        few-memo = old .few-memo;
-        few-readings = old .few-readings;
-        below = entered-below t (st .entries) opened ws s m small room (st .symbols) (rep .below) low;
-        hinted = entered-hinted t (st .entries) opened ws s m small room bs (st .slots) (st .symbols) (rep .sound)
-            (rep .few-slots) (rep .few-symbols) (rep .below) low (rep .hinted) own;
-        sound = old .sound;
+        arena = old .arena;
+        slots = old .slots;
         sourced = old .sourced;
-        nested = old .nested;
-        levelled = old .levelled;
-        arguments = old .arguments;
-        remembered = old .remembered;
-        once = old .once;
+        levels = old .levels;
+        entries = record {
+          few = omega arith;
+          below = entered-below t (st .entries) opened ws s m small room (st .symbols) (rep .entries .below) low;
+          hinted = entered-hinted t (st .entries) opened ws s m small room bs (st .slots) (st .symbols)
+              (used-sound bs ws st rep) (rep .slots .few) (rep .arena .scoped .few) (rep .entries .below) low
+              (rep .entries .hinted) own;
+        };
+        memo = old .memo;
+        few-readings = rep .few-readings;
       }
 
   leaves-entered : Leaves ws ws₁ st (entered st)
   leaves-entered = record {
-    long = length-set ws (7176 + st .entries) (s + 512 * m);
-    scope-words = λ k l r. other k (λ e. omega arith);
-    later = λ k l. other k (λ e. omega arith);
+    frame = frame-wider (ENTRIES .first + st .entries) (end ENTRIES) (SYMBOLS .first) (PENDING .first) ws ws₁ frame
+        (omega arith) (omega arith);
+    scope-words = λ k l r. frame .before k (omega arith);
     scopes = refl;
     entries = omega arith;
     readings = refl;
@@ -111,9 +108,8 @@ module _ (bs ws : List ℕ) (t : Tables) (st : State) (s m : ℕ) (rep : Rep bs 
 
 pub leaves-then : (us ws xs : List ℕ) (a b c : State) → Leaves us ws a b → Leaves ws xs b c → Leaves us xs a c
 leaves-then us ws xs a b c g h = record {
-  long = h .long ∙ g .long;
+  frame = frame-then (SYMBOLS .first) (PENDING .first) us ws xs (g .frame) (h .frame);
   scope-words = λ k l r. h .scope-words k l r ∙ g .scope-words k l r;
-  later = λ k l. h .later k l ∙ g .later k l;
   scopes = h .scopes ∙ g .scopes;
   entries = omega (arith, g .entries, h .entries);
   readings = h .readings ∙ g .readings;
@@ -122,9 +118,8 @@ leaves-then us ws xs a b c g h = record {
 
 pub leaves-none : (ws : List ℕ) (st : State) → Leaves ws ws st st
 leaves-none ws st = record {
-  long = refl;
+  frame = frame-none (SYMBOLS .first) (PENDING .first) ws;
   scope-words = λ k l r. refl;
-  later = λ k l. refl;
   scopes = refl;
   entries = omega arith;
   readings = refl;
@@ -188,7 +183,7 @@ module _ (bs ws : List ℕ) (t : Tables) (st : State) (cur : ℕ) (node : Node) 
       Answers bs ws t st (allocOf bs ws t st cur node held count shared) ws (stepTo st node count 512)
   full-answers shared rep full =
       subst (Answers bs ws t st (allocOf bs ws t st cur node held count shared) ws)
-      (sym (step-full st node count 512 (rep .few-symbols) (omega arith))) (record {
+      (sym (step-full st node count 512 (rep .arena .scoped .few) (omega arith))) (record {
         rep = rep;
         leaves = leaves-none ws st;
         low = omega arith;
@@ -206,13 +201,13 @@ module _ (bs ws : List ℕ) (t : Tables) (st : State) (cur : ℕ) (node : Node) 
     tables-kept = ap (λ (z : intern.State). z .tables) (done .is t opened)
 
     room-entry : st₁ .entries < 512
-    room-entry = omega (arith, pushed-entries done, rep .few-entries)
+    room-entry = omega (arith, pushed-entries done, rep .entries .few)
 
     still-open : Open t (st₁ .entries)
     still-open = subst (Open t) (sym (pushed-entries done)) opened
 
     abbrev ws₂ : List ℕ
-    ws₂ = set ws₁ (7176 + st₁ .entries) (st .symbols + 512 * m)
+    ws₂ = set ws₁ (ENTRIES .first + st₁ .entries) (st .symbols + 512 * m)
 
     newest : st .symbols < st₁ .symbols
     newest = omega (arith, pushed-symbols done)
@@ -248,7 +243,7 @@ module _ (bs ws : List ℕ) (t : Tables) (st : State) (cur : ℕ) (node : Node) 
         (stepTo st node count (st .symbols))) (sym d)
         (subst (Answers bs ws t st (allocOf bs ws t st cur node held count true) ws₂) (sym step-shared) (record {
           rep = rep-entered bs ws₁ t st₁ (st .symbols) m (done .rep) still-open room-entry newest
-              (omega (arith, pushed-symbols done, pushed-entries done, rep .few-entries)) (own-hint p is h);
+              (omega (arith, pushed-symbols done, pushed-entries done, rep .entries .few)) (own-hint p is h);
           leaves = leaves-then ws ws₁ ws₂ st st₁ (entered st₁) (done .leaves)
               (leaves-entered bs ws₁ t st₁ (st .symbols) m (done .rep) still-open room-entry newest);
           low = omega (arith, pushed-symbols done);

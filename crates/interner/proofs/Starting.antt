@@ -5,10 +5,11 @@ use mathlib.Core.Path.{_≡_, refl, sym, ap, _∙_, subst}
 use mathlib.Core.List.{List}
 use native.Mathlib.Omega.{arith}
 use lib.ListN.{length, set, length-set}
-use lib.Seq.{getD-set-same, getD-set-other}
+use lib.Seq.{getD-set-same}
+use Rattle.regions.specs.Regions.{SYMBOLS, SCOPES, PENDING, WORDS}
 use Rattle.model.specs.Intern.{start}
 use Rattle.laws.proofs.Apart.{none-some}
-use Rattle.regions.specs.Regions.{WORDS}
+use Rattle.laws.proofs.Frame.{frame-store}
 use Rattle.symbols.specs.Symbols.{symsOf}
 use Rattle.tables.specs.Tables.{first}
 use Rattle.tables.proofs.Stack.{first-open, first-tables}
@@ -24,35 +25,38 @@ firstState = record { entries = 0; symbols = 0; slots = 0; scopes = 1; memo = 0;
 
 module _ (ws : List ℕ) (words : WORDS ≤ length ws) where
   abbrev ws₁ : List ℕ
-  ws₁ = set ws 5120 0
+  ws₁ = set ws (SCOPES .first) 0
 
   no-args : ArgLevels ws₁ 0 1
   no-args c lt xs e =
       let z : c ≡ 0 = omega arith in
-      let w : scopeWord ws₁ c ≡ 0 = rw z (getD-set-same ws 5120 0 0 (omega arith)) in
+      let w : scopeWord ws₁ c ≡ 0 = rw z (getD-set-same ws (SCOPES .first) 0 0 (omega arith)) in
       none-some (sym (ap argsIn w) ∙ e)
 
   rep-start : (bs : List ℕ) → Rep bs ws₁ firstState
   unfolding symsOf memoOf
   rep-start bs = record {
-    words = omega (arith, length-set ws 5120 0);
-    few-symbols = omega arith;
-    slots-used = refl;
-    few-slots = omega arith;
-    some-scope = omega arith;
-    few-scopes = omega arith;
-    few-entries = omega arith;
-    few-memo = omega arith;
-    few-readings = omega arith;
-    below = λ k lt. absurd (omega arith);
-    hinted = λ k lt. absurd (omega arith);
-    sound = λ i lt. absurd (omega arith);
+    arena = record {
+      scoped = record {
+        few = omega arith;
+        words = omega (arith, length-set ws (SCOPES .first) 0);
+        some-scope = omega arith;
+        few-scopes = omega arith;
+        nested = nested-outermost ws (omega arith);
+        placed = λ s lt. absurd (omega arith);
+      };
+      sound = λ i lt. absurd (omega arith);
+    };
+    slots = record { few = omega arith; all = refl; within = λ i lt. absurd (omega arith) };
     sourced = λ s lt. absurd (omega arith);
-    nested = nested-outermost ws (omega arith);
-    levelled = λ s lt. absurd (omega arith);
-    arguments = no-args;
-    remembered = tt;
-    once = tt;
+    levels = record { each = λ s lt. absurd (omega arith); arguments = no-args };
+    entries = record {
+      few = omega arith;
+      below = λ k lt. absurd (omega arith);
+      hinted = λ k lt. absurd (omega arith);
+    };
+    memo = record { few = omega arith; below = tt; once = tt };
+    few-readings = omega arith;
   }
 
   abs-start : (bs : List ℕ) → absOf bs ws₁ first firstState ≡ start
@@ -64,5 +68,5 @@ module _ (ws : List ℕ) (words : WORDS ≤ length ws) where
     rep = rep-start;
     is = abs-start;
     opened = first-open;
-    later = λ k l. getD-set-other ws 5120 k 0 0 (λ d. omega arith);
+    frame = frame-store (SYMBOLS .first) (PENDING .first) (SCOPES .first) 0 ws (omega arith) (omega arith);
   })

@@ -1,5 +1,5 @@
 -- Stored levels and the definition's deps. In order: levels of some symbols; a symbol's levels are those of its deps;
--- a lambda's arguments have its level; arguments in force.
+-- a lambda's arguments have its level; both, of all symbols and scopes; arguments in force.
 --
 -- Why the law of levels stands: an argument symbol depends on itself alone, and its one level is that of its lambda's
 -- body. Any other symbol has the levels of its children, whose deps it has too; a lambda takes its own level out, and
@@ -42,6 +42,11 @@ abbrev pub ArgLevels : List ℕ → ℕ → ℕ → Type 0
 ArgLevels ws n m =
     (c : ℕ) → c < m → (xs : List ℕ) → argsIn (scopeWord ws c) ≡ some xs →
     Every (AtLevel ws n (levelOf (scopeWord ws c))) xs
+
+-- levels of n symbols and m scopes stand for what the symbols depend on
+pub record AllLevelled (bs ws : List ℕ) (n m : ℕ) : Type 0 where
+  pub each : (s : ℕ) → s < n → Levelled bs ws s
+  pub arguments : ArgLevels ws n m
 
 -- symbol a is an argument of a lambda from scope `cur` outwards
 pub record Bound (scs : List Scope) (cur a : ℕ) : Type 0 where

@@ -1,22 +1,23 @@
 -- The state of interning, by value and in work words, as model has it: what it stands for with a stack t of open tables
--- (`absOf`), and what holds of it (`Rep`). bs are the forest's bytes, ws the words.
--- Assumes nothing.
-use Prim.Native.Nat.{ℕ, _<_, _≤_}
+-- (`absOf`), and what holds of it (`Rep`), part by part: a part says what holds of one region of the words.
+-- bs are the forest's bytes, ws the words. Assumes nothing.
+use Prim.Native.Nat.{ℕ, _≤_}
 use mathlib.Core.Path.{_≡_}
 use mathlib.Core.List.{List}
-use lib.ListN.{length, getD}
+use Rattle.regions.specs.Regions.{SYMBOLS, SLOTS, PENDING}
 use Rattle.model.specs.Intern as intern
+use Rattle.laws.specs.Frame.{Frame}
 use Rattle.laws.specs.Slots.{slotsIn}
 use Rattle.laws.specs.Members.{Once}
-use Rattle.regions.specs.Regions.{WORDS}
-use Rattle.symbols.specs.Symbols.{symsOf, AllSound}
+use Rattle.symbols.specs.Symbols.{symsOf}
 use Rattle.symbols.specs.Sourced.{AllSourced}
 use Rattle.tables.specs.declared.Tables.{Tables}
 use Rattle.tables.specs.Tables.{tablesOf, first, Open, Below, Hinted}
-use Rattle.scopes.specs.Scopes.{scopesOf, Nested}
+use Rattle.scopes.specs.Scopes.{scopesOf}
 use Rattle.memo.specs.Memo.{memoOf, keysIn, MemoBelow}
 use Rattle.interner.specs.declared.State.{State}
-use Rattle.interner.specs.Levels.{Levelled, ArgLevels}
+use Rattle.graph.specs.Graph.{Within, Arena}
+use Rattle.interner.specs.Levels.{AllLevelled}
 
 abbrev pub absOf : List ℕ → List ℕ → Tables → State → intern.State
 absOf bs ws t st = record {
@@ -27,25 +28,34 @@ absOf bs ws t st = record {
   readings = st .readings;
 }
 
+-- ---- what holds of it, part by part
+
+-- the child slots in use are those of n symbols
+pub record Slotted (bs ws : List ℕ) (used n : ℕ) : Type 0 where
+  pub few : used ≤ SLOTS .size
+  pub all : slotsIn (symsOf bs ws n) ≡ used
+  pub within : Within ws used n
+
+-- the tables' entries are symbols below n, with the hints of their keys
+pub record Entered (bs ws : List ℕ) (top n : ℕ) : Type 0 where
+  pub few : top ≤ n
+  pub below : Below ws top n
+  pub hinted : Hinted bs ws top
+
+-- k pairs of projections are remembered, of symbols below n, of each once
+pub record Remembered (ws : List ℕ) (k n : ℕ) : Type 0 where
+  pub few : k ≤ n
+  pub below : MemoBelow n (memoOf ws k)
+  pub once : Once (keysIn (memoOf ws k))
+
 pub record Rep (bs ws : List ℕ) (st : State) : Type 0 where
-  pub words : WORDS ≤ length ws
-  pub few-symbols : st .symbols ≤ 512
-  pub slots-used : slotsIn (symsOf bs ws (st .symbols)) ≡ st .slots
-  pub few-slots : st .slots ≤ 2560
-  pub some-scope : 0 < st .scopes
-  pub few-scopes : st .scopes ≤ 2049
-  pub few-entries : st .entries ≤ st .symbols
-  pub few-memo : st .memo ≤ 512
-  pub few-readings : st .readings ≤ 2048
-  pub below : Below ws (st .entries) (st .symbols)
-  pub hinted : Hinted bs ws (st .entries)
-  pub sound : AllSound bs ws (st .slots) (st .symbols)
+  pub arena : Arena bs ws (st .symbols) (st .scopes)
+  pub slots : Slotted bs ws (st .slots) (st .symbols)
   pub sourced : AllSourced bs ws (st .symbols)
-  pub nested : Nested ws (st .scopes)
-  pub levelled : (s : ℕ) → s < st .symbols → Levelled bs ws s
-  pub arguments : ArgLevels ws (st .symbols) (st .scopes)
-  pub remembered : MemoBelow (st .symbols) (memoOf ws (st .memo))
-  pub once : Once (keysIn (memoOf ws (st .memo)))
+  pub levels : AllLevelled bs ws (st .symbols) (st .scopes)
+  pub entries : Entered bs ws (st .entries) (st .symbols)
+  pub memo : Remembered ws (st .memo) (st .symbols)
+  pub few-readings : st .readings ≤ 2048
 
 -- the state before any record is read, whatever the forest, with one open table; pending symbols and later words are
 -- as they were
@@ -53,4 +63,4 @@ pub record Started (ws ws′ : List ℕ) (st : State) : Type 0 where
   pub rep : (bs : List ℕ) → Rep bs ws′ st
   pub is : (bs : List ℕ) → absOf bs ws′ first st ≡ intern.start
   pub opened : Open first (st .entries)
-  pub later : (k : ℕ) → 8200 ≤ k → getD ws′ k 0 ≡ getD ws k 0
+  pub frame : Frame (SYMBOLS .first) (PENDING .first) ws ws′

@@ -8,6 +8,7 @@ use mathlib.Core.Option.{some}
 use mathlib.Core.List.{List, [], _∷_}
 use lib.Dec.{eqb, ltb}
 use lib.ListN.{length, getD}
+use Rattle.regions.specs.Regions.{SYMBOLS, SLOTS, SCOPES, PENDING, end}
 use Rattle.model.specs.Answer.{refused, good}
 use Rattle.model.specs.Forest.{recordCount}
 use Rattle.model.specs.Intern.{Out, Outs, unionDeps, push, alloc, finish, allocArgs, symAt, operation}
@@ -15,7 +16,7 @@ use Rattle.model.specs.Intern as intern
 use Rattle.model.specs.Tree.{Rec, rec}
 use Rattle.laws.specs.Members.{Every}
 use Rattle.record.specs.Record.{rowAt}
-use Rattle.laws.specs.Frame.{Agree}
+use Rattle.laws.specs.Frame.{Agree, Frame}
 use Rattle.key.specs.declared.Node.{Node}
 use Rattle.key.specs.declared.Node.the-variants.{Const, Unparsed, Arg, Lambda, Op}
 use Rattle.key.specs.Key.{partsOf, symbolAt}
@@ -88,9 +89,8 @@ stepTo st node count s = stepOf st node count s (ltb s (st .symbols))
 -- what a step from words ws and state st to words ws′ leaves: pending symbols and bindings, and all words after them;
 -- scopes and readings; entries are only added
 pub record Leaves (ws ws′ : List ℕ) (st st′ : State) : Type 0 where
-  pub long : length ws′ ≡ length ws
-  pub scope-words : Agree ws ws′ 5120 7176
-  pub later : (k : ℕ) → 8200 ≤ k → getD ws′ k 0 ≡ getD ws k 0
+  pub frame : Frame (SYMBOLS .first) (PENDING .first) ws ws′
+  pub scope-words : Agree ws ws′ (SCOPES .first) (end SCOPES)
   pub scopes : st′ .scopes ≡ st .scopes
   pub entries : st .entries ≤ st′ .entries
   pub readings : st′ .readings ≡ st .readings
@@ -106,9 +106,9 @@ pub record Fresh (bs ws : List ℕ) (st : State) (cur : ℕ) (node : Node) (held
   pub first : partsOf node .first < 4096
   pub second : partsOf node .second < 4096
   pub current : cur < st .scopes
-  pub slots : st .slots + count ≤ 2560
-  pub pending : held + count ≤ 256
-  pub lower : (k : ℕ) → k < count → getD ws (8200 + held + k) 0 < st .symbols
+  pub slots : st .slots + count ≤ SLOTS .size
+  pub pending : held + count ≤ PENDING .size
+  pub lower : (k : ℕ) → k < count → getD ws (PENDING .first + held + k) 0 < st .symbols
   pub sourced : Sourced bs node count
 
 -- what a new symbol depends on
@@ -232,11 +232,11 @@ pub record Projects (bs ws : List ℕ) (st : State) (cur at held n : ℕ) : Type
   pub shape : rowAt bs at .rec .shape ≡ 17
   pub opcode : rowAt bs at .rec .opcode ≡ 0x8C
   pub current : cur < st .scopes
-  pub slots : st .slots + n ≤ 2560
-  pub pending : held + 1 ≤ 256
-  pub low : getD ws (8200 + held) 0 < st .symbols
+  pub slots : st .slots + n ≤ SLOTS .size
+  pub pending : held + 1 ≤ PENDING .size
+  pub low : getD ws (PENDING .first + held) 0 < st .symbols
   pub forced : InForce (scopesOf ws (st .scopes)) cur
-      (symAt (symsOf bs ws (st .symbols)) (getD ws (8200 + held) 0) .deps)
+      (symAt (symsOf bs ws (st .symbols)) (getD ws (PENDING .first + held) 0) .deps)
 
 -- field i of symbol p
 abbrev pub fieldRec : Rec → ℕ → Rec

@@ -16,12 +16,12 @@ ghost use mathlib.Core.Bool.{true};
 ghost use Prim.Native.Nat.{ℕ, _+_, _*_, _<_, _≤_};
 ghost use lib.Dec.{eqb};
 ghost use lib.ListN.{length, getD};
+ghost use Rattle.regions.specs.Regions.{SLOTS, SCOPES, PENDING, WORDS};
 ghost use Rattle.levels.specs.Levels.{has};
 ghost use Rattle.scopes.specs.Scopes.{scopeWord, levelOf};
 ghost use Rattle.symbols.specs.Words.{pendingFrom};
 ghost use Rattle.model.specs.Intern.{pairProjection};
 ghost use Rattle.record.specs.Record.{Laid, rowAt};
-ghost use Rattle.regions.specs.Regions.{WORDS};
 ghost use Rattle.tables.specs.declared.Tables.{Tables};
 ghost use Rattle.tables.specs.Tables.{Open};
 ghost use Rattle.key.specs.Key.{partsOf};
@@ -167,8 +167,8 @@ pub fn alloc(
 
 // The levels of the pending children from `held` on.
 fn levels_of(work: &[u32], held: usize, count: usize) -> u64
-    requires { ⌜ (held + count ≤ 256) × (WORDS ≤ length (now work)) ⌝ }
-    requires { ⌜ ((k : ℕ) → k < count → getD (now work) (8200 + held + k) 0 < 512) ⌝ }
+    requires { ⌜ (held + count ≤ PENDING .size) × (WORDS ≤ length (now work)) ⌝ }
+    requires { ⌜ ((k : ℕ) → k < count → getD (now work) (PENDING .first + held + k) 0 < 512) ⌝ }
     ensures { λ r.
         ⌜ ((j : ℕ) → has r j ≡ anyHas (now (work .entry)) j (pendingFrom (now (work .entry)) held count)) ⌝ }
 {
@@ -185,8 +185,8 @@ fn levels_of(work: &[u32], held: usize, count: usize) -> u64
 
 // The levels of the symbol of a key: a lambda's own is taken out.
 fn key_levels(work: &[u32], node: Node, held: usize, count: usize) -> u64
-    requires { ⌜ (held + count ≤ 256) × (WORDS ≤ length (now work)) ⌝ }
-    requires { ⌜ ((k : ℕ) → k < count → getD (now work) (8200 + held + k) 0 < 512) ⌝ }
+    requires { ⌜ (held + count ≤ PENDING .size) × (WORDS ≤ length (now work)) ⌝ }
+    requires { ⌜ ((k : ℕ) → k < count → getD (now work) (PENDING .first + held + k) 0 < 512) ⌝ }
     requires { ⌜ partsOf node .second < 4096 ⌝ }
     ensures { λ r. ⌜ ((j : ℕ) → has r j ≡ keyLevels (now (work .entry)) node held count j) ⌝ }
 {
@@ -243,7 +243,7 @@ pub fn find_or_make(
 // The step to symbol s, which was found or made for a node over `count` children. Rules out: a symbol that is found
 // counted as a new one; a symbol where there was no room for one.
 pub fn step_to(st: State, node: Node, count: usize, s: u32) -> Step
-    requires { ⌜ (st .entries ≤ 512) × (st .symbols ≤ 512) × (st .slots + count ≤ 2560) ⌝ }
+    requires { ⌜ (st .entries ≤ 512) × (st .symbols ≤ 512) × (st .slots + count ≤ SLOTS .size) ⌝ }
     ensures { λ r. ⌜ r ≡ stepTo st node count s ⌝ }
 {
     if s < st.symbols {
@@ -289,7 +289,7 @@ pub fn finish(
 
 // The level of the arguments of a lambda in scope `cur`, alone.
 fn level_inside(work: &[u32], cur: usize) -> u64
-    requires { ⌜ 5120 + cur < length (now work) ⌝ }
+    requires { ⌜ SCOPES .first + cur < length (now work) ⌝ }
     requires { ⌜ levelOf (scopeWord (now work) cur) < 63 ⌝ }
     ensures { λ r. ⌜ ((j : ℕ) → has r j ≡ eqb j (levelOf (scopeWord (now (work .entry)) cur) + 1)) ⌝ }
 {
@@ -346,7 +346,7 @@ pub fn pair_projection(
     requires { ⌜ Projects (now forest) (now work) st cur at held 2 ⌝ }
     ensures { λ r.
         ⌜ Answers (now (forest .entry)) (now (work .entry)) t st
-        (pairProjection at cur (rowAt (now (forest .entry)) at .rec) field (getD (now (work .entry)) (8200 + held) 0)
+        (pairProjection at cur (rowAt (now (forest .entry)) at .rec) field (getD (now (work .entry)) (PENDING .first + held) 0)
         (absOf (now (forest .entry)) (now (work .entry)) t st)) (now (work .exit)) r ⌝ }
 {
     let p = work[PENDING + held];

@@ -9,9 +9,9 @@ ghost use mathlib.Core.Path.{_≡_};
 ghost use mathlib.Core.Option.{none};
 ghost use Prim.Native.Nat.{_+_, _<_, _≤_};
 ghost use lib.ListN.{length, getD};
+ghost use Rattle.regions.specs.Regions.{PENDING, WORDS};
 ghost use Rattle.model.specs.Intern.{recall, pick, newProjections};
 ghost use Rattle.record.specs.Record.{Laid, rowAt};
-ghost use Rattle.regions.specs.Regions.{WORDS};
 ghost use Rattle.tables.specs.Tables.{Open};
 ghost use Rattle.memo.specs.Memo.{memoOf, remembered};
 ghost use Rattle.interner.specs.State.{absOf, Rep};
@@ -36,7 +36,7 @@ pub fn projection(
     requires { ⌜ (0 < field) × (field < 4) ⌝ }
     ensures { λ r.
         ⌜ Answers (now (forest .entry)) (now (work .entry)) t st
-        (fieldOf at cur (rowAt (now (forest .entry)) at .rec) field (getD (now (work .entry)) (8200 + held) 0)
+        (fieldOf at cur (rowAt (now (forest .entry)) at .rec) field (getD (now (work .entry)) (PENDING .first + held) 0)
         (absOf (now (forest .entry)) (now (work .entry)) t st)) (now (work .exit)) r ⌝ }
 {
     let node = Node::Op(Operation {
@@ -98,10 +98,10 @@ pub fn new_projections(
     requires { ⌜ Rep (now forest) (now work) st ⌝ }
     requires { ⌜ Open t (st .entries) ⌝ }
     requires { ⌜ Projects (now forest) (now work) st cur at held 2 ⌝ }
-    requires { ⌜ recall (memoOf (now work) (st .memo)) (getD (now work) (8200 + held) 0) ≡ none ⌝ }
+    requires { ⌜ recall (memoOf (now work) (st .memo)) (getD (now work) (PENDING .first + held) 0) ≡ none ⌝ }
     ensures { λ r.
         ⌜ Answers (now (forest .entry)) (now (work .entry)) t st
-        (newProjections at cur (rowAt (now (forest .entry)) at .rec) field (getD (now (work .entry)) (8200 + held) 0)
+        (newProjections at cur (rowAt (now (forest .entry)) at .rec) field (getD (now (work .entry)) (PENDING .first + held) 0)
         (absOf (now (forest .entry)) (now (work .entry)) t st)) (now (work .exit)) r ⌝ }
 {
     let p = work[PENDING + held];

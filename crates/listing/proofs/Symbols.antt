@@ -27,7 +27,6 @@ use Rattle.interner.specs.Step.{outOf}
 use Rattle.gate.specs.Gate.{Tallied}
 use Rattle.output.specs.Output.{over, Wrote}
 use Rattle.lines.specs.Lines.{Listable}
-use Rattle.cse.proofs.Buildable.{symbols-sound}
 
 -- the uses are counted in words ws₁
 module _ (bs ws : List ℕ) (r : Step) (rep : Rep bs ws (r .st)) (ws₁ : List ℕ)
@@ -36,20 +35,20 @@ module _ (bs ws : List ℕ) (r : Step) (rep : Rep bs ws (r .st)) (ws₁ : List �
   n = r .st .symbols
 
   own-same : Agree ws ws₁ 0 (5 * n)
-  own-same k l h = tallied .kept .before k (omega (arith, rep .few-symbols))
+  own-same k l h = tallied .kept .before k (omega (arith, rep .arena .scoped .few))
 
   slots-same : Agree ws ws₁ 2560 (2560 + 2560)
   slots-same k l h = tallied .kept .before k (omega arith)
 
   syms-same : symsOf bs ws₁ n ≡ symsOf bs ws n
-  syms-same = syms-agree bs ws ws₁ 2560 slots-same n own-same (symbols-sound bs ws (r .st) rep)
+  syms-same = syms-agree bs ws ws₁ 2560 slots-same n own-same (rep .arena .sound)
 
   pub listable : accept bs ≡ good (treesOf bs) → length ws₁ ≡ length ws → Listable bs ws₁ n
   listable e l = record {
     laid = accept-passed bs (treesOf bs) e .shaped .sound .laid;
-    sound = sounds-agree bs ws ws₁ 2560 slots-same n own-same (symbols-sound bs ws (r .st) rep);
-    few = rep .few-symbols;
-    words = omega (arith, rep .words);
+    sound = sounds-agree bs ws ws₁ 2560 slots-same n own-same (rep .arena .sound);
+    few = rep .arena .scoped .few;
+    words = omega (arith, rep .arena .scoped .words);
     uses = λ s h. rw syms-same (tallied .uses bs s h);
   }
 

@@ -54,7 +54,7 @@ module _ (bs ws : List ℕ) (st : State) (cur first count : ℕ) (rep : Rep bs w
 
   pub body-of : BodyOf ws₁ (withScope st .scopes) cur (st .scopes) (range first count)
   body-of = record {
-    inside = rep .some-scope;
+    inside = rep .arena .scoped .some-scope;
     low = omega arith;
     parent = ap parentOf word-is ∙ word-parent;
     args = ap argsIn word-is ∙ word-args;
@@ -67,7 +67,7 @@ module _ (bs ws : List ℕ) (st : State) (cur first count : ℕ) (rep : Rep bs w
   body-abs t is =
       scope-abs bs ws st rep few word t t is cur (some (range first count)) (absOf bs ws t st .tables)
       (tables-agree ws ws₁ t (st .entries) is (scope-same bs ws st rep few word .entries))
-      (scopes-lambda ws (st .scopes) cur (omega (arith, rep .words)) current (omega arith) first count low
+      (scopes-lambda ws (st .scopes) cur (omega (arith, rep .arena .scoped .words)) current (omega arith) first count low
       (omega arith))
 
   -- ---- what holds of it
@@ -76,8 +76,8 @@ module _ (bs ws : List ℕ) (st : State) (cur first count : ℕ) (rep : Rep bs w
       Rep bs ws₁ (withScope st)
   body-rep own =
       scope-rep bs ws st rep few word
-      (nested-lambda ws (st .scopes) cur (omega (arith, rep .words)) current (omega arith) first count low (omega arith)
-      (rep .nested))
+      (nested-lambda ws (st .scopes) cur (omega (arith, rep .arena .scoped .words)) current (omega arith) first count low (omega arith)
+      (rep .arena .scoped .nested))
       (λ xs e. subst (Every (AtLevel ws (st .symbols) (levelOf word)))
       (Option·some-injective _ _ (sym word-args ∙ e))
       (rw word-level own))

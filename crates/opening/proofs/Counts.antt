@@ -29,24 +29,13 @@ module _ (bs ws : List ℕ) (t : Tables) (st : State) where
 pub readings-rep : (bs ws : List ℕ) (st : State) (n : ℕ) → Rep bs ws st → st .readings + n ≤ 2048 →
     Rep bs ws (withReadings st n)
 readings-rep bs ws st n rep few = record {
-  words = rep .words;
-  few-symbols = rep .few-symbols;
-  slots-used = rep .slots-used;
-  few-slots = rep .few-slots;
-  some-scope = rep .some-scope;
-  few-scopes = rep .few-scopes;
-  few-entries = rep .few-entries;
-  few-memo = rep .few-memo;
-  few-readings = few;
-  below = rep .below;
-  hinted = rep .hinted;
-  sound = rep .sound;
+  arena = rep .arena;
+  slots = rep .slots;
   sourced = rep .sourced;
-  nested = rep .nested;
-  levelled = rep .levelled;
-  arguments = rep .arguments;
-  remembered = rep .remembered;
-  once = rep .once;
+  levels = rep .levels;
+  entries = rep .entries;
+  memo = rep .memo;
+  few-readings = few;
 }
 
 pub reading-rep : (bs ws : List ℕ) (st : State) → Rep bs ws st → st .readings < 2048 → Rep bs ws (withReading st)

@@ -8,11 +8,14 @@ use mathlib.Core.Option.{Option, some}
 use mathlib.Core.List.{List, [], _∷_, _++_}
 use native.Mathlib.Omega.{arith}
 use native.Mathlib.Nat.{eq-or-lt-of-le}
-use lib.ListN.{length, getD, set, length-set}
-use lib.Seq.{getD-set-same, getD-set-other}
+use lib.ListN.{set}
+use lib.Seq.{getD-set-same}
+use Rattle.regions.specs.Regions.{SCOPES, end}
 use Rattle.model.specs.Intern.{Scope, openScope}
 use Rattle.model.specs.Intern as intern
+use Rattle.laws.specs.Frame.{Frame}
 use Rattle.laws.specs.Members.{Every}
+use Rattle.laws.proofs.Frame.{frame-store}
 use Rattle.tables.specs.declared.Tables.{Tables}
 use Rattle.tables.specs.Tables.{tablesOf, Open}
 use Rattle.scopes.specs.Scopes.{scopeWord, levelOf, argsIn, scopesOf, outward, Nested}
@@ -26,25 +29,24 @@ module _ (bs ws : List ℕ) (st : State) (rep : Rep bs ws st) (few : st .scopes 
   -- ---- words kept
 
   abbrev ws₁ : List ℕ
-  ws₁ = set ws (5120 + st .scopes) w
+  ws₁ = set ws (SCOPES .first + st .scopes) w
 
-  pub scope-long : length ws₁ ≡ length ws
-  scope-long = length-set ws (5120 + st .scopes) w
-
-  pub scope-other : (k : ℕ) → (k ≡ 5120 + st .scopes → ⊥) → getD ws₁ k 0 ≡ getD ws k 0
-  scope-other k h = getD-set-other ws (5120 + st .scopes) k w 0 h
+  pub scope-frame : Frame (SCOPES .first + st .scopes) (end SCOPES) ws ws₁
+  scope-frame =
+      frame-store (SCOPES .first + st .scopes) (end SCOPES) (SCOPES .first + st .scopes) w ws (omega arith)
+      (omega arith)
 
   pub scope-new : scopeWord ws₁ (st .scopes) ≡ w
-  scope-new = getD-set-same ws (5120 + st .scopes) w 0 (omega (arith, rep .words))
+  scope-new = getD-set-same ws (SCOPES .first + st .scopes) w 0 (omega (arith, rep .arena .scoped .words))
 
   pub scope-same : Same ws ws₁ st
   scope-same = record {
-    long = scope-long;
-    symbols = λ k l r. scope-other k (λ e. omega (arith, rep .few-symbols));
-    slots = λ k l r. scope-other k (λ e. omega (arith, rep .few-slots));
-    scopes = λ k l r. scope-other k (λ e. omega arith);
-    entries = λ k l r. scope-other k (λ e. omega arith);
-    memo = λ k l r. scope-other k (λ e. omega arith);
+    long = scope-frame .long;
+    symbols = λ k l r. scope-frame .before k (omega (arith, rep .arena .scoped .few));
+    slots = λ k l r. scope-frame .before k (omega (arith, rep .slots .few));
+    scopes = λ k l r. scope-frame .before k r;
+    entries = λ k l r. scope-frame .after k l;
+    memo = λ k l r. scope-frame .after k (omega arith);
   }
 
   module _ (t t′ : Tables) (is : Open t (st .entries)) where
@@ -66,7 +68,7 @@ module _ (bs ws : List ℕ) (st : State) (rep : Rep bs ws st) (few : st .scopes 
         absOf bs ws₁ t′ (withScope st) ≡ openScope cur args ts (absOf bs ws t st)
     scope-abs cur args ts e f =
         ap (λ (s : intern.State). withBoth s (tablesOf ws₁ t′ (st .entries)) (scopesOf ws₁ (st .scopes + 1)))
-        (abs-same bs ws ws₁ t st rep is scope-same)
+        (abs-same bs ws ws₁ st rep scope-same t is)
         ∙ (ap (λ (z : List (List ℕ)). withBoth (absOf bs ws t st) z (scopesOf ws₁ (st .scopes + 1))) e
         ∙ ap (withBoth (absOf bs ws t st) ts) f)
 
@@ -89,26 +91,25 @@ module _ (bs ws : List ℕ) (st : State) (rep : Rep bs ws st) (few : st .scopes 
     args-more : ArgLevels ws₁ (st .symbols) (st .scopes + 1)
     args-more c lt =
         let le : c ≤ st .scopes = omega arith in
-        ⊎-elim (λ e. rw e args-new) (λ l. old .arguments c l) (eq-or-lt-of-le le)
+        ⊎-elim (λ e. rw e args-new) (λ l. old .levels .arguments c l) (eq-or-lt-of-le le)
 
     pub scope-rep : Rep bs ws₁ (withScope st)
     scope-rep = record {
-      words = old .words;
-      few-symbols = old .few-symbols;
-      slots-used = old .slots-used;
-      few-slots = old .few-slots;
-      some-scope = omega arith;
-      few-scopes = omega arith;
-      few-entries = old .few-entries;
-      few-memo = old .few-memo;
-      few-readings = old .few-readings;
-      below = old .below;
-      hinted = old .hinted;
-      sound = old .sound;
+      arena = record {
+        scoped = record {
+          few = rep .arena .scoped .few;
+          words = old .arena .scoped .words;
+          some-scope = omega arith;
+          few-scopes = omega arith;
+          nested = nested;
+          placed = λ s lt. let l = old .arena .scoped .placed s lt in omega arith;
+        };
+        sound = old .arena .sound;
+      };
+      slots = old .slots;
       sourced = old .sourced;
-      nested = nested;
-      levelled = old .levelled;
-      arguments = args-more;
-      remembered = old .remembered;
-      once = old .once;
+      levels = record { each = old .levels .each; arguments = args-more };
+      entries = old .entries;
+      memo = old .memo;
+      few-readings = rep .few-readings;
     }

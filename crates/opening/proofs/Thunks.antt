@@ -37,7 +37,7 @@ module _ (bs ws : List ℕ) (st : State) (cur : ℕ) (rep : Rep bs ws st) (few :
   pub thunk-rep : Rep bs ws₁ (withScope st)
   thunk-rep =
       scope-rep bs ws st rep few (thunkWord ws cur)
-      (nested-thunk ws (st .scopes) cur (omega (arith, rep .words)) current (omega arith) (rep .nested))
+      (nested-thunk ws (st .scopes) cur (omega (arith, rep .arena .scoped .words)) current (omega arith) (rep .arena .scoped .nested))
       (λ xs e. none-some (sym word-args ∙ e))
 
   module _ (t : Tables) (is : Open t (st .entries)) (room : t .depth < 64) where
@@ -48,7 +48,7 @@ module _ (bs ws : List ℕ) (st : State) (cur : ℕ) (rep : Rep bs ws st) (few :
         (opened-tables t (st .entries) is room ws₁
         ∙ ap (λ (ts : List (List ℕ)). [] ∷ ts)
         (tables-agree ws ws₁ t (st .entries) is (scope-same bs ws st rep few (thunkWord ws cur) .entries)))
-        (scopes-thunk ws (st .scopes) cur (omega (arith, rep .words)) current (omega arith))
+        (scopes-thunk ws (st .scopes) cur (omega (arith, rep .arena .scoped .words)) current (omega arith))
 
 -- ---- its table dropped: t are the tables around it, and there were `top` entries before it
 
@@ -62,22 +62,15 @@ module _ (bs ws : List ℕ) (t : Tables) (st : State) (top : ℕ) (is : Open t t
 
     pub closed-rep : Rep bs ws (thunkClosed st top)
     closed-rep = record {
-      words = rep .words;
-      few-symbols = rep .few-symbols;
-      slots-used = rep .slots-used;
-      few-slots = rep .few-slots;
-      some-scope = rep .some-scope;
-      few-scopes = rep .few-scopes;
-      few-entries = omega (arith, start-low, rep .few-entries);
-      few-memo = rep .few-memo;
-      few-readings = rep .few-readings;
-      below = λ k lt. rep .below k (omega (arith, start-low));
-      hinted = λ k lt. rep .hinted k (omega (arith, start-low));
-      sound = rep .sound;
+      arena = rep .arena;
+      slots = rep .slots;
       sourced = rep .sourced;
-      nested = rep .nested;
-      levelled = rep .levelled;
-      arguments = rep .arguments;
-      remembered = rep .remembered;
-      once = rep .once;
+      levels = rep .levels;
+      entries = record {
+        few = omega (arith, start-low, rep .entries .few);
+        below = λ k lt. rep .entries .below k (omega (arith, start-low));
+        hinted = λ k lt. rep .entries .hinted k (omega (arith, start-low));
+      };
+      memo = rep .memo;
+      few-readings = rep .few-readings;
     }

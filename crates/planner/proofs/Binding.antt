@@ -115,7 +115,7 @@ module _ {bs ws : List ℕ} {g : Graph} {ids : List ℕ} {p : Plan} {above : ℕ
           subst (λ (z : List ℕ). Maps z (argEnv last xs env))
           (sym (em ∙ rw (ei, ef, e₁, ec)))
           (maps-args ids env (f .first) aux last ys many-args maps
-          (λ some. omega (arith, fit .first some, long, b .arena .few, lt)))
+          (λ some. omega (arith, fit .first some, long, b .arena .scoped .few, lt)))
 
       is : (gr : model.Graph) (sc : ℕ) (env : Env) → GraphIn bs ws (g .symbols) (g .scopes) gr
           → freshTree s last gr sc env

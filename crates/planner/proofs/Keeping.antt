@@ -5,59 +5,49 @@ use Prim.Native.Nat.{ℕ, _+_, _*_, _<_}
 use mathlib.Core.Path.{_≡_, sym, ap, _∙_, subst}
 use mathlib.Core.List.{List}
 use native.Mathlib.Omega.{arith}
-use lib.ListN.{getD}
 use Rattle.model.specs.Gate.{Graph}
 use Rattle.key.specs.declared.Symbol.{Symbol}
 use Rattle.key.specs.Key.{symbolAt}
 use Rattle.laws.specs.Frame.{Agree}
 use Rattle.laws.proofs.Frame.{frame-below}
-use Rattle.regions.specs.Regions.{SLOTS, SCOPES, USES, end}
-use Rattle.key.proofs.Laws.{symbol-agree}
+use Rattle.regions.specs.Regions.{SLOTS, SCOPES, USES}
 use Rattle.symbols.specs.Words.{slotsFrom}
 use Rattle.symbols.specs.Symbols.{kidsAt}
-use Rattle.symbols.proofs.Words.{words-agree}
-use Rattle.symbols.proofs.Laws.{syms-agree, sounds-agree}
-use Rattle.scopes.proofs.Open.{scopes-kept, nested-kept}
+use Rattle.symbols.proofs.Laws.{syms-agree, kids-agree}
+use Rattle.scopes.proofs.Open as scopes
 use Rattle.symbols.specs.Sourced.{Sourced}
 use Rattle.graph.specs.Graph.{Arena}
+use Rattle.graph.proofs.Laws.{scope-agree, node-agree, arena-agree}
 use Rattle.planner.specs.Grew.{PlanOnly}
 use Rattle.planner.specs.Building.{Opens, NoUse, Buildable, GraphIn}
 
 module _ {bs ws ws′ : List ℕ} {n m : ℕ} (k : PlanOnly ws ws′) (a : Arena bs ws n m) where
-  pub symbol-kept : (s : ℕ) → s < n → symbolAt ws′ s ≡ symbolAt ws s
-  symbol-kept s lt = symbol-agree ws ws′ s (λ i l r. k .before i (omega (arith, a .few)))
+  own-kept : Agree ws ws′ 0 (5 * n)
+  own-kept i l r = k .before i (omega (arith, a .scoped .few))
 
-  slots-kept : Agree ws ws′ (SLOTS .first) (end SLOTS)
+  slots-kept : Agree ws ws′ (SLOTS .first) (SLOTS .first + SLOTS .size)
   slots-kept = frame-below _ _ _ _ _ _ k (omega arith)
+
+  scopes-kept : Agree ws ws′ (SCOPES .first) (SCOPES .first + m)
+  scopes-kept i l r = k .before i (omega (arith, a .scoped .few-scopes))
+
+  pub symbol-kept : (s : ℕ) → s < n → symbolAt ws′ s ≡ symbolAt ws s
+  symbol-kept = node-agree bs ws ws′ (SLOTS .size) n m (k .long) own-kept slots-kept scopes-kept
 
   pub kids-kept : (s : ℕ) → s < n → kidsAt ws′ s ≡ kidsAt ws s
   kids-kept s lt =
-      let e = symbol-kept s lt in
-      ap (λ (y : Symbol). slotsFrom ws′ (y .kids) (y .count)) e
-      ∙ words-agree ws ws′ (SLOTS .first + symbolAt ws s .kids) (symbolAt ws s .count)
-      (λ i l r. slots-kept i (omega arith) (omega (arith, a .sound s lt .slots)))
-
-  own-kept : Agree ws ws′ 0 (5 * n)
-  own-kept i l r = k .before i (omega (arith, a .few))
-
-  scopes-same : (i : ℕ) → i < m → getD ws′ (SCOPES .first + i) 0 ≡ getD ws (SCOPES .first + i) 0
-  scopes-same i lt = k .before (SCOPES .first + i) (omega (arith, a .few-scopes))
+      ap (λ (y : Symbol). slotsFrom ws′ (y .kids) (y .count)) (symbol-kept s lt)
+      ∙ kids-agree bs ws ws′ (SLOTS .size) slots-kept s (a .sound s lt)
 
   arena-kept : Arena bs ws′ n m
-  arena-kept = record {
-    few = a .few;
-    words = omega (arith, k .long, a .words);
-    sound = sounds-agree bs ws ws′ (SLOTS .size) slots-kept n own-kept (a .sound);
-    some-scope = a .some-scope;
-    few-scopes = a .few-scopes;
-    nested = nested-kept ws′ ws m (a .some-scope) scopes-same (a .nested);
-    placed = λ s lt. subst (λ (y : Symbol). y .scope < m) (sym (symbol-kept s lt)) (a .placed s lt);
-  }
+  arena-kept =
+      arena-agree bs ws ws′ (SLOTS .size) n m (k .long) own-kept slots-kept scopes-kept (λ i lt. a .sound i lt .slots) a
 
   graph-same : {gr : Graph} → GraphIn bs ws n m gr → GraphIn bs ws′ n m gr
   graph-same st = record {
     syms = st .syms ∙ sym (syms-agree bs ws ws′ (SLOTS .size) slots-kept n own-kept (a .sound));
-    scopes = st .scopes ∙ sym (scopes-kept ws′ ws m scopes-same);
+    scopes = st .scopes ∙ sym (scopes.scopes-kept ws′ ws m
+        (scope-agree bs ws ws′ (SLOTS .size) n m (k .long) own-kept slots-kept scopes-kept));
     uses = λ s lt. k .after (USES .first + s) (omega arith) ∙ st .uses s lt;
   }
 

@@ -124,7 +124,7 @@ module _ {bs ws : List ℕ} {g : Graph} {ids : List ℕ} {p : Plan} {above : ℕ
           → buildValue gr s sc env last ≡ valUseOf (getD ids s 0)
       is gr sc env st maps =
           build-use gr (kids-low b st) s (body-lower b st s lt) sc env last (getD ids s 0)
-          (maps .is s (omega (arith, b .arena .few)) ∙ given-some (getD ids s 0) n)
+          (maps .is s (omega (arith, b .arena .scoped .few)) ∙ given-some (getD ids s 0) n)
 
   -- it has no id
   pub plans-new : getD ids s 0 ≡ 0 → Plans bs ws g ids p above (freshTree s last) ws′ r
@@ -132,7 +132,7 @@ module _ {bs ws : List ℕ} {g : Graph} {ids : List ℕ} {p : Plan} {above : ℕ
   unfolding buildStep
   plans-new z h =
       plans-as h (λ gr sc env st maps.
-      let e : idGiven env s ≡ none = maps .is s (omega (arith, b .arena .few)) ∙ ap idIn z in
+      let e : idGiven env s ≡ none = maps .is s (omega (arith, b .arena .scoped .few)) ∙ ap idIn z in
       sym (build-step gr (kids-low b st) s (body-lower b st s lt) sc env last ∙ rw (e, buildStep)))
 
   pub plans-const : (l : Leaf) → symbolAt ws s .node ≡ Const l

@@ -14,13 +14,13 @@ module _ {n s slack : ℕ} {ids : List ℕ} {last above : ℕ} {p : Plan} (at : 
   module _ {bs ws : List ℕ} {m : ℕ} (b : Buildable bs ws n m) where
     -- what `put` asks, what `load` asks, and an id that is read
     pub put-fits : (WORDS ≤ length ws) × (p .rows ≤ 257) × (above < 4294967296)
-    put-fits = (omega (arith, b .arena .words), at .count, omega (arith, at .room))
+    put-fits = (omega (arith, b .arena .scoped .words), at .count, omega (arith, at .room))
 
     pub load-fits : 5 * s + 5 ≤ length ws
-    load-fits = omega (arith, at .low, b .arena .few, b .arena .words)
+    load-fits = omega (arith, at .low, b .arena .scoped .few, b .arena .scoped .words)
 
     pub id-fits : s < length ids
-    id-fits = omega (arith, at .low, at .long, b .arena .few)
+    id-fits = omega (arith, at .low, at .long, b .arena .scoped .few)
 
   -- the same symbol, with other ids, and room that is left
   pub site-on : {slack₁ : ℕ} {ids₁ : List ℕ} {last₁ above₁ : ℕ} {q : Plan} → length ids₁ ≡ length ids

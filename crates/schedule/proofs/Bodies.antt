@@ -67,7 +67,7 @@ module _ (bs ws : List ℕ) (n m : ℕ) (arena : Arena bs ws n m) (c : ℕ) (lt 
 
       pub body-below : length body₂ ≡ 512 → Below body₂ k₂ (c + 1)
       body-below long =
-          let room = put-room n seen₁ body₁ k₁ (kids .lent) c lt (arena .few) body-fresh in
+          let room = put-room n seen₁ body₁ k₁ (kids .lent) c lt (arena .scoped .few) body-fresh in
           let le : k₂ ≤ length body₂ = omega (arith, room, q .one-more) in
           record { fit = le; low = λ j l. omega (arith, every-at (λ x. x < suc c) body₂ k₂ j le l body-low) }
 

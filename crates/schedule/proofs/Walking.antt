@@ -45,7 +45,7 @@ module _ (bs ws : List ℕ) (n m : ℕ) (arena : Arena bs ws n m) (b : Bool) (cs
         let g = graphOf bs ws n m slots in
         go g (passed g b cs s) refl
         (λ e. step-seen g (low slots) b cs s (take k list) e
-        (mark-seen n seen list k h s (omega (arith, arena .few)) ne));
+        (mark-seen n seen list k h s (omega (arith, arena .scoped .few)) ne));
   }
     where
       go : (g : Graph) (p : Bool) → passed g b cs s ≡ p →
@@ -70,17 +70,17 @@ module _ (bs ws : List ℕ) (n m : ℕ) (arena : Arena bs ws n m) (b : Bool) (cs
           let g = graphOf bs ws n m [] in
           ap (isIn s) (near .is [])
           ∙ steps-fresh g b cs s (nearOf g b cs s) (take k list) (near-low g (low []) cs b s)
-          (mark-fresh n seen list k h s (omega (arith, arena .few)) z)
+          (mark-fresh n seen list k h s (omega (arith, arena .scoped .few)) z)
 
       pub visit-new : (seen₂ list₂ : List ℕ) (k₂ : ℕ) → Put seen₁ list₁ k₁ s seen₂ list₂ k₂ → length list₂ ≡ 512 →
           Step seen₂ list₂ k₂
       visit-new seen₂ list₂ k₂ q long = record {
-        lent = lent-put n seen₁ list₁ k₁ (near .lent) s lt (arena .few) near-fresh seen₂ list₂ k₂ q long;
+        lent = lent-put n seen₁ list₁ k₁ (near .lent) s lt (arena .scoped .few) near-fresh seen₂ list₂ k₂ q long;
         is = λ slots.
             let g = graphOf bs ws n m slots in
             q .is ∙ (ap (λ (l : List ℕ). l ++ (s ∷ [])) (near .is slots)
             ∙ (visit-after g (low slots) b cs s (take k list)
-            (mark-fresh n seen list k h s (omega (arith, arena .few)) z)
+            (mark-fresh n seen list k h s (omega (arith, arena .scoped .few)) z)
             ∙ step-visit g cs b s (take k list) (sym (test bs slots) ∙ e)));
       }
 

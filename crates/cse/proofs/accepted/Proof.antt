@@ -28,7 +28,7 @@ returns c =
     let r = f .forest .result in (
       tells-refused (written bs (length out)) out (r .number) (r .place)
           (intern-refused bs (length out) (f .forest .last .1 .0) r (f .forest .ensures .is) (c .if1 .taken)),
-      f .forest .ensures .later,
+      f .forest .ensures .frame .after,
     )
 
 planned-requires : tie.Need-planned-requires
@@ -66,7 +66,7 @@ returns-2 c =
       subst (λ (a : answer.Answer Written). Tells a out (c .before .before .write .result)
           (c .before .before .write .last .1 .1 .1 .0)) (sym is)
           (c .before .before .write .ensures o (p .planned .ensures .tree) (syms-length bs ws (r .st .symbols)) refl),
-      λ k l. p .planned .ensures .unused k l ∙ f .forest .ensures .later k l,
+      λ k l. p .planned .ensures .unused k l ∙ f .forest .ensures .frame .after k l,
     )
 
 pub accepted-spec : {M : Type 1} → statement M

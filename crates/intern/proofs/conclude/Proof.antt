@@ -24,7 +24,7 @@ last-requires c κs =
     let p = c8 .pre in
     let n = c3 .kids .ensures .0 in
     let some = def-last _ _ (p .0) (p .1 .1 .1 .0 .from) (sym (c2 .shape .ensures) ∙ c1 .if1 .taken) in
-    (omega (arith, n, some), omega (arith, n, p .1 .1 .1 .0 .pending), omega (arith, p .1 .0 .words))
+    (omega (arith, n, some), omega (arith, n, p .1 .1 .1 .0 .pending), p .1 .0 .arena .scoped .words)
 
 returns : tie.Need-returns
 returns c =
@@ -47,7 +47,7 @@ last-requires-2 c κs =
     let p = c9 .pre in
     let n = c4 .kids .ensures .0 in
     let some = block-last _ _ (p .0) (p .1 .1 .1 .0 .from) (sym (c3 .shape .ensures) ∙ c1 .if2 .taken) in
-    (omega (arith, n, some), omega (arith, n, p .1 .1 .1 .0 .pending), omega (arith, p .1 .0 .words))
+    (omega (arith, n, some), omega (arith, n, p .1 .1 .1 .0 .pending), p .1 .0 .arena .scoped .words)
 
 returns-2 : tie.Need-returns-2
 returns-2 c =

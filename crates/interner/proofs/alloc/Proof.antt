@@ -21,8 +21,8 @@ hint-of-requires c κs =
         sought-from (now (a .forest)) (now (a .work)) (a .st) (a .cur) (a .node) (a .held) (a .count) rep
             (q .parts-of .result) (q .parts-of .ensures) (fresh .from),
         (
-          (fresh .pending, omega (arith, rep .words)),
-          λ k lt. let l = fresh .lower k lt in omega (arith, l, rep .few-symbols),
+          (fresh .pending, omega (arith, rep .arena .scoped .words)),
+          λ k lt. let l = fresh .lower k lt in omega (arith, l, rep .arena .scoped .few),
         ),
       ),
     )
@@ -39,10 +39,10 @@ enter-requires c κs =
     let m = q .before .before in
     let t = m .before .before .before .before in
     let rep = t .before .before .before .pre .1 .0 in (
-      omega (arith, pushed-entries (q .push .ensures), rep .few-entries, t .if1 .taken),
+      omega (arith, pushed-entries (q .push .ensures), rep .entries .few, t .if1 .taken),
       t .if1 .taken,
       m .hint-of .ensures .1,
-      omega (arith, q .push .ensures .leaves .long, rep .words),
+      omega (arith, q .push .ensures .leaves .frame .long, rep .arena .scoped .words),
     )
 
 returns : tie.Need-returns

@@ -15,7 +15,7 @@ abbrev μ-loop : tie.MeasureT-loop
 μ-loop forest work₀ cur at count n node levels s₀ k₀ work s k = count - k
 
 add-if : tie.Need-add-if1 Inv-loop μ-loop
-add-if c = let s = c .before .before in omega (arith, s .pre .1 .0 .few-symbols, s .pre .1 .1 .few)
+add-if c = let s = c .before .before in omega (arith, s .pre .1 .0 .arena .scoped .few, s .pre .1 .1 .few)
 
 returns : tie.Need-returns Inv-loop μ-loop
 returns c =
@@ -28,7 +28,7 @@ level-inside-requires : tie.Need-level-inside-requires Inv-loop μ-loop
 level-inside-requires c κs =
     let s = c .before .before .before .before in
     let rep = s .pre .1 .0 in
-    (omega (arith, rep .words, rep .few-scopes, s .pre .1 .1 .current), s .pre .1 .1 .level)
+    (omega (arith, rep .arena .scoped .words, rep .arena .scoped .few-scopes, s .pre .1 .1 .current), s .pre .1 .1 .level)
 
 loop-holds : tie.Need-loop-holds Inv-loop μ-loop
 loop-holds c =
@@ -63,7 +63,7 @@ loop-again c =
     (v .level-inside .ensures) (l .loop .inv) (p .push .ensures)
 
 same-length : tie.Need-same-length Inv-loop μ-loop
-same-length c = c .before .before .loop .inv .leaves .long
+same-length c = c .before .before .loop .inv .leaves .frame .long
 
 returns-2 : tie.Need-returns-2 Inv-loop μ-loop
 returns-2 c =

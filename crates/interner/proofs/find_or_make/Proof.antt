@@ -26,8 +26,8 @@ find-requires c κs =
           (
             sought-entries (now (a .forest)) (now (a .work)) (a .st) (a .cur) (a .node) (a .held) (a .count) rep,
             (
-              (fresh .pending, omega (arith, rep .words)),
-              λ k lt. let l = fresh .lower k lt in omega (arith, l, rep .few-symbols),
+              (fresh .pending, omega (arith, rep .arena .scoped .words)),
+              λ k lt. let l = fresh .lower k lt in omega (arith, l, rep .arena .scoped .few),
             ),
           ),
         ),
@@ -39,8 +39,8 @@ key-levels-requires c κs =
     let s = c .before .before .before .before .before .before .before .before .before .before in
     let rep = s .pre .1 .0 in
     let fresh = s .pre .1 .1 .1 .fresh in (
-      (fresh .pending, rep .words),
-      ((λ k lt. let l = fresh .lower k lt in omega (arith, l, rep .few-symbols)), fresh .second),
+      (fresh .pending, rep .arena .scoped .words),
+      ((λ k lt. let l = fresh .lower k lt in omega (arith, l, rep .arena .scoped .few)), fresh .second),
     )
 
 alloc-requires : tie.Need-alloc-requires

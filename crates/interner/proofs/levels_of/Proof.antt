@@ -4,6 +4,7 @@ use mathlib.Core.Path.{_≡_}
 use native.Mathlib.Omega.{arith}
 use borrow.Author.Needs.{needs}
 use denote.Ref.{now}
+use Rattle.regions.specs.Regions.{PENDING}
 use Rattle.symbols.specs.Words.{pendingFrom}
 use Rattle.levels.specs.Levels.{has}
 use Rattle.interner.specs.Levels.{anyHas}
@@ -21,7 +22,7 @@ abbrev μ-loop : tie.MeasureT-loop
 loop-holds : tie.Need-loop-holds Inv-loop μ-loop
 loop-holds c =
     let a = c .before .before .args in
-    (omega arith, λ j. levels-none (now (a .work)) (8200 + a .held) j (c .empty .result) (c .empty .ensures j))
+    (omega arith, λ j. levels-none (now (a .work)) (PENDING .first + a .held) j (c .empty .result) (c .empty .ensures j))
 
 cast-load : tie.Need-cast-load Inv-loop μ-loop
 cast-load c =
@@ -38,7 +39,7 @@ loop-again c =
     let l = c .before .before .before .before .loop in
     let a = c .before .before .before .before .before .before .before .args in (
       omega arith,
-      λ j. levels-more (now (a .work)) (8200 + a .held) (l .k) (l .all) (c .join .result) (c .before .load .result)
+      λ j. levels-more (now (a .work)) (PENDING .first + a .held) (l .k) (l .all) (c .join .result) (c .before .load .result)
           (c .before .load .ensures) j (l .inv .1 j) (c .join .ensures j),
     )
 

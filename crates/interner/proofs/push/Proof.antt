@@ -13,8 +13,8 @@ placement-requires c κs =
     let s = c .before .before .before in
     let rep = s .pre .1 .0 in
     let fresh = s .pre .1 .1 .1 .0 in (
-      omega (arith, rep .words, rep .few-scopes, fresh .current),
-      nested-less _ (s .args .st .scopes) (s .args .cur + 1) (omega (arith, fresh .current)) (rep .nested),
+      omega (arith, rep .arena .scoped .words, rep .arena .scoped .few-scopes, fresh .current),
+      nested-less _ (s .args .st .scopes) (s .args .cur + 1) (omega (arith, fresh .current)) (rep .arena .scoped .nested),
     )
 
 cast-scope : tie.Need-cast-t16
@@ -24,7 +24,7 @@ cast-scope c =
     let low = scope-low (now (s .args .forest)) (now (s .args .work)) (s .args .st) (s .args .cur) (s .args .node)
     (s .args .held) (s .args .count) (s .args .levels) (c .placement .result) (p .0) (p .1 .1 .0) (p .1 .1 .1)
     (c .placement .ensures) in
-    omega (arith, low, p .0 .few-scopes)
+    omega (arith, low, p .0 .arena .scoped .few-scopes)
 
 make-requires : tie.Need-make-requires
 make-requires c κs =

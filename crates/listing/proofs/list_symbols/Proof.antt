@@ -37,7 +37,7 @@ returns c =
           symbols-wrote (now (b .args .forest)) (f .forest .last .1 .0) (f .forest .result) (f .forest .ensures .rep)
           (a .count-uses .last .0) (a .count-uses .ensures) (f .forest .ensures .is) o e (now (b .args .out))
           (u .put-symbols .last .1 .1 .1 .0) (u .put-symbols .result) (wrote .0 .0) (wrote .0 .1) (wrote .1),
-      λ k l. a .count-uses .ensures .kept .after k (omega arith) ∙ f .forest .ensures .later k l,
+      λ k l. a .count-uses .ensures .kept .after k (omega arith) ∙ f .forest .ensures .frame .after k l,
     )
 
 pub list-symbols-spec : {M : Type 1} → statement M

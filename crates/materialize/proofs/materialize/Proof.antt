@@ -18,10 +18,10 @@ define-requires c κs =
           record {
             low = z .pre .1 .1 .0;
             long = ap length (c .before .before .no-ids .ensures);
-            room = omega (arith, z .pre .1 .1 .0, b .arena .few);
+            room = omega (arith, z .pre .1 .1 .0, b .arena .scoped .few);
             count = omega arith;
           },
-          b .arena .some-scope,
+          b .arena .scoped .some-scope,
         ),
       ),
     )

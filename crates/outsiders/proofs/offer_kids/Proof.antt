@@ -1,7 +1,6 @@
 -- `outsiders::offer_kids` meets its contract. Assumes nothing.
 use mathlib.Core.List.{[]}
 use borrow.Author.Needs.{needs}
-use Rattle.graph.proofs.Laws.{scoped}
 use Rattle.outsiders.proofs.Offers.{kids-from, kids-lower, kids-offered}
 use Rattle.outsiders.proofs.offer_kids.Statement.{statement}
 use Rattle.outsiders.proofs.offer_kids.Tie as tie
@@ -18,7 +17,7 @@ words-requires : tie.Need-offer-words-requires
 words-requires c κs =
     let c5 = c .before .before .before .before .before in
     let p = c5 .before .before .before .before .before .pre in (
-      scoped _ _ _ _ (p .1 .0),
+      p .1 .0 .scoped,
       (
         kids-lower _ _ _ _ _ (p .1 .0) (p .1 .1 .0) _
             (c .before .before .before .before .before .before .load .ensures),
@@ -31,7 +30,7 @@ words-requires-2 c κs =
     let c5 = c .before .before .before .before .before in
     let c10 = c5 .before .before .before .before .before in
     let p = c10 .before .before .before .before .pre in (
-      scoped _ _ _ _ (p .1 .0),
+      p .1 .0 .scoped,
       (
         kids-lower _ _ _ _ _ (p .1 .0) (p .1 .1 .0) _ (c5 .before .before .before .before .before .load .ensures),
         c .before .before .before .offer-words .ensures [] .held,

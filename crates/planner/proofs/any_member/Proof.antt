@@ -29,7 +29,7 @@ returns c =
 add-s : tie.Need-add-s Inv-loop μ-loop
 add-s c =
     let p = c .before .before .before .before .before .before .before .pre in
-    omega (arith, p .1 .1 .0, p .1 .0 .arena .few)
+    omega (arith, p .1 .1 .0, p .1 .0 .arena .scoped .few)
 
 loop-again : tie.Need-loop-again Inv-loop μ-loop
 loop-again c = (

@@ -60,7 +60,7 @@ in-thunk-part t =
     omega (arith, p .1 .0, p .1 .1 .stands .held, records-few _ (p .0)))
     (λ c. let c5 = c .before .before .before .before .before in
     let p = c5 .before .before .before .before .before .before .before .before .before .before .pre .1 in
-    omega (arith, p .1 .0, p .1 .1 .stands .held, records-few _ (p .0), c5 .operands .ensures .rep .words))
+    omega (arith, p .1 .0, p .1 .1 .stands .held, records-few _ (p .0), c5 .operands .ensures .rep .arena .scoped .words))
     (λ c. let c5 = c .before .before .before .before .before in
     c5 .operands .kept .1 .0 ∙ c5 .before .before .before .before .before .open-thunk .kept .0)
     (λ c. let c5 = c .before .before .before .before .before in

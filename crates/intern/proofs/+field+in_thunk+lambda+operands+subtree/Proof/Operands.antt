@@ -134,7 +134,7 @@ operands-part t =
     (λ c κs. tt)
     (λ c. let c4 = c .before .before .before .before in
     let c9 = c4 .before .before .before .before .before in
-    child-read t c4 .kept .words .long ∙ c9 .loop .inv .remains .kept .words .long)
+    child-read t c4 .kept .words .frame .long ∙ c9 .loop .inv .remains .kept .words .frame .long)
     (λ c. let c1 = c .before in
     let c4 = c1 .before .before .before in
     let c5 = c4 .before in
@@ -157,7 +157,7 @@ operands-part t =
     (λ c. omega (arith, c .before .before .before .before .before .before .before .before .loop .inv .remains .pending))
     (λ c. omega (arith, c .before .before .before .before .before .before .before .before .loop .inv .remains .pending))
     (λ c. let c3 = c .before .before .before in
-    omega (arith, c3 .before .before .before .before .before .loop .inv .remains .pending, child-read t c3 .rep .words))
+    omega (arith, c3 .before .before .before .before .before .loop .inv .remains .pending, child-read t c3 .rep .arena .scoped .words))
     (λ c κs. let c4 = c .before .before .before .before in
     let c8 = c4 .before .before .before .before in
     let c9 = c8 .before in
@@ -172,9 +172,9 @@ operands-part t =
     (c9 .loop .inv) (c8 .loop-test .taken) in
     let there = reading-there (now (a .forest)) (a .t) (a .i) (a .count) (a .op) (a .at) (now (a .work)) _ few h₀ _ _ _
     _ (c9 .loop .inv) (c8 .loop-test .taken) in
-    (p .0, (there, room .1, simp length-set (child-read t c4 .rep .words))))
+    (p .0, (there, room .1, simp length-set (child-read t c4 .rep .arena .scoped .words))))
     (λ c κs. let c6 = c .before .before .before .before .before .before in
-    c6 .before .before .before .before .before .before .loop .inv .remains .rep .few-scopes)
+    c6 .before .before .before .before .before .before .loop .inv .remains .rep .arena .scoped .few-scopes)
     (λ c. let c6 = c .before .before .before .before .before .before in
     omega (arith, c6 .before .before .before .before .before .before .before .loop .inv .remains .pending))
     (λ c. let c6 = c .before .before .before .before .before .before in
@@ -196,7 +196,7 @@ operands-part t =
     reading-turn (now (a .forest)) (a .t) (a .i) (a .count) (a .op) (a .at) (now (a .work)) _ few h₀ _ _ _ _
     (c13 .loop .inv) (c12 .loop-test .taken) _ (c11 .is-thunked .ensures) _ _ _ (c9 .child-at .ensures)
     (child-read t c8) (c5 .if2 .left) _ _ (c3 .bind-def .ensures) _ (c .with-child .ensures))
-    (λ c. c .before .loop .inv .remains .kept .words .long)
+    (λ c. c .before .loop .inv .remains .kept .words .frame .long)
     (λ c. let c1 = c .before in
     let c2 = c1 .before in
     let c5 = c2 .before .before .before in

@@ -217,12 +217,12 @@ subtree-part t =
     let incomplete = rw (c2 .selected2 .given .1) at (on t c4) in
     (c14 .pre .1 .0, incomplete .ready))
     (λ c. let read = rw (c .before .selected .given .1) at (on t (c .before .before .before)) in read .kept .words
-    .long)
+    .frame .long)
     (λ c. rw (c .before .selected .given .1) at (on t (c .before .before .before)))
     (λ c. let c2 = c .before .before in
     let c5 = c2 .before .before .before in
     let incomplete = rw (c5 .selected2 .given .1) at (on t (c5 .before .before)) in
-    c2 .complete .kept .1 .0 ∙ incomplete .kept .words .long)
+    c2 .complete .kept .1 .0 ∙ incomplete .kept .words .frame .long)
     (λ c. let c2 = c .before .before in
     let c5 = c2 .before .before .before in
     let c17 = c5 .before .before .before .before .before .before .before .before .before .before .before .before in

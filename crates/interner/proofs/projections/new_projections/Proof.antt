@@ -94,9 +94,9 @@ remember-requires c κs =
     let room = room-memo (now (a .forest)) (now (a .work)) (a .t) (a .st) (a .cur) (a .at) (a .held) (a .field) _
     (f .projection .result) h (i .if1 .left) _ (g .projection2 .result) k (j .if2 .left) (s .pre .1 .0)
     (s .pre .1 .1 .0) (s .pre .1 .1 .1 .0) (s .pre .1 .1 .1 .1) in
-    let few = k .rep .few-symbols in
+    let few = k .rep .arena .scoped .few in
     let p = s .pre .1 .1 .1 .0 .low in (
-      (room, omega (arith, k .rep .words)),
+      (room, omega (arith, k .rep .arena .scoped .words)),
       (
         omega (arith, p, h .leaves .more, k .leaves .more, few),
         omega (arith, h .low, k .leaves .more, few),
@@ -119,7 +119,7 @@ returns-3 c =
     (m .remember .ensures .0) (m .remember .ensures .1)
 
 same-length-3 : tie.Need-same-length-3
-same-length-3 c = returns-3 c .leaves .long
+same-length-3 c = returns-3 c .leaves .frame .long
 
 pub new-projections-spec : {M : Type 1} → statement M
 new-projections-spec =

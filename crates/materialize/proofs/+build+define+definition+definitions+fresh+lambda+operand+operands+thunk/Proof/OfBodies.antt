@@ -99,7 +99,7 @@ lambda-slice-read-wide t c =
     let b = z .pre .1 .1 .0 in
     let at = z .pre .1 .1 .1 .0 in
     let slots = slots-loaded b _ (at .low) (c .before .before .load .ensures) in
-    omega (arith, c .before .wide3 .ensures, slots, b .arena .words)
+    omega (arith, c .before .wide3 .ensures, slots, b .arena .scoped .words)
 
 pub lambda-put-requires : (t : ℕ) → lambda-lts.Need-put-requires (cycle.lambda-claims t) (cycle.lambda-at t) lambda.Post
 lambda-put-requires t c κs =
@@ -130,7 +130,7 @@ lambda-number-requires t c κs =
         ec,
         fit .first (omega (arith, some, c .wide6 .ensures, ec)),
         at .low,
-        b .arena .few,
+        b .arena .scoped .few,
         ap length (c3 .copied .ensures),
         at .long,
       ),

@@ -246,7 +246,7 @@ operands-slice-read-wide t c =
       slots,
       inv .1 .long,
       h .kept .long,
-      b .arena .words,
+      b .arena .scoped .words,
     )
 
 pub operands-operand-scope-requires : (t : ℕ) → operands-lts.Need-operand-scope-requires (cycle.operands-claims t)

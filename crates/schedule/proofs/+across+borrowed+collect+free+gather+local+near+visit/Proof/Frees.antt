@@ -6,7 +6,6 @@ use borrow.Author.Needs.{needs}
 use lib.ListN.{length}
 use Rattle.scopes.specs.declared.Rel.the-variants.{Local, Deeper, Outside}
 use Rattle.scopes.specs.Relation.{relIn}
-use Rattle.graph.proofs.Laws.{scoped}
 use Rattle.outsiders.proofs.Offers.{list-start}
 use Rattle.schedule.proofs.Neighbours.{told}
 use Rattle.schedule.proofs.Lending.{held-empty, lent-empty, put-room}
@@ -38,8 +37,8 @@ free-put-requires t c κs =
     let w = c .before .before .before .before .local .ensures in
     let fresh = body-fresh _ _ _ _ (p .1 .0) _ (p .1 .1 .0) _ (ap scopeIn
     (c .before .before .before .before .before .before .before .before .load .ensures)) _ _ _ _ w in
-    let room = put-room _ _ _ _ (w .lent) _ (p .1 .1 .0) (p .1 .0 .few) fresh in
-    (room, omega (arith, p .1 .1 .0, p .1 .0 .few), w .lent .marks-long, w .lent .held .long)
+    let room = put-room _ _ _ _ (w .lent) _ (p .1 .1 .0) (p .1 .0 .scoped .few) fresh in
+    (room, omega (arith, p .1 .1 .0, p .1 .0 .scoped .few), w .lent .marks-long, w .lent .held .long)
 
 pub free-collect-requires : (t : ℕ) → free-lts.Need-collect-requires (measures.free-calls t) (measures.free-at t)
     free.Post
@@ -135,7 +134,7 @@ collect-returns t c =
 pub gather-relation-requires : (t : ℕ) → gather-lts.Need-relation-requires (measures.gather-calls t)
     (measures.gather-at t) gather.Post
 gather-relation-requires t c κs =
-    let p = c .before .before .before .pre .1 in (scoped _ _ _ _ (p .1 .0), omega (arith, p .1 .1 .0 .0, p .1 .1 .0 .2))
+    let p = c .before .before .before .pre .1 in (p .1 .0 .scoped, omega (arith, p .1 .1 .0 .0, p .1 .1 .0 .2))
 
 pub gather-offer-kids-requires : (t : ℕ) → gather-lts.Need-offer-kids-requires
     (measures.gather-calls t) (measures.gather-at t) gather.Post
@@ -215,7 +214,7 @@ borrowed-offer-list-requires t c κs =
     let p = c5 .before .before .before .before .pre .1 in
     let f = c .before .before .before .free in
     let long : length (f .last .1 .1 .1 .1 .0) ≡ 512 = search needs in (
-      scoped _ _ _ _ (p .1 .0),
+      p .1 .0 .scoped,
       (
         record {
           fit = omega (arith, f .ensures .fit, long);

@@ -9,7 +9,6 @@ use lib.ListN.{length, getD}
 use Rattle.regions.specs.Regions.{SLOTS}
 use Rattle.scopes.specs.declared.Rel.the-variants.{Local, Deeper, Outside}
 use Rattle.scopes.specs.Relation.{relIn}
-use Rattle.graph.proofs.Laws.{scoped}
 use Rattle.outsiders.proofs.Offers.{kids-lower}
 use Rattle.schedule.specs.Schedule.{stepOf, Walked}
 use Rattle.schedule.proofs.Neighbours.{told}
@@ -31,7 +30,7 @@ use Rattle.schedule.proofs.+across+borrowed+collect+free+gather+local+n
 pub visit-is-passed-requires : (t : ℕ) → visit-lts.Need-is-passed-requires (measures.visit-calls t) (measures.visit-at
     t) visit.Post
 visit-is-passed-requires t c κs =
-    let p = c .before .before .before .before .pre .1 in (scoped _ _ _ _ (p .1 .0), p .1 .1 .0)
+    let p = c .before .before .before .before .pre .1 in (p .1 .0 .scoped, p .1 .1 .0)
 
 pub visit-returns : (t : ℕ) → visit-lts.Need-returns (measures.visit-calls t) (measures.visit-at t) visit.Post
 visit-returns t c =
@@ -44,7 +43,7 @@ pub visit-slice-read-if2 : (t : ℕ) → visit-lts.Need-slice-read-if2 (measures
 visit-slice-read-if2 t c =
     let p = c .before .before .before .before .before .before .before .pre .1 in omega (
       arith,
-      p .1 .0 .few,
+      p .1 .0 .scoped .few,
       p .1 .1 .0,
       p .1 .1 .1 .marks-long,
     )
@@ -70,8 +69,8 @@ visit-put-requires t c κs =
     (c5 .before .before .before .before .before .before .before .is-passed .ensures)
     (c5 .before .before .before .before .before .before .if1 .left) (c5 .before .before .before .before .if2 .left) _ _
     _ w in
-    let room = put-room _ _ _ _ (w .lent) _ (p .1 .1 .0) (p .1 .0 .few) fresh in
-    (room, omega (arith, p .1 .1 .0, p .1 .0 .few), w .lent .marks-long, w .lent .held .long)
+    let room = put-room _ _ _ _ (w .lent) _ (p .1 .1 .0) (p .1 .0 .scoped .few) fresh in
+    (room, omega (arith, p .1 .1 .0, p .1 .0 .scoped .few), w .lent .marks-long, w .lent .held .long)
 
 pub visit-same-length : (t : ℕ) → visit-lts.Need-same-length (measures.visit-calls t) (measures.visit-at t) visit.Post
 visit-same-length t c =
@@ -104,7 +103,7 @@ visit-returns-3 t c =
 pub near-is-end-requires : (t : ℕ) → near-lts.Need-is-end-requires (measures.near-calls t) (measures.near-at t)
     near.Post
 near-is-end-requires t c κs =
-    let p = c .before .before .before .before .pre .1 in (scoped _ _ _ _ (p .1 .0), p .1 .1 .0)
+    let p = c .before .before .before .before .pre .1 in (p .1 .0 .scoped, p .1 .1 .0)
 
 pub near-returns : (t : ℕ) → near-lts.Need-returns (measures.near-calls t) (measures.near-at t) near.Post
 near-returns t c =
@@ -114,7 +113,7 @@ near-returns t c =
 pub near-relation-requires : (t : ℕ) → near-lts.Need-relation-requires (measures.near-calls t) (measures.near-at t)
     near.Post
 near-relation-requires t c κs =
-    let p = c .before .before .before .before .before .before .pre .1 in (scoped _ _ _ _ (p .1 .0), p .1 .1 .0)
+    let p = c .before .before .before .before .before .before .pre .1 in (p .1 .0 .scoped, p .1 .1 .0)
 
 pub near-local-requires : (t : ℕ) → near-lts.Need-local-requires (measures.near-calls t) (measures.near-at t) near.Post
 near-local-requires t c κs =
@@ -199,7 +198,7 @@ local-shared-slice-read-d t c =
     let p = c5 .before .before .before .before .before .pre .1 in
     omega (
       arith,
-      p .1 .0 .words,
+      p .1 .0 .scoped .words,
       kids-lower _ _ _ _ _ (p .1 .0) (p .1 .1 .0) _
           (c .before .before .before .before .before .load .ensures) .fit,
     )
@@ -211,7 +210,7 @@ local-cast-d t c =
     let p = c5 .before .before .before .before .before .pre .1 in
     omega (
       arith,
-      p .1 .0 .few,
+      p .1 .0 .scoped .few,
       kids-lower _ _ _ _ _ (p .1 .0) (p .1 .1 .0) _
           (c .before .before .before .before .before .load .ensures) .low (c .before .before .loop .k)
           (c .before .loop-test .taken),
@@ -235,7 +234,7 @@ local-slice-read-if1 t c =
     let l = c .before .before .before in
     let p = l .before .before .before .before .before .before .before .before .pre .1 in
     let lower = local-lower t (c .before .before) in
-    omega (arith, lower, p .1 .1 .0, p .1 .0 .few, l .loop .inv .3 .lent .marks-long)
+    omega (arith, lower, p .1 .1 .0, p .1 .0 .scoped .few, l .loop .inv .3 .lent .marks-long)
 
 pub local-visit-requires : (t : ℕ) → local-lts.Need-visit-requires
     (measures.local-calls t) (measures.local-at t) local.Post measures.local-Inv-loop measures.local-μ-loop
