@@ -51,7 +51,7 @@ gives a w tree =
     eqb (n .readings) (w .readings) && same (written a) tree
 """
 CALL = """
-r{i} : gives (run {forest} {room} {words}) (record {{ number = {number}; place = {place}; len = {len}; symbols = {symbols};
+r{i} : gives (run (record {{ forest = {forest}; room = {room}; words = {words} }})) (record {{ number = {number}; place = {place}; len = {len}; symbols = {symbols};
     readings = {readings} }}) {tree} ≡ true
 unfolding gives written bytes computing
 r{i} = refl

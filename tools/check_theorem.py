@@ -53,7 +53,7 @@ use Rattle.model.specs.Answer.{Answer, refused, good}
 use Rattle.model.specs.Tree.{Rec, rec, Tree, Trees, node, nil, cons, root, serialise}
 use Rattle.model.specs.Accept.{accept}
 use Rattle.model.specs.Unfold.{Unfolded, Unfoldeds, arg, lam, made, done, more, unfolded}
-use Rattle.model.specs.Call.{Written, run}
+use Rattle.model.specs.Call.{Written, ample, run}
 use Rattle.model.specs.Computing.{computing}
 
 -- ---- equal unfoldings
@@ -101,7 +101,7 @@ after-call t (refused n p) = call-refuses n p
 after-call t (good w) = read-back t (accept (w .bytes))
 
 called : Tree → Answer Written
-called t = run (serialise (cons t nil)) 65535 16384
+called t = run (ample (serialise (cons t nil)))
 
 fate : Tree → Fate
 fate t = after-call t (called t)

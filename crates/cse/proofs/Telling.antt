@@ -16,8 +16,8 @@ use Rattle.model.specs.Tree.{many, size, depth, rows, rowsOf, forestOf, seriali
 use Rattle.model.specs.Forest.{treesOf}
 use Rattle.model.specs.Accept.{accept}
 use Rattle.model.specs.Intern.{State}
-use Rattle.model.specs.Call.{treeOf, bytesOf, writtenOf, check1, check13, check14, numbersOf, numbers, outWith}
-use Rattle.model.specs.Call.{interned, written, run}
+use Rattle.model.specs.Call.{Call, check1, lentChecks, interned, treeOf, bytesOf, check13, check14, treeChecks}
+use Rattle.model.specs.Call.{writtenOf, measured, written, run, numbersOf, outWith}
 use Rattle.model.specs.Call as call
 use Rattle.output.specs.Output.{over}
 use Rattle.serialise.specs.Serialise.{plannedBytes}
@@ -30,7 +30,7 @@ use Rattle.codec.specs.declared.Verdict.{Verdict}
 use Rattle.codec.specs.declared.Verdict.the-variants.{Accepted, Refused}
 use Rattle.codec.specs.Codec.{answerOf}
 use Rattle.cse.specs.declared.Answer.the-variants as variants
-use Rattle.cse.specs.Call.{Tells, measured, PlanOf}
+use Rattle.cse.specs.Call.{Tells, PlanOf}
 
 -- ---- told
 
@@ -75,7 +75,7 @@ module _ (room : ℕ) (o : ℕ × State) where
   past = ltb room (length (bytesOf o))
 
   at-13 : check13 room o ≡ some 0 → measured room o ≡ refused 13 0
-  unfolding measured checked unless
+  unfolding measured treeChecks checked unless
   at-13 e = rw e
 
   measured-many : 256 < size (treeOf o) → measured room o ≡ refused 13 0
@@ -100,11 +100,11 @@ module _ (room : ℕ) (o : ℕ × State) where
     )
 
     measured-deep : 64 < depth (treeOf o) → measured room o ≡ refused 14 0
-    unfolding measured checked unless check14
+    unfolding measured treeChecks checked unless check14
     measured-deep h = rw (past-13, lt-ltb 64 (depth (treeOf o)) h)
 
     measured-good : depth (treeOf o) ≤ 64 → measured room o ≡ good (writtenOf o)
-    unfolding measured checked unless check14
+    unfolding measured treeChecks checked unless check14
     measured-good h = rw (past-13, le-ltb 64 (depth (treeOf o)) h)
 
 -- from its plan p, with `size` bytes, over the output `out`
@@ -145,12 +145,8 @@ module _ (bs ws : List ℕ) (o : ℕ × State) (p : Plan) (h : PlanOf bs ws (tre
 
 -- ---- a forest
 
-module _ (bs : List ℕ) (room : ℕ) where
+module _ (bs : List ℕ) where
   -- the checks' answer
-  pub check-refused : (n p : ℕ) → accept bs ≡ refused n p → written bs room ≡ refused n p
-  unfolding written interned _>>=_
-  check-refused n p e = rw e
-
   pub verdict-refused : (r : Verdict) (n p : ℕ) → answerOf r (treesOf bs) ≡ accept bs → r ≡ Refused n p →
       accept bs ≡ refused n p
   verdict-refused r n p e is = sym e ∙ ap (λ (v : Verdict). answerOf v (treesOf bs)) is
@@ -160,26 +156,31 @@ module _ (bs : List ℕ) (room : ℕ) where
   verdict-accepted r e is = sym e ∙ ap (λ (v : Verdict). answerOf v (treesOf bs)) is
 
   -- interning's answer
-  module _ (ws : List ℕ) (r : Step) (is : outOf bs ws first r ≡ interned bs) where
-    pub intern-refused : (r .number ≡ 0 → ⊥) → written bs room ≡ refused (r .number) (r .place)
-    unfolding written _>>=_ outOf
-    intern-refused h = rw (← is, outOf, ne-eqb (r .number) 0 h)
-
-    pub intern-good : r .number ≡ 0 → interned bs ≡ good (r .symbol, absOf bs ws first (r .st))
-    unfolding outOf
-    intern-good h = sym is ∙ rw (outOf, eq-eqb (r .number) 0 h)
-
-  pub written-measured : (o : ℕ × State) → interned bs ≡ good o → written bs room ≡ measured room o
-  unfolding written _>>=_ measured
-  written-measured o e = rw e
+  pub intern-good : (ws : List ℕ) (r : Step) → outOf bs ws first r ≡ interned bs → r .number ≡ 0 →
+      interned bs ≡ good (r .symbol, absOf bs ws first (r .st))
+  unfolding outOf
+  intern-good ws r is h = sym is ∙ rw (outOf, eq-eqb (r .number) 0 h)
 
 -- ---- the call
 
-module _ (bs out : List ℕ) (words : ℕ) where
-  pub run-few : words < 16384 → run bs (length out) words ≡ refused 1 0
-  unfolding run check1 unless
-  run-few h = rw (lt-ltb words 16384 h)
+module _ (c : Call) where
+  pub check-refused : (n p : ℕ) → accept (c .forest) ≡ refused n p → written c ≡ refused n p
+  unfolding written interned _>>=_
+  check-refused n p e = rw e
 
-  pub run-enough : 16384 ≤ words → run bs (length out) words ≡ written bs (length out)
-  unfolding run check1 unless
-  run-enough h = rw (le-ltb words 16384 h)
+  pub intern-refused : (ws : List ℕ) (r : Step) → outOf (c .forest) ws first r ≡ interned (c .forest) →
+      (r .number ≡ 0 → ⊥) → written c ≡ refused (r .number) (r .place)
+  unfolding written _>>=_ outOf
+  intern-refused ws r is h = rw (← is, outOf, ne-eqb (r .number) 0 h)
+
+  pub written-measured : (o : ℕ × State) → interned (c .forest) ≡ good o → written c ≡ measured (c .room) o
+  unfolding written _>>=_
+  written-measured o e = rw e
+
+  pub run-few : c .words < 16384 → run c ≡ refused 1 0
+  unfolding run lentChecks check1 checked unless _>>=_
+  run-few h = rw (lt-ltb (c .words) 16384 h)
+
+  pub run-enough : 16384 ≤ c .words → run c ≡ written c
+  unfolding run lentChecks check1 checked unless _>>=_
+  run-enough h = rw (le-ltb (c .words) 16384 h)

@@ -3,13 +3,12 @@
 -- Assumes nothing.
 use Prim.Native.Nat.{ℕ, _≤_, min}
 use mathlib.Core.Path.{_≡_}
-use mathlib.Core.List.{List, [], _∷_, _++_}
+use mathlib.Core.List.{List, _++_}
 use lib.ListN.{length, getD, drop, replicate}
-use Rattle.model.specs.Answer.{checked}
 use Rattle.model.specs.Answer as answer
 use Rattle.model.specs.Tree.{Tree, size, depth, rows}
 use Rattle.model.specs.Intern.{State}
-use Rattle.model.specs.Call.{Numbers, numbersOf, outWith, check13, check14, writtenOf, treeOf}
+use Rattle.model.specs.Call.{Numbers, numbersOf, outWith, treeOf}
 use Rattle.model.specs.Call as call
 use Rattle.plan.specs.Plan.{planFrom, AllWritable, plannedRows}
 use Rattle.planner.specs.declared.Plan.{Plan}
@@ -33,10 +32,6 @@ numbersIn (Refused n p) = five n p 0 0 0
 pub record Tells (a : answer.Answer call.Written) (out : List ℕ) (r : Answer) (out′ : List ℕ) : Type 0 where
   pub numbers : numbersIn r ≡ numbersOf a
   pub output : out′ ≡ outWith a out
-
--- the answer for a tree that document 01 defines: 13 and 14, or its bytes
-unfoldable pub measured : ℕ → ℕ × State → answer.Answer call.Written
-measured room o = checked ((13, check13 room o) ∷ (14, check14 o) ∷ []) (writtenOf o)
 
 -- ---- words
 

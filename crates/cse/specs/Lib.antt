@@ -1,3 +1,2 @@
 -- Definitions that the contracts cite. Assumes nothing.
 pub mod Call
-pub mod Demanded

@@ -12,15 +12,14 @@ ghost use lib.ListN.{length};
 ghost use Rattle.model.specs.Answer.{good};
 ghost use Rattle.model.specs.Accept.{accept};
 ghost use Rattle.model.specs.Forest.{treesOf};
-ghost use Rattle.model.specs.Call.{treeOf, interned, written, numbers, outAfter, workAfter};
+ghost use Rattle.model.specs.Call.{callOf, treeOf, interned, measured, written, numbers, outAfter, workAfter};
 ghost use Rattle.model.specs.Intern as intern;
-ghost use Rattle.model.specs.Demand3.{Demand3};
+ghost use Rattle.model.specs.Demand3.{Demanded, Demand3};
 ghost use Rattle.record.specs.Record.{Laid};
 ghost use Rattle.regions.specs.Regions.{WORDS};
 ghost use Rattle.tables.specs.Tables.{first};
 ghost use Rattle.interner.specs.State.{absOf, Rep};
-ghost use Rattle.cse.specs.Call.{five, numbersIn, Tells, measured, cleared, Unused, PlanOf, Ready, Planned};
-ghost use Rattle.cse.specs.Demanded.{Demanded};
+ghost use Rattle.cse.specs.Call.{five, numbersIn, Tells, cleared, Unused, PlanOf, Ready, Planned};
 
 // What the call gives: how many bytes were written, how many symbols and readings there were; or the number and the
 // place of a refusal.
@@ -101,8 +100,8 @@ fn planned(forest: &[u8], work: &mut [u32], st: State, root: usize) -> Plan
 fn accepted(forest: &[u8], out: &mut [u8], work: &mut [u32]) -> Answer
     requires { ⌜ accept (now forest) ≡ good (treesOf (now forest)) ⌝ }
     requires { ⌜ WORDS ≤ length (now work) ⌝ }
-    ensures { λ r. ⌜ Tells (written (now (forest .entry)) (length (now (out .entry)))) (now (out .entry)) r
-        (now (out .exit)) ⌝ }
+    ensures { λ r. ⌜ Tells (written (callOf (now (forest .entry)) (now (out .entry)) (now (work .entry))))
+        (now (out .entry)) r (now (out .exit)) ⌝ }
     ensures { λ r. ⌜ Unused (now (work .entry)) (now (work .exit)) ⌝ }
 {
     let step = intern::forest(forest, work);
@@ -117,8 +116,8 @@ fn accepted(forest: &[u8], out: &mut [u8], work: &mut [u32]) -> Answer
 // Any forest, once the work words suffice. Rules out: a forest interned that a check refuses; another place.
 fn pass(forest: &[u8], out: &mut [u8], work: &mut [u32]) -> Answer
     requires { ⌜ WORDS ≤ length (now work) ⌝ }
-    ensures { λ r. ⌜ Tells (written (now (forest .entry)) (length (now (out .entry)))) (now (out .entry)) r
-        (now (out .exit)) ⌝ }
+    ensures { λ r. ⌜ Tells (written (callOf (now (forest .entry)) (now (out .entry)) (now (work .entry))))
+        (now (out .entry)) r (now (out .exit)) ⌝ }
     ensures { λ r. ⌜ Unused (now (work .entry)) (now (work .exit)) ⌝ }
 {
     match codec::check(forest, work) {
@@ -134,13 +133,13 @@ fn pass(forest: &[u8], out: &mut [u8], work: &mut [u32]) -> Answer
 // that keep what a refused call left there.
 pub fn cse(forest: &[u8], out: &mut [u8], work: &mut [u32]) -> Answer
     ensures { λ r. ⌜ numbersIn r
-        ≡ numbers (now (forest .entry)) (length (now (out .entry))) (length (now (work .entry))) ⌝ }
+        ≡ numbers (callOf (now (forest .entry)) (now (out .entry)) (now (work .entry))) ⌝ }
     ensures { λ r. ⌜ now (out .exit)
-        ≡ outAfter (now (forest .entry)) (now (out .entry)) (length (now (work .entry))) ⌝ }
+        ≡ outAfter (callOf (now (forest .entry)) (now (out .entry)) (now (work .entry))) (now (out .entry)) ⌝ }
     ensures { λ r. ⌜ now (work .exit) ≡ workAfter (now (work .entry)) ⌝ }
-    ensures { λ r. ⌜ Demand3 (now (forest .entry)) (length (now (out .entry))) (length (now (work .entry))) ⌝ }
-    ensures { λ r. ⌜ Demanded (now (forest .entry)) (now (out .entry)) (length (now (work .entry))) (numbersIn r)
-        (now (out .exit)) ⌝ }
+    ensures { λ r. ⌜ Demand3 (callOf (now (forest .entry)) (now (out .entry)) (now (work .entry))) ⌝ }
+    ensures { λ r. ⌜ Demanded (callOf (now (forest .entry)) (now (out .entry)) (now (work .entry))) (now (out .entry))
+        (numbersIn r) (now (out .exit)) ⌝ }
 {
     if work.len() < WORDS {
         return Answer::Refused(1, 0);
@@ -165,12 +164,12 @@ pub extern "C" fn cse_call(
 )
     ensures { λ _. ⌜ five (now (number .exit)) (now (place .exit)) (now (len .exit)) (now (symbols .exit))
         (now (readings .exit))
-        ≡ numbers (now (forest .entry)) (length (now (out .entry))) (length (now (work .entry))) ⌝ }
+        ≡ numbers (callOf (now (forest .entry)) (now (out .entry)) (now (work .entry))) ⌝ }
     ensures { λ _. ⌜ now (out .exit)
-        ≡ outAfter (now (forest .entry)) (now (out .entry)) (length (now (work .entry))) ⌝ }
+        ≡ outAfter (callOf (now (forest .entry)) (now (out .entry)) (now (work .entry))) (now (out .entry)) ⌝ }
     ensures { λ _. ⌜ now (work .exit) ≡ workAfter (now (work .entry)) ⌝ }
-    ensures { λ _. ⌜ Demand3 (now (forest .entry)) (length (now (out .entry))) (length (now (work .entry))) ⌝ }
-    ensures { λ _. ⌜ Demanded (now (forest .entry)) (now (out .entry)) (length (now (work .entry)))
+    ensures { λ _. ⌜ Demand3 (callOf (now (forest .entry)) (now (out .entry)) (now (work .entry))) ⌝ }
+    ensures { λ _. ⌜ Demanded (callOf (now (forest .entry)) (now (out .entry)) (now (work .entry))) (now (out .entry))
         (five (now (number .exit)) (now (place .exit)) (now (len .exit)) (now (symbols .exit))
         (now (readings .exit))) (now (out .exit)) ⌝ }
 {

@@ -1,17 +1,21 @@
 -- Checks in their order: `checked` gives the value exactly where every check passes, and else the first check that
 -- fails.
--- In order: every check passes, or one is first to fail; checks whose numbers rise, where the first that fails has the
--- lowest number. Acceptance uses the first two, the statement of demand 3 all.
+-- In order: every check passes, or one is first to fail; what a check that fails says; checks that fail exactly where a
+-- condition holds: all pass exactly where none holds, and the first to fail is the first that holds. Acceptance uses the
+-- first, the statement of demand 3 all.
 -- Assumes nothing.
-use mathlib.Core.Path.{_≡_, refl, sym, _∙_}
-use mathlib.Core.Logic.{_⊎_, inl, inr}
-use mathlib.Core.Option.{Option, none, some, Option·some-injective}
-use mathlib.Core.List.{List, [], _∷_, _++_}
-use Prim.Native.Nat.{ℕ, zero, suc, _≤_, _<_}
-use native.Mathlib.Omega.{arith}
-use lib.ListN.{drop}
+use mathlib.Core.Path.{_≡_, refl, sym, _∙_, subst}
+use mathlib.Core.Logic.{_⊎_, inl, inr, _↔_}
+use mathlib.Core.Bool.{false}
+use mathlib.Core.Option.{Option, none, some}
+use mathlib.Core.List.{List, [], _∷_, _++_, map}
+use Prim.Native.Nat.{ℕ}
+use Rattle.model.specs.Lists.{isIn, twice}
 use Rattle.model.specs.Answer.{Answer, refused, good, unless, checked}
-use Rattle.laws.proofs.Apart.{none-some, refused-good, good-inj}
+use Rattle.model.specs.Conditions.{Before}
+use Rattle.laws.proofs.Apart.{none-some, refused-good, good-inj, refused-parts}
+use Rattle.laws.specs.Members.{In}
+use Rattle.laws.proofs.Members.{isIn-true, in-isIn, isIn-false, or-neither}
 
 -- ---- every check passes, or one is first to fail
 
@@ -84,80 +88,120 @@ module _ {A : Type 0} where
   first-checked n p (c ∷ cs) a (inl h) = rw (h .1, h .0) refl
   first-checked n p (c ∷ cs) a (inr h) = rw (h .0) (first-checked n p cs a (h .1))
 
--- ---- rising numbers
+  pub refused-first : (n p : ℕ) (cs : List Check) (a : A) → checked cs a ≡ refused n p → FirstAt n p cs
+  refused-first n p cs a e = go (passes-or-first cs)
+    where
+      go : Passes cs ⊎ ((m : ℕ) × (q : ℕ) × FirstAt m q cs) → FirstAt n p cs
+      go (inl h) = refused-good (sym e ∙ passes-checked cs a h)
+      go (inr (m, q, f)) =
+          let z = refused-parts (sym (first-checked m q cs a f) ∙ e) in
+          let en : m ≡ n = z .0 in
+          let ep : q ≡ p = z .1 in
+          rw (en, ep) at f
 
--- the numbers rise, from lo on
-abbrev pub Rising : ℕ → List Check → Type 0
-Rising lo [] = Unit {0}
-Rising lo (c ∷ cs) = (lo ≤ c .0) × Rising (suc (c .0)) cs
+-- ---- what a check that fails says
 
--- check n fails at place p
-abbrev pub Fails : ℕ → ℕ → List Check → Type 0
-Fails n p [] = ⊥
-Fails n p (c ∷ cs) = ((c .0 ≡ n) × (c .1 ≡ some p)) ⊎ Fails n p cs
-
--- past the first k checks
-pub fails-past : (n p k : ℕ) (cs : List Check) → Fails n p (drop k cs) → Fails n p cs
-fails-past n p zero cs f = f
-fails-past n p (suc k) [] f = f
-fails-past n p (suc k) (c ∷ cs) f = inr (fails-past n p k cs f)
-
-pub fails-left : (n p : ℕ) (cs ds : List Check) → Fails n p cs → Fails n p (cs ++ ds)
-fails-left n p [] ds f = absurd f
-fails-left n p (c ∷ cs) ds (inl f) = inl f
-fails-left n p (c ∷ cs) ds (inr f) = inr (fails-left n p cs ds f)
-
-pub fails-split : (n p : ℕ) (cs ds : List Check) → Fails n p (cs ++ ds) → Fails n p cs ⊎ Fails n p ds
-fails-split n p [] ds f = inr f
-fails-split n p (c ∷ cs) ds (inl f) = inl (inl f)
-fails-split n p (c ∷ cs) ds (inr f) = go (fails-split n p cs ds f)
-  where
-    go : Fails n p cs ⊎ Fails n p ds → Fails n p (c ∷ cs) ⊎ Fails n p ds
-    go (inl f) = inl (inr f)
-    go (inr f) = inr f
-
--- P holds of the number and the place of each check that fails
+-- P holds of the number and the place of each check that fails, once the checks before it pass
 abbrev pub Says : (ℕ → ℕ → Type 0) → List Check → Type 0
 Says P [] = Unit {0}
-Says P (c ∷ cs) = ((p : ℕ) → c .1 ≡ some p → P (c .0) p) × Says P cs
+Says P (c ∷ cs) = ((p : ℕ) → c .1 ≡ some p → P (c .0) p) × (c .1 ≡ none → Says P cs)
 
-pub fails-says : (P : ℕ → ℕ → Type 0) (cs : List Check) → Says P cs → (n p : ℕ) → Fails n p cs → P n p
-fails-says P [] h n p f = absurd f
-fails-says P (c ∷ cs) h n p (inl f) = rw (← f .0) (h .0 p (f .1))
-fails-says P (c ∷ cs) h n p (inr f) = fails-says P cs (h .1) n p f
+-- a check of which something is known whatever the checks before it find
+pub _next_ : {A B C : Type 0} → A → B → A × (C → B)
+_next_ a b = (a, λ _. b)
 
-pub first-fails : (n p : ℕ) (cs : List Check) → FirstAt n p cs → Fails n p cs
-first-fails n p [] f = f
-first-fails n p (c ∷ cs) (inl h) = inl h
-first-fails n p (c ∷ cs) (inr h) = inr (first-fails n p cs (h .1))
+infixr 5 _next_
+pub first-says : (P : ℕ → ℕ → Type 0) (cs : List Check) → Says P cs → (n p : ℕ) → FirstAt n p cs → P n p
+first-says P [] x n p f = absurd f
+first-says P (c ∷ cs) x n p (inl h) = subst (λ (k : ℕ). P k p) (h .0) (x .0 p (h .1))
+first-says P (c ∷ cs) x n p (inr h) = first-says P cs (x .1 (h .0)) n p (h .1)
 
-pub passes-none-fails : (cs : List Check) → Passes cs → (n p : ℕ) → Fails n p cs → ⊥
-passes-none-fails [] h n p f = f
-passes-none-fails (c ∷ cs) h n p (inl f) = none-some (sym (h .0) ∙ f .1)
-passes-none-fails (c ∷ cs) h n p (inr f) = passes-none-fails cs (h .1) n p f
+-- ---- checks that fail exactly where a condition holds
 
-pub fails-from : (lo : ℕ) (cs : List Check) → Rising lo cs → (n p : ℕ) → Fails n p cs → lo ≤ n
-fails-from lo [] h n p f = absurd f
-fails-from lo (c ∷ cs) h n p (inl f) = omega (arith, h .0, f .0)
-fails-from lo (c ∷ cs) h n p (inr f) = omega (arith, h .0, fails-from (suc (c .0)) cs (h .1) n p f)
+-- the checks' numbers, in their order
+abbrev pub numbering : List Check → List ℕ
+numbering cs = map (λ c. c .0) cs
 
--- checks before check d have lower numbers
-rising-reaches : (lo : ℕ) (cs : List Check) (d : Check) (ds : List Check) → Rising lo (cs ++ (d ∷ ds)) → lo ≤ d .0
-rising-reaches lo [] d ds h = h .0
-rising-reaches lo (c ∷ cs) d ds h = omega (arith, h .0, rising-reaches (suc (c .0)) cs d ds (h .1))
+-- each check fails at a place exactly where P holds of its number and the place, once the checks before it pass
+abbrev pub Exact : (ℕ → ℕ → Type 0) → List Check → Type 0
+Exact P [] = Unit {0}
+Exact P (c ∷ cs) = ((p : ℕ) → (c .1 ≡ some p) ↔ P (c .0) p) × (c .1 ≡ none → Exact P cs)
 
-pub fails-before : (lo : ℕ) (cs : List Check) (d : Check) (ds : List Check) → Rising lo (cs ++ (d ∷ ds)) →
-    (n p : ℕ) → Fails n p cs → n < d .0
-fails-before lo [] d ds h n p f = absurd f
-fails-before lo (c ∷ cs) d ds h n p (inl f) = omega (arith, f .0, rising-reaches (suc (c .0)) cs d ds (h .1))
-fails-before lo (c ∷ cs) d ds h n p (inr f) = fails-before (suc (c .0)) cs d ds (h .1) n p f
+pub first-in : (n p : ℕ) (cs : List Check) → FirstAt n p cs → In n (numbering cs)
+first-in n p [] f = absurd f
+first-in n p (c ∷ cs) (inl h) = inl (sym (h .0))
+first-in n p (c ∷ cs) (inr h) = inr (first-in n p cs (h .1))
 
--- the first that fails has the lowest number, and each number one place
-pub first-least : (lo : ℕ) (cs : List Check) → Rising lo cs → (n p m q : ℕ) → FirstAt n p cs → Fails m q cs →
-    (n < m) ⊎ ((n ≡ m) × (p ≡ q))
-first-least lo [] h n p m q f g = absurd f
-first-least lo (c ∷ cs) h n p m q (inl f) (inl g) =
-    inr (sym (f .0) ∙ g .0, Option·some-injective _ _ (sym (f .1) ∙ g .1))
-first-least lo (c ∷ cs) h n p m q (inl f) (inr g) = inl (omega (arith, f .0, fails-from (suc (c .0)) cs (h .1) m q g))
-first-least lo (c ∷ cs) h n p m q (inr f) (inl g) = none-some (sym (f .0) ∙ g .1)
-first-least lo (c ∷ cs) h n p m q (inr f) (inr g) = first-least (suc (c .0)) cs (h .1) n p m q (f .1) g
+-- where m stands before n, n is in the list
+before-in : (m n : ℕ) (ks : List ℕ) → Before m n ks → In n ks
+before-in m n [] b = absurd b
+before-in m n (k ∷ ks) (inl h) = inr (isIn-true n ks (h .1))
+before-in m n (k ∷ ks) (inr b) = inr (before-in m n ks b)
+
+module _ (P : ℕ → ℕ → Type 0) where
+  pub exact-append : (cs ds : List Check) → Exact P cs → (Passes cs → Exact P ds) → Exact P (cs ++ ds)
+  exact-append [] ds x y = y tt
+  exact-append (c ∷ cs) ds x y = (x .0, λ e. exact-append cs ds (x .1 e) (λ h. y (e, h)))
+
+  -- what holds, though all pass, has another number
+  pub passes-none : (cs : List Check) → Exact P cs → Passes cs → (n p : ℕ) → In n (numbering cs) → P n p → ⊥
+  passes-none [] x h n p i a = i
+  passes-none (c ∷ cs) x h n p (inl e) a =
+      none-some (sym (h .0) ∙ x .0 p .1 (subst (λ (k : ℕ). P k p) e a))
+  passes-none (c ∷ cs) x h n p (inr i) a = passes-none cs (x .1 (h .0)) (h .1) n p i a
+
+  pub exact-says : (cs : List Check) → Exact P cs → Says P cs
+  exact-says [] x = tt
+  exact-says (c ∷ cs) x = (λ p e. x .0 p .0 e, λ e. exact-says cs (x .1 e))
+
+  -- what holds stands behind the first to fail, where no number is in the list twice
+  none-before : (cs : List Check) → Exact P cs → twice (numbering cs) ≡ false → (n p m q : ℕ) → FirstAt n p cs →
+      Before m n (numbering cs) → P m q → ⊥
+  unfolding twice
+  none-before [] x once n p m q f b a = f
+  none-before (c ∷ cs) x once n p m q (inl h) b a = later b
+    where
+      not-again : In n (numbering cs) → ⊥
+      not-again i =
+          isIn-false (c .0) (numbering cs) (or-neither _ (twice (numbering cs)) once .0)
+          (subst (λ (k : ℕ). In k (numbering cs)) (sym (h .0)) i)
+
+      later : Before m n (numbering (c ∷ cs)) → ⊥
+      later (inl b) = not-again (isIn-true n (numbering cs) (b .1))
+      later (inr b) = not-again (before-in m n (numbering cs) b)
+  none-before (c ∷ cs) x once n p m q (inr h) (inl b) a =
+      none-some (sym (h .0) ∙ x .0 q .1 (subst (λ (k : ℕ). P k q) (sym (b .0)) a))
+  none-before (c ∷ cs) x once n p m q (inr h) (inr b) a =
+      none-before cs (x .1 (h .0)) (or-neither (isIn (c .0) (numbering cs)) _ once .1) n p m q (h .1) b a
+
+  -- what holds, with none before it, is the first to fail
+  only-first : (cs : List Check) → Exact P cs → (n p m q : ℕ) → FirstAt m q cs → In n (numbering cs) → P n p →
+      ((k z : ℕ) → Before k n (numbering cs) → P k z → ⊥) → FirstAt n p cs
+  only-first [] x n p m q f i a least = f
+  only-first (c ∷ cs) x n p m q f (inl e) a least = inl (sym e, x .0 p .1 (subst (λ (k : ℕ). P k p) e a))
+  only-first (c ∷ cs) x n p m q (inl h) (inr i) a least =
+      absurd (least (c .0) q (inl (refl, in-isIn n _ i)) (x .0 q .0 (h .1)))
+  only-first (c ∷ cs) x n p m q (inr h) (inr i) a least =
+      inr (h .0, only-first cs (x .1 (h .0)) n p m q (h .1) i a (λ k z b. least k z (inr b)))
+
+  -- no two checks have one number, and P holds of none but their numbers
+  module _ (cs : List Check) (exact : Exact P cs) (once : twice (numbering cs) ≡ false)
+      (known : (n p : ℕ) → P n p → In n (numbering cs)) where
+    pub passes-exactly : Passes cs ↔ ((n p : ℕ) → P n p → ⊥)
+    passes-exactly = (λ h n p a. passes-none cs exact h n p (known n p a) a, λ h. go h (passes-or-first cs))
+      where
+        go : ((n p : ℕ) → P n p → ⊥) → Passes cs ⊎ ((n : ℕ) × (p : ℕ) × FirstAt n p cs) → Passes cs
+        go h (inl w) = w
+        go h (inr (n, p, f)) = absurd (h n p (first-says P cs (exact-says cs exact) n p f))
+
+    pub first-exactly : (n p : ℕ) →
+        FirstAt n p cs ↔ (P n p × ((m q : ℕ) → Before m n (numbering cs) → P m q → ⊥))
+    first-exactly n p = (
+      λ f. (first-says P cs (exact-says cs exact) n p f, λ m q. none-before cs exact once n p m q f),
+      λ h. go h (passes-or-first cs),
+    )
+      where
+        go : P n p × ((m q : ℕ) → Before m n (numbering cs) → P m q → ⊥) →
+            Passes cs ⊎ ((m : ℕ) × (q : ℕ) × FirstAt m q cs) → FirstAt n p cs
+        go h (inl w) = absurd (passes-exactly .0 w n p (h .0))
+        go h (inr (m, q, f)) = only-first cs exact n p m q f (known n p (h .0)) (h .0) (h .1)

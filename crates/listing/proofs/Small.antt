@@ -1,28 +1,29 @@
--- A refusal's number is at most 14 and its place at most 256, so that a line has room for them.
+-- A refusal's number and place have few digits, so that a line has room for them: the place is at most 256.
 -- In order: a forest's records; the place; the number.
 -- Assumes nothing.
-use Prim.Native.Nat.{ℕ, zero, suc, _≤_}
+use Prim.Native.Nat.{ℕ, _+_, _≤_, _<_}
 use mathlib.Core.Path.{_≡_, refl, sym, ap, _∙_}
-use mathlib.Core.Bool.{Bool, true, false, _||_}
-use mathlib.Core.List.{List, [], _∷_}
+use mathlib.Core.Logic.{inl, inr}
+use mathlib.Core.List.{List, [], _∷_, map}
 use native.Mathlib.Omega.{arith}
-use lib.Dec.{ltb}
+use borrow.Author.Tests.{ltb-true}
 use lib.ListN.{length}
-use Rattle.model.specs.Answer.{Answer, refused, good, _>>=_, unless, checked, at0}
-use Rattle.model.specs.Tree.{Trees, size, sizes, depth}
+use Rattle.model.specs.Answer.{Answer, refused, good, _>>=_}
+use Rattle.model.specs.Tree.{Trees, sizes}
 use Rattle.model.specs.Forest.{treesOf}
 use Rattle.model.specs.Accept.{accept}
 use Rattle.model.specs.Intern.{State, Out}
-use Rattle.model.specs.Call.{treeOf, bytesOf, check13, check14, Written, writtenOf, interned, written, run}
-use Rattle.model.specs.Call.{Numbers, numbersOf, numbers}
-use Rattle.model.specs.Conditions.{Applies, at-1, at-2, at-3, at-4, at-5, at-6, at-7, at-8, at-9, at-10, at-11, at-12}
-use Rattle.model.specs.Conditions.{at-13, at-14, interning}
-use Rattle.laws.proofs.Apart.{refused-good, refused-parts}
+use Rattle.model.specs.Call.{Call, interned, check13, check14, treeChecks, writtenOf, measured, written, run}
+use Rattle.model.specs.Conditions.{interning, order}
+use Rattle.laws.proofs.Apart.{refused-parts}
+use Rattle.laws.proofs.Checks.{Says, _next_, first-says, refused-first}
 use Rattle.laws.proofs.Header.{header-of, row-count}
+use Rattle.laws.specs.Members.{In}
 use Rattle.laws.proofs.Rows.{sizes-rows, closed-trees}
 use Rattle.theory.proofs.Promise.Refusals.{Limited}
-use Rattle.theory.proofs.Demand3.Order.{root-limited, call-passes}
-use Rattle.theory.proofs.Demand3.Exactly.{zero-passes, refusal-both}
+use Rattle.theory.proofs.Demand3.Places.{at-0}
+use Rattle.theory.proofs.Demand3.Order.{root-limited, applies-in}
+use Rattle.theory.proofs.Demand3.Exactly.{refused-applies}
 use Rattle.codec.proofs.Accepting.{accept-passed}
 use Rattle.cse.proofs.Places.{place-small}
 use Rattle.cse.proofs.Telling.{check-refused, run-enough}
@@ -43,81 +44,55 @@ records-most bs e =
 
 -- ---- the place
 
-module _ (n p : ℕ) where
-  -- 13 and 14 have no place of their own
-  at-start : (b c : Bool) (w : Written) → checked ((13, at0 b) ∷ (14, at0 c) ∷ []) w ≡ refused n p → p ≤ 256
-  unfolding checked unless
-  at-start true c w e = omega (arith, refused-parts e .1)
-  at-start false true w e = omega (arith, refused-parts e .1)
-  at-start false false w e = refused-good (sym e)
+-- the checks of the tree have no place of their own
+places-0 : (room : ℕ) (o : ℕ × State) → Says (λ n p. p ≡ 0) (map (λ c. (c .0, c .1 o)) (treeChecks room))
+unfolding treeChecks check13 check14
+places-0 room o = (λ p e. at-0 _ p .0 e .0) next (λ p e. at-0 _ p .0 e .0) next tt
 
-  tree-place : (room : ℕ) (o : ℕ × State) →
-      checked ((13, check13 room o) ∷ (14, check14 o) ∷ []) (writtenOf o) ≡ refused n p → p ≤ 256
-  unfolding check13 check14
+module _ (n p : ℕ) where
+  tree-place : (room : ℕ) (o : ℕ × State) → measured room o ≡ refused n p → p ≡ 0
+  unfolding measured
   tree-place room o e =
-      at-start (ltb 256 (size (treeOf o)) || ltb 65535 (length (bytesOf o)) || ltb room (length (bytesOf o)))
-      (ltb 64 (depth (treeOf o))) (writtenOf o) e
+      first-says (λ n p. p ≡ 0) _ (places-0 room o) n p (refused-first n p _ (writtenOf o) e)
 
   -- interning refuses at a record
-  made-place : (room end : ℕ) (m : Out) → end ≤ 256 → Limited end m →
-      m >>= (λ o. checked ((13, check13 room o) ∷ (14, check14 o) ∷ []) (writtenOf o)) ≡ refused n p → p ≤ 256
+  made-place : (room end : ℕ) (m : Out) → end ≤ 256 → Limited end m → m >>= measured room ≡ refused n p → p ≤ 256
   unfolding _>>=_
   made-place room end (refused k q) l h e = omega (arith, refused-parts e .1, h .1)
-  made-place room end (good o) l h e = tree-place room o e
+  made-place room end (good o) l h e = omega (arith, tree-place room o e)
 
-  written-place : (bs : List ℕ) (room : ℕ) → written bs room ≡ refused n p → p ≤ 256
+  written-place : (c : Call) → written c ≡ refused n p → p ≤ 256
   unfolding written interned _>>=_
-  written-place bs room e = go (accept bs) refl
+  written-place c e = go (accept (c .forest)) refl
     where
-      go : (a : Answer Trees) → accept bs ≡ a → p ≤ 256
+      go : (a : Answer Trees) → accept (c .forest) ≡ a → p ≤ 256
       go (refused m q) f =
-          omega (arith, place-small bs m q f, refused-parts (sym (check-refused bs room m q f) ∙ e) .1)
+          omega (arith, place-small (c .forest) m q f, refused-parts (sym (check-refused c m q f) ∙ e) .1)
       go (good ts) f =
-          let g : accept bs ≡ good (treesOf bs) = f ∙ ap good (sym (accept-passed bs ts f .trees)) in
-          made-place room (sizes (treesOf bs)) (interning bs) (records-most bs g) (root-limited bs)
-          (rw g at e)
+          let g : accept (c .forest) ≡ good (treesOf (c .forest)) =
+          f ∙ ap good (sym (accept-passed (c .forest) ts f .trees)) in
+          made-place (c .room) (sizes (treesOf (c .forest))) (interning (c .forest)) (records-most (c .forest) g)
+          (root-limited (c .forest)) (rw g at e)
+
+pub place-most : (c : Call) (n p : ℕ) → run c ≡ refused n p → 16384 ≤ c .words → p ≤ 256
+place-most c n p is h = written-place n p c (sym (run-enough c h) ∙ is)
 
 -- ---- the number
 
-applies-number : (bs : List ℕ) (room words n p : ℕ) → Applies bs room words n p → n ≤ 14
-applies-number bs room words n p (at-1 h) = omega arith
-applies-number bs room words n p (at-2 h) = omega arith
-applies-number bs room words n p (at-3 q h) = omega arith
-applies-number bs room words n p (at-4 q h) = omega arith
-applies-number bs room words n p (at-5 q h) = omega arith
-applies-number bs room words n p (at-6 q h) = omega arith
-applies-number bs room words n p (at-7 q h) = omega arith
-applies-number bs room words n p (at-8 q h) = omega arith
-applies-number bs room words n p (at-9 q h) = omega arith
-applies-number bs room words n p (at-10 q h) = omega arith
-applies-number bs room words n p (at-11 q h) = omega arith
-applies-number bs room words n p (at-12 q h) = omega arith
-applies-number bs room words n p (at-13 o d h) = omega arith
-applies-number bs room words n p (at-14 o d h) = omega arith
+total : List ℕ → ℕ
+total [] = 0
+total (k ∷ ks) = k + total ks
 
-module _ (bs out : List ℕ) (words n p : ℕ) (is : run bs (length out) words ≡ refused n p) where
-  numbers-are : numbers bs (length out) words ≡ numbersOf (refused n p)
-  unfolding numbers
-  numbers-are = ap numbersOf is
+in-total : (n : ℕ) (ks : List ℕ) → In n ks → n ≤ total ks
+unfolding total
+in-total n [] i = absurd i
+in-total n (k ∷ ks) (inl e) = omega arith
+in-total n (k ∷ ks) (inr i) = omega (arith, in-total n ks i)
 
-  number-is : numbers bs (length out) words .number ≡ n
-  unfolding numbersOf
-  number-is = ap (λ (z : Numbers). z .number) numbers-are
+total-small : total order < 1000000000
+unfolding total
+total-small = ltb-true (total order) 1000000000 refl
 
-  place-is : numbers bs (length out) words .place ≡ p
-  unfolding numbersOf
-  place-is = ap (λ (z : Numbers). z .place) numbers-are
-
-  number-from : (k : ℕ) → n ≡ k → 1 ≤ n
-  number-from zero e =
-      let w = call-passes bs (length out) words (zero-passes bs (length out) words (number-is ∙ e)) in
-      refused-good (sym is ∙ w .1 .2)
-  number-from (suc k) e = omega arith
-
-  pub number-small : n ≤ 14
-  number-small =
-      applies-number bs (length out) words n p
-      (refusal-both bs (length out) words n p (number-from n refl) .0 (number-is, place-is) .0)
-
-  pub place-most : 16384 ≤ words → p ≤ 256
-  place-most h = written-place n p bs (length out) (sym (run-enough bs out words h) ∙ is)
+pub number-small : (c : Call) (n p : ℕ) → run c ≡ refused n p → n < 1000000000
+number-small c n p is =
+    omega (arith, total-small, in-total n order (applies-in c n p (refused-applies c n p is .0)))

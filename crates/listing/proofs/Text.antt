@@ -8,10 +8,10 @@ use native.Mathlib.Omega.{arith}
 use lib.Dec.{ltb}
 use lib.ListN.{length, getD, take, drop, replicate, length-replicate}
 use lib.Seq.{take-at, drop-at, getD-append-add, getD-drop}
-use Rattle.model.specs.Answer.{refused, good}
+use Rattle.model.specs.Answer.{refused, good, _>>=_}
 use Rattle.model.specs.Answer as answer
 use Rattle.model.specs.Intern.{State}
-use Rattle.model.specs.Call.{Written, interned, run, outAfter, workAfter}
+use Rattle.model.specs.Call.{Call, ample, interned, Written, measured, written, run, outAfter, workAfter}
 use Rattle.model.specs.Lister.{linesOf, lister, symbolLines, refusalLine}
 use Rattle.output.proofs.Over.{over-front}
 use Rattle.output.specs.Output.{Wrote}
@@ -22,32 +22,33 @@ use Rattle.cse.proofs.Telling.{run-enough}
 use Rattle.listing.specs.Listing.{Listed}
 
 -- the call is lent 65,535 bytes and enough words
-module _ (bs out : List ℕ) (words : ℕ) (room : length out ≡ 65535) (enough : 16384 ≤ words) where
-  run-lent : run bs 65535 16384 ≡ run bs (length out) words
+module _ (c : Call) (room : c .room ≡ 65535) (enough : 16384 ≤ c .words) where
+  run-lent : run (ample (c .forest)) ≡ run c
+  unfolding written
   run-lent =
-      ap (λ (n : ℕ). run bs n 16384) (sym room) ∙ run-enough bs out 16384 (omega arith) ∙
-      sym (run-enough bs out words enough)
+      run-enough (ample (c .forest)) (omega arith) ∙ ap (λ (n : ℕ). interned (c .forest) >>= measured n) (sym room) ∙
+      sym (run-enough c enough)
 
   -- ---- which text
 
-  lister-of : (a : answer.Answer Written) → run bs (length out) words ≡ a → lister bs ≡ linesOf a (interned bs)
+  lister-of : (a : answer.Answer Written) → run c ≡ a → lister (c .forest) ≡ linesOf a (interned (c .forest))
   unfolding lister
-  lister-of a e = ap (λ (x : answer.Answer Written). linesOf x (interned bs)) (run-lent ∙ e)
+  lister-of a e = ap (λ (x : answer.Answer Written). linesOf x (interned (c .forest))) (run-lent ∙ e)
 
-  lister-refused : (n p : ℕ) → run bs (length out) words ≡ refused n p → lister bs ≡ refusalLine n p
+  lister-refused : (n p : ℕ) → run c ≡ refused n p → lister (c .forest) ≡ refusalLine n p
   unfolding linesOf
   lister-refused n p e = lister-of (refused n p) e
 
-  lister-good : (w : Written) (o : ℕ × State) → run bs (length out) words ≡ good w → interned bs ≡ good o →
-      lister bs ≡ symbolLines (o .1 .syms)
+  lister-good : (w : Written) (o : ℕ × State) → run c ≡ good w → interned (c .forest) ≡ good o →
+      lister (c .forest) ≡ symbolLines (o .1 .syms)
   unfolding linesOf
   lister-good w o e f = lister-of (good w) e ∙ ap (linesOf (good w)) f
 
   -- ---- where it stands
 
   -- over what the call left
-  module _ (mid out′ : List ℕ) (r : ℕ) (left : mid ≡ outAfter bs out words) (long : length mid ≡ length out) where
-    text-stands : {text : List ℕ} → lister bs ≡ text → Wrote mid 0 text out′ r → Listed bs out words out′ r
+  module _ (out mid out′ : List ℕ) (r : ℕ) (left : mid ≡ outAfter c out) (long : length mid ≡ length out) where
+    text-stands : {text : List ℕ} → lister (c .forest) ≡ text → Wrote mid 0 text out′ r → Listed c out out′ r
     text-stands {text} is w =
         let e : r ≡ length text = omega (arith, w .ends) in
         let parts : out′ ≡ text ++ drop r mid =
@@ -59,12 +60,12 @@ module _ (bs out : List ℕ) (words : ℕ) (room : length out ≡ 65535) (enough
           rest = ap (drop r) parts ∙ drop-at text (drop r mid) r (sym e) ∙ ap (drop r) left;
         }
 
-    pub refusal-listed : (n p : ℕ) → run bs (length out) words ≡ refused n p → n < 1000000000 → p < 1000000000 →
-        Wrote mid 0 (refusal n p) out′ r → Listed bs out words out′ r
+    pub refusal-listed : (n p : ℕ) → run c ≡ refused n p → n < 1000000000 → p < 1000000000 →
+        Wrote mid 0 (refusal n p) out′ r → Listed c out out′ r
     refusal-listed n p e small low w = text-stands (lister-refused n p e) (wrote-as (refusal-line n p small low) w)
 
-    pub symbols-listed : (w : Written) (o : ℕ × State) → run bs (length out) words ≡ good w → interned bs ≡ good o →
-        Wrote mid 0 (symbolLines (o .1 .syms)) out′ r → Listed bs out words out′ r
+    pub symbols-listed : (w : Written) (o : ℕ × State) → run c ≡ good w → interned (c .forest) ≡ good o →
+        Wrote mid 0 (symbolLines (o .1 .syms)) out′ r → Listed c out out′ r
     symbols-listed w o e f = text-stands (lister-good w o e f)
 
 -- ---- words past those that the call clears

@@ -8,7 +8,7 @@ ghost use Rattle.model.specs.Answer.{good};
 ghost use Rattle.model.specs.Accept.{accept};
 ghost use Rattle.model.specs.Forest.{treesOf};
 ghost use Rattle.model.specs.Intern.{State};
-ghost use Rattle.model.specs.Call.{interned};
+ghost use Rattle.model.specs.Call.{callOf, interned};
 ghost use Rattle.model.specs.Lister.{symbolLines};
 ghost use Rattle.regions.specs.Regions.{WORDS};
 ghost use Rattle.gate.specs.Gate.{Countable, Tallied};
@@ -45,8 +45,8 @@ fn list_symbols(forest: &[u8], out: &mut [u8], work: &mut [u32]) -> usize
 // Rules out: symbols of a forest whose tree is refused; a refusal's place before its number; a later word touched.
 pub fn list(forest: &[u8], out: &mut [u8], work: &mut [u32]) -> usize
     requires { ⌜ (length (now out) ≡ 65535) × (16384 ≤ length (now work)) ⌝ }
-    ensures { λ r. ⌜ Listed (now (forest .entry)) (now (out .entry)) (length (now (work .entry))) (now (out .exit))
-        r ⌝ }
+    ensures { λ r. ⌜ Listed (callOf (now (forest .entry)) (now (out .entry)) (now (work .entry))) (now (out .entry))
+        (now (out .exit)) r ⌝ }
     ensures { λ r. ⌜ ((k : ℕ) → 16384 ≤ k → getD (now (work .exit)) k 0 ≡ getD (now (work .entry)) k 0) ⌝ }
 {
     match cse::cse(forest, out, work) {

@@ -29,9 +29,8 @@ use Rattle.model.specs.Schedule.{bodyNeighbours, outsiders, collect, fre
 use Rattle.model.specs.Materialize.{valUseOf, valDefOf, renames, wrapBlock, idGiven, member, define}
 use Rattle.model.specs.Materialize.{processScope}
 use Rattle.model.specs.Materialize.{buildOp, argLit, buildNode, buildStep, buildValue, materialize}
-use Rattle.model.specs.Call.{check1, interned, treeOf, bytesOf, check13, check14, writtenOf, written}
-use Rattle.model.specs.Call.{run}
-use Rattle.model.specs.Call.{numbersOf, numbers, outWith, outAfter, workAfter}
+use Rattle.model.specs.Call.{check1, lentChecks, interned, treeOf, bytesOf, check13, check14, treeChecks}
+use Rattle.model.specs.Call.{writtenOf, measured, written, run, numbersOf, numbers, outWith, outAfter, workAfter}
 use Rattle.model.specs.Text.{text}
 use Rattle.model.specs.Lister.{digits, decimal, hexDigit, hexByte, tagOf, opcodeShown, yesNo, line, linesFrom}
 use Rattle.model.specs.Lister.{symbolLines, refusalLine, linesOf, lister}
@@ -67,8 +66,8 @@ unfolding reach slotsOf reachable usage isContextProperty isInternal isConst sho
 materializing = tt
 
 unfoldable pub calling : Unit {0}
-unfolding check1 interned treeOf bytesOf check13 check14 writtenOf written run numbersOf numbers outWith
-    outAfter workAfter
+unfolding check1 lentChecks interned treeOf bytesOf check13 check14 treeChecks writtenOf measured written run
+    numbersOf numbers outWith outAfter workAfter
 calling = tt
 
 unfoldable pub listing : Unit {0}

@@ -1,22 +1,22 @@
--- What each of the paper's numbers says: `Applies forest room words n p` is the condition of number n, with its place
--- p, on a call with this forest, so many output bytes and so many work words. The conditions are said each for itself:
--- none speaks of another number or of the order in which the call tests them.
+-- What each of the paper's numbers says: `Applies c n p` is the condition of number n, with its place p, on call c. The
+-- conditions are said each for itself: none speaks of another number or of the order in which the call tests them.
 -- In order: words for places; the forest's header, directory and records; interning and the tree that document 01
--- defines; the fourteen conditions; what is said of a call with them.
+-- defines; the conditions; the order of the checks; what is said of a call with them.
 -- Assumes nothing.
 use mathlib.Core.Path.{_≡_}
 use mathlib.Core.Logic.{_⊎_, _≢_}
 use mathlib.Core.Bool.{Bool, true, false}
-use mathlib.Core.List.{List, [], _∷_}
+use mathlib.Core.List.{List, [], _∷_, _++_}
 use Prim.Native.Nat.{ℕ, zero, suc, _+_, _*_, _≤_, _<_}
 use lib.ListN.{length, getD, take}
+use Rattle.model.specs.Lists.{isIn}
 use Rattle.model.specs.Answer.{refused, good}
 use Rattle.model.specs.Tree.{rec, Row, size, depth}
 use Rattle.model.specs.Shape.{fits, agrees}
 use Rattle.model.specs.Forest.{treeCount, recordCount, pairsOf, rowsIn, treesOf, deeps}
 use Rattle.model.specs.Binding.{misplacedIn, reboundIn, unboundIn}
 use Rattle.model.specs.Intern.{State, Out, internForest, internLast}
-use Rattle.model.specs.Call.{treeOf, bytesOf, numbers}
+use Rattle.model.specs.Call.{Call, treeOf, bytesOf}
 
 -- ---- places
 
@@ -115,54 +115,61 @@ TooLarge room o = (256 < size (treeOf o)) ⊎ (65535 < length (bytesOf o)) ⊎ (
 
 -- ---- the conditions
 
-pub data Applies (forest : List ℕ) (room words : ℕ) : ℕ → ℕ → Type 0 where
+pub data Applies (c : Call) : ℕ → ℕ → Type 0 where
   -- "under 16,384 work words"
-  at-1 : words < 16384 → Applies forest room words 1 0
+  at-1 : c .words < 16384 → Applies c 1 0
   -- "under 4 or over 65,535 bytes, or header counts out of range"
-  at-2 : HeaderOffends forest → Applies forest room words 2 0
+  at-2 : HeaderOffends (c .forest) → Applies c 2 0
   -- "directory"
-  at-3 : (p : ℕ) → DirectoryOffends forest p → Applies forest room words 3 p
+  at-3 : (p : ℕ) → DirectoryOffends (c .forest) p → Applies c 3 p
   -- "a record against its shape"
-  at-4 : (p : ℕ) → First (ShapeOffends forest) p → Applies forest room words 4 p
+  at-4 : (p : ℕ) → First (ShapeOffends (c .forest)) p → Applies c 4 p
   -- "opcode against shape"
-  at-5 : (p : ℕ) → First (OpcodeOffends forest) p → Applies forest room words 5 p
+  at-5 : (p : ℕ) → First (OpcodeOffends (c .forest)) p → Applies c 5 p
   -- "trees do not close"
-  at-6 : (p : ℕ) → TreesOffend forest p → Applies forest room words 6 p
+  at-6 : (p : ℕ) → TreesOffend (c .forest) p → Applies c 6 p
   -- "deeper than 64 (a root has depth 1)": `deeps` marks each record that is
-  at-7 : (p : ℕ) → First (Marked (deeps (treesOf forest) 1)) p → Applies forest room words 7 p
+  at-7 : (p : ℕ) → First (Marked (deeps (treesOf (c .forest)) 1)) p → Applies c 7 p
   -- "a definition out of place": `misplacedIn` marks each, and each record that stands where a definition has to stand
-  at-8 : (p : ℕ) → First (Marked (misplacedIn (treesOf forest) false)) p → Applies forest room words 8 p
+  at-8 : (p : ℕ) → First (Marked (misplacedIn (treesOf (c .forest)) false)) p → Applies c 8 p
   -- "an id bound while in force or twice in one lambda": `reboundIn` marks each record that binds so
-  at-9 : (p : ℕ) → First (Marked (reboundIn (treesOf forest) [])) p → Applies forest room words 9 p
+  at-9 : (p : ℕ) → First (Marked (reboundIn (treesOf (c .forest)) [])) p → Applies c 9 p
   -- "a use of an id not in force": `unboundIn` marks each
-  at-10 : (p : ℕ) → First (Marked (unboundIn (treesOf forest) [])) p → Applies forest room words 10 p
+  at-10 : (p : ℕ) → First (Marked (unboundIn (treesOf (c .forest)) [])) p → Applies c 10 p
   -- "over 2,048 readings", "as interning meets them": the place is "the record being read"
-  at-11 : (p : ℕ) → interning forest ≡ refused 11 p → Applies forest room words 11 p
+  at-11 : (p : ℕ) → interning (c .forest) ≡ refused 11 p → Applies c 11 p
   -- "over 512 symbols": the place is "the one whose symbol is being made"
-  at-12 : (p : ℕ) → interning forest ≡ refused 12 p → Applies forest room words 12 p
+  at-12 : (p : ℕ) → interning (c .forest) ≡ refused 12 p → Applies c 12 p
   -- "a written tree over 256 records, over 65,535 bytes or longer than the output"
-  at-13 : (o : ℕ × State) → Defined forest o → TooLarge room o → Applies forest room words 13 0
+  at-13 : (o : ℕ × State) → Defined (c .forest) o → TooLarge (c .room) o → Applies c 13 0
   -- "a written tree deeper than 64"
-  at-14 : (o : ℕ × State) → Defined forest o → 64 < depth (treeOf o) → Applies forest room words 14 0
+  at-14 : (o : ℕ × State) → Defined (c .forest) o → 64 < depth (treeOf o) → Applies c 14 0
+
+-- ---- the order of the checks
+
+-- "A forest is accepted when none of 2 to 10 applies": their checks, "each over the whole forest before the next"
+abbrev pub acceptance : List ℕ
+acceptance = 2 ∷ 3 ∷ 4 ∷ 5 ∷ 6 ∷ 7 ∷ 8 ∷ 9 ∷ 10 ∷ []
+
+-- all of them, in the order in which the call makes them
+abbrev pub order : List ℕ
+order = 1 ∷ (acceptance ++ (11 ∷ 12 ∷ 13 ∷ 14 ∷ []))
+
+-- m stands before n in a list
+abbrev pub Before : ℕ → ℕ → List ℕ → Type 0
+Before m n [] = ⊥
+Before m n (k ∷ ks) = ((k ≡ m) × (isIn n ks ≡ true)) ⊎ Before m n ks
 
 -- ---- what is said of a call with them
 
--- the number and the place that the call gives
-abbrev pub number : List ℕ → ℕ → ℕ → ℕ
-number forest room words = numbers forest room words .number
-
-abbrev pub place : List ℕ → ℕ → ℕ → ℕ
-place forest room words = numbers forest room words .place
-
--- "A forest is accepted when none of 2 to 10 applies", whatever output and work words are lent
+-- none of acceptance applies to the forest, whatever else the call is given
 abbrev pub Accepted : List ℕ → Type 0
-Accepted forest = (room words n p : ℕ) → 2 ≤ n → n ≤ 10 → Applies forest room words n p → ⊥
+Accepted forest = (c : Call) → c .forest ≡ forest → (n p : ℕ) → isIn n acceptance ≡ true → Applies c n p → ⊥
 
 -- no refusal applies to the call
-abbrev pub NoneApplies : List ℕ → ℕ → ℕ → Type 0
-NoneApplies forest room words = (n p : ℕ) → Applies forest room words n p → ⊥
+abbrev pub NoneApplies : Call → Type 0
+NoneApplies c = (n p : ℕ) → Applies c n p → ⊥
 
--- number n applies, with place p, and no lower number does
-abbrev pub LowestApplies : List ℕ → ℕ → ℕ → ℕ → ℕ → Type 0
-LowestApplies forest room words n p =
-    Applies forest room words n p × ((m q : ℕ) → m < n → Applies forest room words m q → ⊥)
+-- number n applies, with place p, and none before it in the order does
+abbrev pub FirstApplies : Call → ℕ → ℕ → Type 0
+FirstApplies c n p = Applies c n p × ((m q : ℕ) → Before m n order → Applies c m q → ⊥)

@@ -14,8 +14,8 @@ use Rattle.model.specs.Opcodes.{ValUse}
 use Rattle.model.specs.Binding.{idOf}
 use Rattle.model.specs.Unfold.{unfolded}
 use Rattle.model.specs.Intern.{State}
-use Rattle.model.specs.Call.{treeOf, bytesOf, numbers, outAfter}
-use Rattle.model.specs.Conditions.{number, place, Accepted, NoneApplies, LowestApplies, Defined}
+use Rattle.model.specs.Call.{Call, treeOf, bytesOf, Numbers, numbers, outAfter}
+use Rattle.model.specs.Conditions.{Accepted, NoneApplies, FirstApplies, Defined}
 
 -- ---- uses of an id
 
@@ -30,23 +30,22 @@ abbrev mutual
 
 -- ---- what is written
 
--- after number 0, on a forest with so many output bytes and work words
-pub record Writes (forest : List ℕ) (room words : ℕ) : Type 0 where
+-- by call c, lent the output `out`, where it gives the numbers ns and leaves the output out′
+pub record Writes (c : Call) (out : List ℕ) (ns : Numbers) (out′ : List ℕ) : Type 0 where
   -- the root's symbol, with all symbols and scopes: document 01 defines a tree for the forest, `treeOf` of these
   pub interned : ℕ × State
-  pub defined : Defined forest interned
+  pub defined : Defined (c .forest) interned
   -- its bytes stand in the output, "as many bytes as the written length counts"; those past them "keep their values"
-  pub stands : (out : List ℕ) → length out ≡ room →
-      outAfter forest out words ≡ bytesOf interned ++ drop (length (bytesOf interned)) out
+  pub stands : out′ ≡ bytesOf interned ++ drop (length (bytesOf interned)) out
   -- number, place, written length, symbols, readings
-  pub answers : numbers forest room words ≡ record {
+  pub answers : ns ≡ record {
     number = 0;
     place = 0;
     len = length (bytesOf interned);
     symbols = length (interned .1 .syms);
     readings = interned .1 .readings;
   }
-  pub fits-in : length (bytesOf interned) ≤ room
+  pub fits-in : length (bytesOf interned) ≤ c .room
   -- "as input, it meets none of refusals 2 to 10"
   pub accepted : Accepted (bytesOf interned)
   -- read, the bytes are a forest of one tree, the one that document 01 defines
@@ -54,15 +53,19 @@ pub record Writes (forest : List ℕ) (room words : ℕ) : Type 0 where
   -- no record of it is a use of id 0, as which an argument outside its lambda would be written: none is met
   pub no-zero-use : NoUse 0 (treeOf interned)
   -- "its unfolding equals that of the forest's root"
-  pub keeps : unfolded (root (treesOf (bytesOf interned))) ≡ unfolded (root (treesOf forest))
+  pub keeps : unfolded (root (treesOf (bytesOf interned))) ≡ unfolded (root (treesOf (c .forest)))
 
 -- ---- the statement
 
-pub record Demand3 (forest : List ℕ) (room words : ℕ) : Type 0 where
+-- of a call that gives the numbers ns and leaves the output out′
+pub record Demanded (c : Call) (out : List ℕ) (ns : Numbers) (out′ : List ℕ) : Type 0 where
   -- the call gives 0 exactly when none of its refusals applies
-  pub zero-exactly : (number forest room words ≡ 0) ↔ NoneApplies forest room words
-  -- it gives number n with place p exactly when n applies there, and no lower number does
-  pub refusal-exactly : (n p : ℕ) → 1 ≤ n →
-      ((number forest room words ≡ n) × (place forest room words ≡ p)) ↔ LowestApplies forest room words n p
+  pub zero-exactly : (ns .number ≡ 0) ↔ NoneApplies c
+  -- it gives number n with place p exactly when n applies there, and none before it in the order does
+  pub refusal-exactly : (n p : ℕ) → 1 ≤ n → ((ns .number ≡ n) × (ns .place ≡ p)) ↔ FirstApplies c n p
   -- and after 0 the written tree is the one that document 01 defines, means what the root means, and is accepted
-  pub writes : number forest room words ≡ 0 → Writes forest room words
+  pub writes : ns .number ≡ 0 → Writes c out ns out′
+
+-- of the call as it is defined, with any output of its length
+abbrev pub Demand3 : Call → Type 0
+Demand3 c = (out : List ℕ) → length out ≡ c .room → Demanded c out (numbers c) (outAfter c out)

@@ -12,7 +12,7 @@ use Rattle.model.specs.Answer.{Answer, refused, good}
 use Rattle.model.specs.Tree.{rec, Tree, Trees, node, nil, cons, serialise}
 use Rattle.model.specs.Accept.{accept}
 use Rattle.model.specs.Materialize.{valUseOf, valDefOf}
-use Rattle.model.specs.Call.{Written, run}
+use Rattle.model.specs.Call.{Written, ample, run}
 use Rattle.model.specs.Text.{text}
 use Rattle.model.specs.Lister.{lister}
 use Rattle.model.specs.Computing.{computing}
@@ -105,7 +105,7 @@ holds (refused m at) (no m' at') = eqb m m' && eqb at at'
 
 pub right : Trees × Want → Bool
 unfolding computing holds
-right r = holds (run (serialise (r .0)) 65535 16384) (r .1)
+right r = holds (run (ample (serialise (r .0)))) (r .1)
 
 pub all : List (Trees × Want) → Bool
 unfolding right

@@ -9,7 +9,7 @@ use Rattle.model.specs.Lists.{count}
 use Rattle.model.specs.Answer.{Answer, refused, good}
 use Rattle.model.specs.Intern.{Node, constant, unparsed, argument, func, operation, Sym, Out}
 use Rattle.model.specs.Gate.{allSlots, shouldHoist}
-use Rattle.model.specs.Call.{Written, run, interned}
+use Rattle.model.specs.Call.{Written, ample, run, interned}
 use Rattle.model.specs.Text.{text}
 
 -- ---- numbers
@@ -76,4 +76,4 @@ linesOf (good w) (refused n p) = []
 linesOf (good w) (good o) = symbolLines (o .1 .syms)
 
 unfoldable pub lister : List ℕ → List ℕ
-lister bs = linesOf (run bs 65535 16384) (interned bs)
+lister bs = linesOf (run (ample bs)) (interned bs)

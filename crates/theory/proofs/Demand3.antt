@@ -1,6 +1,6 @@
 -- Demand 3 holds of every call, over the definitions: `demand-3`. What it says stands in model, specs/Demand3 and
 -- Conditions: read them first. The rest of the crate proves it: Order and Places, that the call's number is that of the
--- lowest refusal that applies; the folders, that the written tree keeps the meaning and is accepted.
+-- first refusal that applies; the folders, that the written tree keeps the meaning and is accepted.
 -- Assumes nothing.
 pub mod Places
 pub mod Order
@@ -19,7 +19,7 @@ use Rattle.model.specs.Forest.{treesOf}
 use Rattle.model.specs.Accept.{checks, accept}
 use Rattle.model.specs.Unfold.{unfolded}
 use Rattle.model.specs.Intern.{State}
-use Rattle.model.specs.Call.{treeOf, bytesOf, writtenOf, Written, numbersOf, numbers, run, outWith, outAfter}
+use Rattle.model.specs.Call.{Call, treeOf, bytesOf, Written, writtenOf, run, numbersOf, numbers, outWith, outAfter}
 use Rattle.laws.proofs.Checks.{Passes, checked-good}
 use Rattle.model.specs.Demand3.{Writes, Demand3}
 use Rattle.theory.proofs.Promise.Main.{meaning-kept, bytes-accepted, argument-never-met}
@@ -34,8 +34,8 @@ at-most a b h = go (ltb b a) refl
     go true e = absurd (h (ltb-true b a e))
     go false e = ltb-false b a e
 
-module _ (forest : List ℕ) (room words : ℕ) (none : NoneApplies forest room words) (pass : Passes (checks forest))
-    (o : ℕ × State) (is : Defined forest o) (answer : run forest room words ≡ good (writtenOf o)) where
+module _ (c : Call) (none : NoneApplies c) (pass : Passes (checks (c .forest))) (o : ℕ × State)
+    (is : Defined (c .forest) o) (answer : run c ≡ good (writtenOf o)) where
   few : size (treeOf o) ≤ 256
   few = at-most _ _ (λ l. none 13 0 (at-13 o is (inl l)))
 
@@ -49,28 +49,28 @@ module _ (forest : List ℕ) (room words : ℕ) (none : NoneApplies forest room 
   unfolding accept
   read-again =
       checked-good (checks (bytesOf o)) (treesOf (bytesOf o)) (cons (treeOf o) nil)
-      (bytes-accepted forest pass o is few short flat)
+      (bytes-accepted (c .forest) pass o is few short flat)
 
-  writes-of : Writes forest room words
+  writes-of : (out : List ℕ) → Writes c out (numbers c) (outAfter c out)
   unfolding numbers numbersOf outAfter outWith writtenOf root
-  writes-of = record {
+  writes-of out = record {
     interned = o;
     defined = is;
-    stands = λ out l. rw l (ap (λ (a : Answer Written). outWith a out) answer);
+    stands = ap (λ (a : Answer Written). outWith a out) answer;
     answers = ap numbersOf answer;
     fits-in = at-most _ _ (λ l. none 13 0 (at-13 o is (inr (inr l))));
     accepted = passes-accepted (bytesOf o) (read-again .0);
     reads-back = read-again .1;
-    no-zero-use = argument-never-met forest pass o is few;
-    keeps = ap (λ (ts : Trees). unfolded (root ts)) (read-again .1) ∙ meaning-kept forest pass o is;
+    no-zero-use = argument-never-met (c .forest) pass o is few;
+    keeps = ap (λ (ts : Trees). unfolded (root ts)) (read-again .1) ∙ meaning-kept (c .forest) pass o is;
   }
 
--- for every forest, output length and number of work words
-pub demand-3 : (forest : List ℕ) (room words : ℕ) → Demand3 forest room words
-demand-3 forest room words = record {
-  zero-exactly = zero-both forest room words;
-  refusal-exactly = refusal-both forest room words;
+-- for every call
+pub demand-3 : (c : Call) → Demand3 c
+demand-3 c out l = record {
+  zero-exactly = zero-both c;
+  refusal-exactly = refusal-both c;
   writes = λ e.
-      let w = call-passes forest room words (zero-passes forest room words e) in
-      writes-of forest room words (zero-both forest room words .0 e) (w .0) (w .1 .0) (w .1 .1) (w .1 .2);
+      let w = call-passes c (zero-passes c e) in
+      writes-of c (zero-both c .0 e) (w .0) (w .1 .0) (w .1 .1) (w .1 .2) out;
 }

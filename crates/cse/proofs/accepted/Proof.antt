@@ -2,12 +2,11 @@
 use borrow.Author.Needs.{needs}
 use denote.Ref.{now}
 use mathlib.Core.Path.{refl, subst, sym, _∙_}
-use lib.ListN.{length}
 use Prim.Native.Nat.{ℕ}
 use Rattle.model.specs.Answer as answer
 use Rattle.model.specs.Forest.{treesOf}
 use Rattle.model.specs.Intern.{State}
-use Rattle.model.specs.Call.{Written, written}
+use Rattle.model.specs.Call.{Written, callOf}
 use Rattle.codec.proofs.Accepting.{accept-passed}
 use Rattle.symbols.proofs.Laws.{syms-length}
 use Rattle.tables.specs.Tables.{first}
@@ -26,8 +25,9 @@ returns c =
     let bs = now (b .args .forest) in
     let out = now (b .args .out) in
     let r = f .forest .result in (
-      tells-refused (written bs (length out)) out (r .number) (r .place)
-          (intern-refused bs (length out) (f .forest .last .1 .0) r (f .forest .ensures .is) (c .if1 .taken)),
+      tells-refused _ out (r .number) (r .place)
+          (intern-refused (callOf bs out (now (b .args .work))) (f .forest .last .1 .0) r (f .forest .ensures .is)
+          (c .if1 .taken)),
       f .forest .ensures .frame .after,
     )
 
@@ -38,7 +38,7 @@ planned-requires c κs =
       b .pre .0,
       (
         f .forest .ensures .rep,
-        intern-good (now (b .args .forest)) 0 (f .forest .last .1 .0) (f .forest .result) (f .forest .ensures .is)
+        intern-good (now (b .args .forest)) (f .forest .last .1 .0) (f .forest .result) (f .forest .ensures .is)
             (c .before .before .before .if1 .left),
       ),
     )
@@ -61,8 +61,8 @@ returns-2 c =
     let ws = f .forest .last .1 .0 in
     let r = f .forest .result in
     let o : ℕ × State = (r .symbol, absOf bs ws first (r .st)) in
-    let is = written-measured bs (length out) o
-    (intern-good bs 0 ws r (f .forest .ensures .is) (s .if1 .left)) in (
+    let is = written-measured (callOf bs out (now (b .args .work))) o
+    (intern-good bs ws r (f .forest .ensures .is) (s .if1 .left)) in (
       subst (λ (a : answer.Answer Written). Tells a out (c .before .before .write .result)
           (c .before .before .write .last .1 .1 .1 .0)) (sym is)
           (c .before .before .write .ensures o (p .planned .ensures .tree) (syms-length bs ws (r .st .symbols)) refl),

@@ -3,9 +3,8 @@ use borrow.Author.Needs.{needs}
 use native.Mathlib.Omega.{arith}
 use denote.Ref.{now}
 use mathlib.Core.Path.{_∙_, refl}
-use lib.ListN.{length}
 use Rattle.model.specs.Answer.{refused}
-use Rattle.model.specs.Call.{written}
+use Rattle.model.specs.Call.{callOf, written}
 use Rattle.cse.specs.declared.Answer.the-variants.{Refused}
 use Rattle.cse.proofs.Words.{after-few, after-enough, cleared-kept, drop-kept}
 use Rattle.cse.proofs.Telling.{tells-refused, run-few, run-enough}
@@ -19,7 +18,7 @@ returns c =
     let bs = now (b .args .forest) in
     let out = now (b .args .out) in
     let ws = now (b .args .work) in
-    told-gives bs out ws out ws (refused 1 0) (Refused 1 0) (run-few bs out _ (omega arith))
+    told-gives bs out ws out ws (refused 1 0) (Refused 1 0) (run-few (callOf bs out ws) (omega arith))
     (tells-refused (refused 1 0) out 1 0 refl) (after-few ws (omega arith))
 
 returns-2 : tie.Need-returns-2
@@ -31,8 +30,8 @@ returns-2 c =
     let ws = now (b .args .work) in
     let kept = drop-kept 16384 ws (q .pass .last .1 .1 .0) (q .pass .kept .1 .1 .0)
     (λ k l. q .pass .ensures .1 k (omega arith)) in
-    told-gives bs out ws (q .pass .last .1 .0) (c .before .before .clear .last .0) (written bs (length out))
-    (q .pass .result) (run-enough bs out _ (omega arith)) (q .pass .ensures .0)
+    told-gives bs out ws (q .pass .last .1 .0) (c .before .before .clear .last .0) (written (callOf bs out ws))
+    (q .pass .result) (run-enough (callOf bs out ws) (omega arith)) (q .pass .ensures .0)
     (c .before .before .clear .ensures ∙ cleared-kept ws 16384 _ kept ∙ after-enough ws (omega arith))
 
 pub cse-spec : {M : Type 1} → statement M

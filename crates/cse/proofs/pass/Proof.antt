@@ -2,9 +2,11 @@
 use borrow.Author.Needs.{needs}
 use native.Mathlib.Omega.{arith}
 use denote.Ref.{now}
-use mathlib.Core.Path.{_∙_}
+use Prim.Native.Nat.{ℕ}
+use mathlib.Core.Path.{_∙_, subst}
 use lib.ListN.{length}
-use Rattle.model.specs.Call.{written}
+use Rattle.model.specs.Call.{callOf, written}
+use Rattle.cse.specs.Call.{Tells}
 use Rattle.cse.proofs.Words.{kept-drop}
 use Rattle.cse.proofs.Telling.{tells-refused, check-refused, verdict-refused, verdict-accepted}
 use Rattle.cse.proofs.Places.{place-small}
@@ -21,14 +23,14 @@ cast-place c =
     omega (
       arith,
       place-small bs (v .0 .0) (v .0 .1 .0)
-          (verdict-refused bs 0 (q .check .result) (v .0 .0) (v .0 .1 .0) (q .check .ensures .is) (v .1)),
+          (verdict-refused bs (q .check .result) (v .0 .0) (v .0 .1 .0) (q .check .ensures .is) (v .1)),
     )
 
 accepted-requires : tie.Need-accepted-requires
 accepted-requires c κs =
     let q = c .before .before .before .before .before .before in
     let b = q .before .before .before .before .before in (
-      verdict-accepted (now (b .args .forest)) 0 (q .check .result) (q .check .ensures .is)
+      verdict-accepted (now (b .args .forest)) (q .check .result) (q .check .ensures .is)
           (c .before .before .enum-told .given .1),
       omega (arith, q .check .kept .1 .0),
     )
@@ -40,9 +42,9 @@ returns c =
     let bs = now (b .args .forest) in
     let out = now (b .args .out) in
     let v = c .before .n .given in
-    let e = verdict-refused bs 0 (q .check .result) (v .0 .0) (v .0 .1 .0) (q .check .ensures .is) (v .1) in (
-      tells-refused (written bs (length out)) out (v .0 .0) (v .0 .1 .0)
-          (check-refused bs (length out) (v .0 .0) (v .0 .1 .0) e),
+    let e = verdict-refused bs (q .check .result) (v .0 .0) (v .0 .1 .0) (q .check .ensures .is) (v .1) in (
+      tells-refused _ out (v .0 .0) (v .0 .1 .0)
+          (check-refused (callOf bs out (now (b .args .work))) (v .0 .0) (v .0 .1 .0) e),
       λ k l. kept-drop 3840 (now (b .args .work)) (q .check .last .1 .0) (q .check .ensures .kept) k (omega arith),
     )
 
@@ -51,8 +53,10 @@ returns-2 c =
     let w = c .before .before .before .before in
     let q = w .before .before .before .before .before .before .before in
     let b = q .before .before .before .before .before in
+    let out = now (b .args .out) in
     let ws = now (b .args .work) in (
-      w .accepted .ensures .0,
+      subst (λ (n : ℕ). Tells (written (record { forest = now (b .args .forest); room = length out; words = n })) out
+          (w .accepted .result) (w .accepted .last .1 .0)) (q .check .kept .1 .0) (w .accepted .ensures .0),
       λ k l.
           w .accepted .ensures .1 k l
           ∙ kept-drop 3840 ws (q .check .last .1 .0) (q .check .ensures .kept) k (omega arith),

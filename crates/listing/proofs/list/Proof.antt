@@ -3,10 +3,10 @@ use borrow.Author.Needs.{needs}
 use native.Mathlib.Omega.{arith}
 use denote.Ref.{now}
 use Prim.Native.Nat.{ℕ}
-use mathlib.Core.Path.{ap, _∙_}
+use mathlib.Core.Path.{refl, ap, _∙_}
 use mathlib.Core.List.{List}
-use lib.ListN.{length, getD}
-use Rattle.model.specs.Call.{writtenOf}
+use lib.ListN.{getD}
+use Rattle.model.specs.Call.{callOf, writtenOf}
 use Rattle.listing.proofs.Small.{number-small, place-most}
 use Rattle.listing.proofs.Told.{told-refused, told-written}
 use Rattle.listing.proofs.Text.{refusal-listed, symbols-listed, later-kept}
@@ -20,7 +20,7 @@ list-symbols-requires c κs =
     let q = c .before .before .before .before .before .before .before .before in
     let b = q .before .before .before .before .before .before in
     let v = c .before .before .enum-told .given in
-    let made = told-written (now (b .args .forest)) (length (now (b .args .out))) (length (now (b .args .work)))
+    let made = told-written (callOf (now (b .args .forest)) (now (b .args .out)) (now (b .args .work)))
     (q .cse .result) (q .cse .ensures .0) (v .0 .0) (v .0 .1 .0) (v .0 .1 .1 .0) (v .1) in
     (made .accepted, (omega (arith, q .cse .kept .1 .0), omega (arith, q .cse .kept .1 .1 .0)))
 
@@ -32,10 +32,10 @@ returns c =
     let bs = now (b .args .forest) in
     let out = now (b .args .out) in
     let ws = now (b .args .work) in
+    let call = callOf bs out ws in
     let v = u .before .before .before .enum-told .given in
-    let made = told-written bs (length out) (length ws) (q .cse .result) (q .cse .ensures .0) (v .0 .0) (v .0 .1 .0)
-    (v .0 .1 .1 .0) (v .1) in (
-      symbols-listed bs out (length ws) (b .pre .0) (b .pre .1) (q .cse .last .1 .0) (u .list-symbols .last .1 .0)
+    let made = told-written call (q .cse .result) (q .cse .ensures .0) (v .0 .0) (v .0 .1 .0) (v .0 .1 .1 .0) (v .1) in (
+      symbols-listed call (b .pre .0) (b .pre .1) out (q .cse .last .1 .0) (u .list-symbols .last .1 .0)
           (u .list-symbols .result) (q .cse .ensures .1 .0) (q .cse .kept .1 .0) (writtenOf (made .out)) (made .out)
           (made .runs) (made .interns) (u .list-symbols .ensures .0 (made .out) (made .interns)),
       λ k l.
@@ -52,14 +52,13 @@ returns-2 c =
     let bs = now (b .args .forest) in
     let out = now (b .args .out) in
     let ws = now (b .args .work) in
+    let call = callOf bs out ws in
     let v = u .before .before .before .number .given in
-    let is = told-refused bs (length out) (length ws) (q .cse .result) (q .cse .ensures .0) (v .0 .0) (v .0 .1 .0)
-    (v .1) in
-    let number = number-small bs out (length ws) (v .0 .0) (v .0 .1 .0) is in
-    let place = place-most bs out (length ws) (v .0 .0) (v .0 .1 .0) is (b .pre .1) in (
-      refusal-listed bs out (length ws) (b .pre .0) (b .pre .1) (q .cse .last .1 .0) (u .put-refusal .last .0)
+    let is = told-refused call (q .cse .result) (q .cse .ensures .0) out refl (v .0 .0) (v .0 .1 .0) (v .1) in (
+      refusal-listed call (b .pre .0) (b .pre .1) out (q .cse .last .1 .0) (u .put-refusal .last .0)
           (u .put-refusal .result) (q .cse .ensures .1 .0) (q .cse .kept .1 .0) (v .0 .0) (v .0 .1 .0) is
-          (omega (arith, number)) (omega (arith, place)) (u .put-refusal .ensures),
+          (number-small call (v .0 .0) (v .0 .1 .0) is)
+          (omega (arith, place-most call (v .0 .0) (v .0 .1 .0) is (b .pre .1))) (u .put-refusal .ensures),
       λ k l. ap (λ (l : List ℕ). getD l k 0) (q .cse .ensures .1 .1 .0) ∙ later-kept ws k l,
     )
 

@@ -1,97 +1,88 @@
--- The call's number is that of the lowest refusal that applies, and its place is that refusal's: `zero-both`,
--- `refusal-both`.
+-- The call's number is that of the first refusal, in the order of the checks, that applies, and its place is that
+-- refusal's: `zero-both`, `refusal-both`.
 -- In order: the two ends of a call; number 0; the other numbers.
 -- Assumes nothing.
-use mathlib.Core.Path.{_≡_, ap, sym, _∙_}
+use mathlib.Core.Path.{_≡_, refl, ap, sym, _∙_, subst}
 use mathlib.Core.Logic.{_⊎_, inl, inr, _↔_}
 use mathlib.Core.List.{List}
-use Prim.Native.Nat.{ℕ, _≤_, _<_}
+use Prim.Native.Nat.{ℕ, _≤_}
 use native.Mathlib.Omega.{arith}
-use Rattle.model.specs.Answer.{Answer}
-use Rattle.model.specs.Call.{Written, Numbers, numbersOf, numbers}
-use Rattle.laws.proofs.Checks.{Check, Passes, FirstAt, passes-or-first, first-least, first-fails, fails-from}
-use Rattle.laws.proofs.Checks.{passes-none-fails}
-use Rattle.model.specs.Conditions.{number, place, Applies, NoneApplies, LowestApplies}
-use Rattle.theory.proofs.Demand3.Order.{callChecks, checks-rise, applies-fails, fails-applies, call-first}
+use Rattle.model.specs.Lists.{isIn}
+use Rattle.model.specs.Answer.{Answer, refused}
+use Rattle.model.specs.Call.{Call, Written, run, Numbers, numbersOf, numbers}
+use Rattle.model.specs.Conditions.{Applies, NoneApplies, FirstApplies, order}
+use Rattle.laws.proofs.Apart.{refused-good, refused-parts}
+use Rattle.laws.proofs.Members.{isIn-false}
+use Rattle.laws.proofs.Checks.{Check, Passes, FirstAt, passes-or-first, passes-exactly}
+use Rattle.laws.proofs.Checks.{first-exactly}
+use Rattle.theory.proofs.Demand3.Order.{callChecks, in-order, each-once, applies-in, call-exact, call-first}
 use Rattle.theory.proofs.Demand3.Order.{call-passes}
 
-module _ (forest : List ℕ) (room words : ℕ) where
+module _ (c : Call) where
   abbrev all : List Check
-  all = callChecks forest room words
+  all = callChecks c
 
-  abbrev Ends : Type 0
-  Ends = Passes all ⊎ ((n : ℕ) × (p : ℕ) × FirstAt n p all)
+  -- all pass exactly where none applies; the first to fail is the first that applies
+  passes-both : Passes all ↔ NoneApplies c
+  passes-both =
+      passes-exactly (Applies c) all (call-exact c) (rw (in-order c) each-once) (rw (in-order c) (applies-in c))
 
-  ends : Ends
-  ends = passes-or-first all
+  first-both : (n p : ℕ) → FirstAt n p all ↔ FirstApplies c n p
+  first-both n p =
+      rw (in-order c) at
+      (first-exactly (Applies c) all (call-exact c) (rw (in-order c) each-once) (rw (in-order c) (applies-in c)) n p)
 
   -- the two ends of a call, in its numbers
-  refused-numbers : (n p : ℕ) → FirstAt n p all →
-      (1 ≤ n) × (number forest room words ≡ n) × (place forest room words ≡ p)
+  good-number : Passes all → numbers c .number ≡ 0
   unfolding numbers numbersOf
-  refused-numbers n p f =
-      let e = ap numbersOf (call-first forest room words n p f) in (
-        fails-from 1 all (checks-rise forest room words) n p (first-fails n p all f),
-        ap (λ (z : Numbers). z .number) e,
-        ap (λ (z : Numbers). z .place) e,
-      )
+  good-number h = ap (λ (a : Answer Written). numbersOf a .number) (call-passes c h .1 .2)
 
-  good-number : Passes all → number forest room words ≡ 0
+  first-numbers : (n p : ℕ) → FirstAt n p all → (numbers c .number ≡ n) × (numbers c .place ≡ p)
   unfolding numbers numbersOf
-  good-number h = ap (λ (a : Answer Written). numbersOf a .number) (call-passes forest room words h .1 .2)
+  first-numbers n p f =
+      let e = ap numbersOf (call-first c n p f) in
+      (ap (λ (z : Numbers). z .number) e, ap (λ (z : Numbers). z .place) e)
 
-  none-applies : Passes all → NoneApplies forest room words
-  none-applies h n p a = passes-none-fails all h n p (applies-fails forest room words n p a)
-
-  first-applies : (n p : ℕ) → FirstAt n p all → Applies forest room words n p
-  first-applies n p f = fails-applies forest room words n p (first-fails n p all f)
-
-  -- number 0 is the end where every check passes
-  pub zero-passes : number forest room words ≡ 0 → Passes (callChecks forest room words)
-  zero-passes e = go ends
+  pub refused-applies : (n p : ℕ) → run c ≡ refused n p → FirstApplies c n p
+  refused-applies n p e = go (passes-or-first all)
     where
-      go : Ends → Passes all
+      go : Passes all ⊎ ((m : ℕ) × (q : ℕ) × FirstAt m q all) → FirstApplies c n p
+      go (inl h) = refused-good (sym e ∙ call-passes c h .1 .2)
+      go (inr (m, q, f)) =
+          let z = refused-parts (sym (call-first c m q f) ∙ e) in
+          let en : m ≡ n = z .0 in
+          let ep : q ≡ p = z .1 in
+          rw (en, ep) at (first-both m q .0 f)
+
+  -- no refusal has number 0
+  not-0 : (p : ℕ) → FirstAt 0 p all → ⊥
+  unfolding isIn
+  not-0 p f = isIn-false 0 order refl (applies-in c 0 p (first-both 0 p .0 f .0))
+
+  -- a number that is given belongs to one of them
+  pub zero-passes : numbers c .number ≡ 0 → Passes (callChecks c)
+  zero-passes e = go (passes-or-first all)
+    where
+      go : Passes all ⊎ ((n : ℕ) × (p : ℕ) × FirstAt n p all) → Passes all
       go (inl h) = h
-      go (inr (n, p, f)) = let w = refused-numbers n p f in absurd (omega (arith, w .0, w .1))
+      go (inr (n, p, f)) =
+          absurd (not-0 p (subst (λ (k : ℕ). FirstAt k p all) (sym (first-numbers n p f .0) ∙ e) f))
 
-  pub zero-both : (number forest room words ≡ 0) ↔ NoneApplies forest room words
-  zero-both = (λ e. none-applies (zero-passes e), λ h. go h ends)
+  given-first : (n p : ℕ) → 1 ≤ n → (numbers c .number ≡ n) × (numbers c .place ≡ p) → FirstAt n p all
+  given-first n p l e = go (passes-or-first all)
     where
-      go : NoneApplies forest room words → Ends → number forest room words ≡ 0
-      go h (inl w) = good-number w
-      go h (inr (n, p, f)) = absurd (h n p (first-applies n p f))
+      go : Passes all ⊎ ((m : ℕ) × (q : ℕ) × FirstAt m q all) → FirstAt n p all
+      go (inl h) = absurd (omega (arith, good-number h, e .0))
+      go (inr (m, q, f)) =
+          let w = first-numbers m q f in
+          let en : m ≡ n = sym (w .0) ∙ e .0 in
+          let ep : q ≡ p = sym (w .1) ∙ e .1 in
+          rw (en, ep) at f
+
+  pub zero-both : (numbers c .number ≡ 0) ↔ NoneApplies c
+  zero-both = (λ e. passes-both .0 (zero-passes e), λ h. good-number (passes-both .1 h))
 
   pub refusal-both : (n p : ℕ) → 1 ≤ n →
-      ((number forest room words ≡ n) × (place forest room words ≡ p)) ↔ LowestApplies forest room words n p
-  refusal-both n p l = (to, back)
-    where
-      least : (m q : ℕ) → FirstAt m q all → (k z : ℕ) → Applies forest room words k z →
-          (m < k) ⊎ ((m ≡ k) × (q ≡ z))
-      least m q f k z a =
-          first-least 1 all (checks-rise forest room words) m q k z f (applies-fails forest room words k z a)
-
-      not-lower : {k m : ℕ} {X : Type 0} → k < m → (m < k) ⊎ ((m ≡ k) × X) → ⊥
-      not-lower l (inl h) = omega arith
-      not-lower l (inr h) = omega (arith, h .0)
-
-      to : (number forest room words ≡ n) × (place forest room words ≡ p) → LowestApplies forest room words n p
-      to e = go ends
-        where
-          go : Ends → LowestApplies forest room words n p
-          go (inl h) = absurd (omega (arith, good-number h, e .0))
-          go (inr (m, q, f)) =
-              let w = refused-numbers m q f in
-              let en : n ≡ m = sym (e .0) ∙ w .1 in
-              let ep : p ≡ q = sym (e .1) ∙ w .2 in
-              rw (en, ep) (first-applies m q f, λ k z lk a. not-lower lk (least m q f k z a))
-
-      back : LowestApplies forest room words n p → (number forest room words ≡ n) × (place forest room words ≡ p)
-      back h = go ends
-        where
-          go : Ends → (number forest room words ≡ n) × (place forest room words ≡ p)
-          go (inl w) = absurd (none-applies w n p (h .0))
-          go (inr (m, q, f)) = turn (least m q f n p (h .0))
-            where
-              turn : (m < n) ⊎ ((m ≡ n) × (q ≡ p)) → (number forest room words ≡ n) × (place forest room words ≡ p)
-              turn (inl lm) = absurd (h .1 m q lm (first-applies m q f))
-              turn (inr e) = let w = refused-numbers m q f in (w .1 ∙ e .0, w .2 ∙ e .1)
+      ((numbers c .number ≡ n) × (numbers c .place ≡ p)) ↔ FirstApplies c n p
+  refusal-both n p l =
+      (λ e. first-both n p .0 (given-first n p l e), λ h. first-numbers n p (first-both n p .1 h))

@@ -1,34 +1,37 @@
--- The call tests the fourteen conditions in the order of their numbers: its checks, with what interning and the tree's
+-- The call tests the conditions in the order that Conditions gives: its checks, with what interning and the tree's
 -- size add, as one list; a check of the list fails at a place exactly where the condition of its number holds; the
 -- call's answer is the first that fails, or the written tree if none does.
--- In order: the list; conditions and failing checks; the call's answer.
+-- In order: the list; conditions and failing checks; the call's answer; acceptance.
 -- Assumes nothing.
 use mathlib.Core.Path.{_≡_, refl, ap, sym, _∙_}
 use mathlib.Core.Logic.{_⊎_, inl, inr, _↔_}
 use mathlib.Core.Bool.{Bool, true, false, _||_}
 use mathlib.Core.Option.{Option, none, some, Option·some-injective}
-use mathlib.Core.List.{List, [], _∷_, _++_}
-use Prim.Native.Nat.{ℕ, _≤_, _<_}
-use native.Mathlib.Omega.{arith}
+use mathlib.Core.List.{List, [], _∷_, _++_, map}
+use Prim.Native.Nat.{ℕ, _<_}
 use lib.Dec.{eqb, ltb}
 use lib.ListN.{length}
 use borrow.Author.Tests.{eqb-true, eq-eqb}
-use Rattle.model.specs.Answer.{Answer, refused, good, _>>=_, unless, checked}
+use Rattle.model.specs.Lists.{isIn, twice}
+use Rattle.model.specs.Answer.{Answer, refused, good, _>>=_}
 use Rattle.model.specs.Tree.{size, sizes, depth}
-use Rattle.model.specs.Forest.{treesOf}
-use Rattle.model.specs.Binding.{check8, check9, check10}
+use Rattle.model.specs.Forest.{treesOf, deeps}
+use Rattle.model.specs.Binding.{misplacedIn, reboundIn, unboundIn, check8, check9, check10}
 use Rattle.model.specs.Accept.{checks, accept}
 use Rattle.model.specs.Intern.{State, Out, Outs, internForest, internLast}
-use Rattle.model.specs.Call.{check1, interned, treeOf, bytesOf, check13, check14, Written, writtenOf, written}
-use Rattle.model.specs.Call.{run}
+use Rattle.model.specs.Call.{Call, ample, check1, lentChecks, interned, treeOf, bytesOf, check13, check14, treeChecks}
+use Rattle.model.specs.Call.{Written, writtenOf, measured, written, run}
+use Rattle.model.specs.Conditions.{First, Marked, HeaderOffends, DirectoryOffends, ShapeOffends, OpcodeOffends}
+use Rattle.model.specs.Conditions.{TreesOffend, interning, Defined, TooLarge, Applies, at-1, at-2, at-3, at-4, at-5}
+use Rattle.model.specs.Conditions.{at-6, at-7, at-8, at-9, at-10, at-11, at-12, at-13, at-14, acceptance, order}
+use Rattle.model.specs.Conditions.{Accepted}
 use Rattle.laws.proofs.Apart.{none-some, refused-good, good-inj, refused-parts}
-use Rattle.laws.proofs.Checks.{Check, Passes, FirstAt, passes-or-first, Rising, Fails, Says, passes-split, first-split}
-use Rattle.laws.proofs.Checks.{fails-from, fails-before, passes-none-fails, _also_, first-fails, fails-left}
-use Rattle.laws.proofs.Checks.{fails-split, fails-past, fails-says, passes-checked, checked-good, first-checked}
+use Rattle.laws.specs.Members.{In}
+use Rattle.laws.proofs.Members.{isIn-true, in-isIn}
+use Rattle.laws.proofs.Checks.{Check, Passes, FirstAt, passes-or-first, passes-split, first-split, numbering, Exact}
+use Rattle.laws.proofs.Checks.{_next_, exact-append, passes-none, first-in, first-says, exact-says, passes-checked, checked-good}
+use Rattle.laws.proofs.Checks.{first-checked}
 use Rattle.theory.proofs.Promise.Refusals.{Limited, forest-limited}
-use Rattle.model.specs.Conditions.{Defined, Accepted, at-5, interning, TooLarge, Applies, at-1, at-2}
-use Rattle.model.specs.Conditions.{at-3, at-4, at-6, at-7, at-8, at-9, at-10, at-11, at-12, at-13}
-use Rattle.model.specs.Conditions.{at-14}
 use Rattle.theory.proofs.Demand3.Places.{or-true, less, at-0, first-place, check-2, check-3, check-4, check-5}
 use Rattle.theory.proofs.Demand3.Places.{check-6, check-7}
 
@@ -44,21 +47,25 @@ abbrev ofTree : (ℕ × State → Option ℕ) → Out → Option ℕ
 ofTree check (refused m p) = none
 ofTree check (good o) = check o
 
+-- the checks from interning on
 abbrev late : ℕ → Out → List Check
-late room m =
-    (11, refusedAt 11 m) ∷ (12, refusedAt 12 m) ∷ (13, ofTree (check13 room) m) ∷ (14, ofTree check14 m) ∷ []
+late room m = (11, refusedAt 11 m) ∷ (12, refusedAt 12 m) ∷ map (λ c. (c .0, ofTree (c .1) m)) (treeChecks room)
 
-abbrev pub callChecks : List ℕ → ℕ → ℕ → List Check
-callChecks forest room words = (1, check1 words) ∷ (checks forest ++ late room (interning forest))
+abbrev pub callChecks : Call → List Check
+callChecks c = lentChecks c ++ (checks (c .forest) ++ late (c .room) (interning (c .forest)))
 
-pub checks-rise : (forest : List ℕ) (room words : ℕ) → Rising 1 (callChecks forest room words)
+-- the numbers stand in the order that the statement gives them, each once
+pub in-order : (c : Call) → numbering (callChecks c) ≡ order
+unfolding lentChecks checks treeChecks
+in-order c = refl
+
+pub each-once : twice order ≡ false
+unfolding twice isIn
+each-once = refl
+
+accepting : (forest : List ℕ) → numbering (checks forest) ≡ acceptance
 unfolding checks
-checks-rise forest room words =
-    from 1 (from 2 (from 3 (from 4 (from 5 (from 6 (from 7
-    (from 8 (from 9 (from 10 (from 11 (from 12 (from 13 (from 14 tt)))))))))))))
-  where
-    from : (n : ℕ) {X : Type 0} → X → (n ≤ n) × X
-    from n x = (omega arith, x)
+accepting forest = refl
 
 -- ---- conditions and failing checks
 
@@ -109,68 +116,138 @@ deep o p = (
   λ h. at-0 _ p .1 (h .0, less _ _ .1 (h .1)),
 )
 
-module _ (forest : List ℕ) (room words : ℕ) where
-  abbrev all : List Check
-  all = callChecks forest room words
+module _ (c : Call) where
+  abbrev forest : List ℕ
+  forest = c .forest
 
-  pub applies-fails : (n p : ℕ) → Applies forest room words n p → Fails n p (callChecks forest room words)
-  unfolding check1 checks check8 check9 check10
-  applies-fails n p (at-1 h) = inl (refl, at-0 _ 0 .1 (refl, less _ _ .1 h))
-  applies-fails n p (at-2 h) = fails-past 2 0 1 all (inl (refl, check-2 forest 0 .1 (refl, h)))
-  applies-fails n p (at-3 q h) = fails-past 3 q 2 all (inl (refl, check-3 forest q .1 h))
-  applies-fails n p (at-4 q h) = fails-past 4 q 3 all (inl (refl, check-4 forest q .1 h))
-  applies-fails n p (at-5 q h) = fails-past 5 q 4 all (inl (refl, check-5 forest q .1 h))
-  applies-fails n p (at-6 q h) = fails-past 6 q 5 all (inl (refl, check-6 forest q .1 h))
-  applies-fails n p (at-7 q h) = fails-past 7 q 6 all (inl (refl, check-7 forest q .1 h))
-  applies-fails n p (at-8 q h) = fails-past 8 q 7 all (inl (refl, first-place _ q .1 h))
-  applies-fails n p (at-9 q h) = fails-past 9 q 8 all (inl (refl, first-place _ q .1 h))
-  applies-fails n p (at-10 q h) = fails-past 10 q 9 all (inl (refl, first-place _ q .1 h))
-  applies-fails n p (at-11 q h) = fails-past 11 q 10 all (inl (refl, refused-at 11 (interning forest) q .1 h))
-  applies-fails n p (at-12 q h) = fails-past 12 q 11 all (inl (refl, refused-at 12 (interning forest) q .1 h))
-  applies-fails n p (at-13 o d h) =
-      fails-past 13 0 12 all (inl (
-        refl,
-        of-tree (check13 room) (interning forest) 0 .1 (o, d, large room o 0 .1 (refl, h)),
-      ))
-  applies-fails n p (at-14 o d h) =
-      fails-past 14 0 13 all (inl (refl, of-tree check14 (interning forest) 0 .1 (o, d, deep o 0 .1 (refl, h))))
+  -- what a number says: each has one condition
+  only-1 : (p : ℕ) → Applies c 1 p → (p ≡ 0) × (c .words < 16384)
+  only-1 p (at-1 h) = (refl, h)
+
+  only-2 : (p : ℕ) → Applies c 2 p → (p ≡ 0) × HeaderOffends forest
+  only-2 p (at-2 h) = (refl, h)
+
+  only-3 : (p : ℕ) → Applies c 3 p → DirectoryOffends forest p
+  only-3 p (at-3 q h) = h
+
+  only-4 : (p : ℕ) → Applies c 4 p → First (ShapeOffends forest) p
+  only-4 p (at-4 q h) = h
+
+  only-5 : (p : ℕ) → Applies c 5 p → First (OpcodeOffends forest) p
+  only-5 p (at-5 q h) = h
+
+  only-6 : (p : ℕ) → Applies c 6 p → TreesOffend forest p
+  only-6 p (at-6 q h) = h
+
+  only-7 : (p : ℕ) → Applies c 7 p → First (Marked (deeps (treesOf forest) 1)) p
+  only-7 p (at-7 q h) = h
+
+  only-8 : (p : ℕ) → Applies c 8 p → First (Marked (misplacedIn (treesOf forest) false)) p
+  only-8 p (at-8 q h) = h
+
+  only-9 : (p : ℕ) → Applies c 9 p → First (Marked (reboundIn (treesOf forest) [])) p
+  only-9 p (at-9 q h) = h
+
+  only-10 : (p : ℕ) → Applies c 10 p → First (Marked (unboundIn (treesOf forest) [])) p
+  only-10 p (at-10 q h) = h
+
+  only-11 : (p : ℕ) → Applies c 11 p → interning forest ≡ refused 11 p
+  only-11 p (at-11 q h) = h
+
+  only-12 : (p : ℕ) → Applies c 12 p → interning forest ≡ refused 12 p
+  only-12 p (at-12 q h) = h
+
+  only-13 : (p : ℕ) → Applies c 13 p → (o : ℕ × State) × Defined forest o × ((p ≡ 0) × TooLarge (c .room) o)
+  only-13 p (at-13 o d h) = (o, d, (refl, h))
+
+  only-14 : (p : ℕ) → Applies c 14 p → (o : ℕ × State) × Defined forest o × ((p ≡ 0) × (64 < depth (treeOf o)))
+  only-14 p (at-14 o d h) = (o, d, (refl, h))
+
+  -- and no others have one
+  listed : (n p : ℕ) → Applies c n p → isIn n order ≡ true
+  unfolding isIn
+  listed n p (at-1 h) = refl
+  listed n p (at-2 h) = refl
+  listed n p (at-3 q h) = refl
+  listed n p (at-4 q h) = refl
+  listed n p (at-5 q h) = refl
+  listed n p (at-6 q h) = refl
+  listed n p (at-7 q h) = refl
+  listed n p (at-8 q h) = refl
+  listed n p (at-9 q h) = refl
+  listed n p (at-10 q h) = refl
+  listed n p (at-11 q h) = refl
+  listed n p (at-12 q h) = refl
+  listed n p (at-13 o d h) = refl
+  listed n p (at-14 o d h) = refl
+
+  pub applies-in : (n p : ℕ) → Applies c n p → In n order
+  applies-in n p a = isIn-true n order (listed n p a)
 
   -- a condition whose place is 0
-  at-place-0 : (n p : ℕ) → p ≡ 0 → Applies forest room words n 0 → Applies forest room words n p
+  at-place-0 : (n p : ℕ) → p ≡ 0 → Applies c n 0 → Applies c n p
   at-place-0 n p e h = rw e h
 
-  says-13 : (p : ℕ) → (o : ℕ × State) × Defined forest o × (check13 room o ≡ some p) → Applies forest room words 13 p
-  says-13 p (o, d, e) = let w = large room o p .0 e in at-place-0 13 p (w .0) (at-13 o d (w .1))
-
-  says-14 : (p : ℕ) → (o : ℕ × State) × Defined forest o × (check14 o ≡ some p) → Applies forest room words 14 p
-  says-14 p (o, d, e) = let w = deep o p .0 e in at-place-0 14 p (w .0) (at-14 o d (w .1))
-
-  checks-say : Says (Applies forest room words) (callChecks forest room words)
-  unfolding check1 checks check8 check9 check10
-  checks-say =
-      (λ p e. let w = at-0 _ p .0 e in at-place-0 1 p (w .0) (at-1 (less _ _ .0 (w .1)))) also
-      (λ p e. let w = check-2 forest p .0 e in at-place-0 2 p (w .0) (at-2 (w .1))) also
-      (λ p e. at-3 p (check-3 forest p .0 e)) also
-      (λ p e. at-4 p (check-4 forest p .0 e)) also
-      (λ p e. at-5 p (check-5 forest p .0 e)) also
-      (λ p e. at-6 p (check-6 forest p .0 e)) also
-      (λ p e. at-7 p (check-7 forest p .0 e)) also
-      (λ p e. at-8 p (first-place _ p .0 e)) also
-      (λ p e. at-9 p (first-place _ p .0 e)) also
-      (λ p e. at-10 p (first-place _ p .0 e)) also
-      (λ p e. at-11 p (refused-at 11 (interning forest) p .0 e)) also
-      (λ p e. at-12 p (refused-at 12 (interning forest) p .0 e)) also
-      (λ p e. says-13 p (of-tree (check13 room) (interning forest) p .0 e)) also
-      (λ p e. says-14 p (of-tree check14 (interning forest) p .0 e)) also
+  lent-exact : Exact (Applies c) (lentChecks c)
+  unfolding lentChecks check1
+  lent-exact =
+      (λ p. (
+        λ e. let w = at-0 _ p .0 e in at-place-0 1 p (w .0) (at-1 (less _ _ .0 (w .1))),
+        λ h. let w = only-1 p h in at-0 _ p .1 (w .0, less _ _ .1 (w .1)),
+      )) next
       tt
 
-  pub fails-applies : (n p : ℕ) → Fails n p (callChecks forest room words) → Applies forest room words n p
-  fails-applies = fails-says (Applies forest room words) (callChecks forest room words) checks-say
+  forest-exact : Exact (Applies c) (checks (c .forest))
+  unfolding checks check8 check9 check10
+  forest-exact =
+      (λ p. (
+        λ e. let w = check-2 forest p .0 e in at-place-0 2 p (w .0) (at-2 (w .1)),
+        λ h. check-2 forest p .1 (only-2 p h),
+      )) next
+      (λ p. (λ e. at-3 p (check-3 forest p .0 e), λ h. check-3 forest p .1 (only-3 p h))) next
+      (λ p. (λ e. at-4 p (check-4 forest p .0 e), λ h. check-4 forest p .1 (only-4 p h))) next
+      (λ p. (λ e. at-5 p (check-5 forest p .0 e), λ h. check-5 forest p .1 (only-5 p h))) next
+      (λ p. (λ e. at-6 p (check-6 forest p .0 e), λ h. check-6 forest p .1 (only-6 p h))) next
+      (λ p. (λ e. at-7 p (check-7 forest p .0 e), λ h. check-7 forest p .1 (only-7 p h))) next
+      (λ p. (λ e. at-8 p (first-place _ p .0 e), λ h. first-place _ p .1 (only-8 p h))) next
+      (λ p. (λ e. at-9 p (first-place _ p .0 e), λ h. first-place _ p .1 (only-9 p h))) next
+      (λ p. (λ e. at-10 p (first-place _ p .0 e), λ h. first-place _ p .1 (only-10 p h))) next
+      tt
+
+  abbrev made : Out
+  made = interning forest
+
+  at-tree : (check : ℕ × State → Option ℕ) (Cond : ℕ × State → Type 0) (n : ℕ) →
+      ((o : ℕ × State) (p : ℕ) → (check o ≡ some p) ↔ ((p ≡ 0) × Cond o)) →
+      ((o : ℕ × State) → Defined forest o → Cond o → Applies c n 0) →
+      ((p : ℕ) → Applies c n p → (o : ℕ × State) × Defined forest o × ((p ≡ 0) × Cond o)) →
+      (p : ℕ) → (ofTree check made ≡ some p) ↔ Applies c n p
+  at-tree check Cond n same to back p = (
+    λ e. go (of-tree check made p .0 e),
+    λ h. let w = back p h in of-tree check made p .1 (w .0, w .1, same (w .0) p .1 (w .2)),
+  )
+    where
+      go : (o : ℕ × State) × (made ≡ good o) × (check o ≡ some p) → Applies c n p
+      go (o, d, e) = let w = same o p .0 e in at-place-0 n p (w .0) (to o d (w .1))
+
+  late-exact : Exact (Applies c) (late (c .room) (interning (c .forest)))
+  unfolding treeChecks
+  late-exact =
+      (λ p. (λ e. at-11 p (refused-at 11 made p .0 e), λ h. refused-at 11 made p .1 (only-11 p h))) next
+      (λ p. (λ e. at-12 p (refused-at 12 made p .0 e), λ h. refused-at 12 made p .1 (only-12 p h))) next
+      at-tree (check13 (c .room)) (TooLarge (c .room)) 13 (large (c .room)) at-13 only-13 next
+      at-tree check14 (λ o. 64 < depth (treeOf o)) 14 deep at-14 only-14 next
+      tt
+
+  pub call-exact : Exact (Applies c) (callChecks c)
+  call-exact =
+      exact-append (Applies c) (lentChecks c) _ lent-exact λ _.
+      exact-append (Applies c) (checks forest) _ forest-exact λ _. late-exact
 
 -- ---- the call's answer
 
 rest : ℕ → Out → Answer Written
-rest room m = m >>= λ o. checked ((13, check13 room o) ∷ (14, check14 o) ∷ []) (writtenOf o)
+rest room m = m >>= measured room
 
 pub root-limited : (forest : List ℕ) → Limited (sizes (treesOf forest)) (interning forest)
 unfolding internLast _>>=_
@@ -180,10 +257,16 @@ root-limited forest = go (internForest (treesOf forest)) (forest-limited (treesO
     go (refused n p) h = h
     go (good os) h = tt
 
--- the checks from 11 on
+-- where no tree is defined, no check of it fails
+none-silent : (n p : ℕ) (cs : List (ℕ × (ℕ × State → Option ℕ))) → FirstAt n p (map (λ c. (c .0, none)) cs) → ⊥
+none-silent n p [] f = f
+none-silent n p (c ∷ cs) (inl f) = none-some (f .1)
+none-silent n p (c ∷ cs) (inr f) = none-silent n p cs (f .1)
+
+-- the checks from interning on
 module _ (room : ℕ) where
   rest-first : (m : Out) (n p : ℕ) → FirstAt n p (late room m) → rest room m ≡ refused n p
-  unfolding rest _>>=_
+  unfolding rest _>>=_ measured
   rest-first (good o) n p (inl f) = none-some (f .1)
   rest-first (good o) n p (inr (e, inl f)) = none-some (f .1)
   rest-first (good o) n p (inr (e, inr (g, f))) = first-checked n p _ (writtenOf o) f
@@ -195,73 +278,58 @@ module _ (room : ℕ) where
       go : FirstAt n p (late room (refused m q)) → _≡_ {A = Answer Written} (refused m q) (refused n p)
       go (inl f) = same 11 (f .0) (f .1)
       go (inr (e, inl f)) = same 12 (f .0) (f .1)
-      go (inr (e, inr (g, inl f))) = none-some (f .1)
-      go (inr (e, inr (g, inr (k, inl f)))) = none-some (f .1)
-      go (inr (e, inr (g, inr (k, inr f)))) = absurd (f .1)
+      go (inr (e, inr (g, f))) = absurd (none-silent n p (treeChecks room) f)
 
   rest-passes : (end : ℕ) (m : Out) → Limited end m → Passes (late room m) →
       (o : ℕ × State) × (m ≡ good o) × (rest room m ≡ good (writtenOf o))
-  unfolding rest _>>=_
+  unfolding rest _>>=_ measured
   rest-passes end (good o) h w = (o, refl, passes-checked _ (writtenOf o) (w .1 .1))
   rest-passes end (refused m q) (inl e, l) w =
       none-some (sym (w .0) ∙ refused-at 11 (refused m q) q .1 (ap (λ (k : ℕ). refused k q) e))
   rest-passes end (refused m q) (inr e, l) w =
       none-some (sym (w .1 .0) ∙ refused-at 12 (refused m q) q .1 (ap (λ (k : ℕ). refused k q) e))
 
-module _ (forest : List ℕ) (room words : ℕ) where
-  written-refused : (n p : ℕ) → FirstAt n p (checks forest) → written forest room ≡ refused n p
+module _ (c : Call) where
+  written-refused : (n p : ℕ) → FirstAt n p (checks (c .forest)) → written c ≡ refused n p
   unfolding written interned accept _>>=_
-  written-refused n p f = rw (first-checked n p (checks forest) (treesOf forest) f) refl
+  written-refused n p f = rw (first-checked n p (checks (c .forest)) (treesOf (c .forest)) f) refl
 
-  written-accepted : Passes (checks forest) → written forest room ≡ rest room (interning forest)
+  written-accepted : Passes (checks (c .forest)) → written c ≡ rest (c .room) (interning (c .forest))
   unfolding written interned accept _>>=_ rest
-  written-accepted h = rw (passes-checked (checks forest) (treesOf forest) h) refl
+  written-accepted h = rw (passes-checked (checks (c .forest)) (treesOf (c .forest)) h) refl
 
-  pub call-first : (n p : ℕ) → FirstAt n p (callChecks forest room words) → run forest room words ≡ refused n p
-  unfolding run unless
-  call-first n p (inl h) = rw (h .1) (ap (λ (z : ℕ). refused z p) (h .0))
-  call-first n p (inr h) = rw (h .0) (go (first-split n p (checks forest) (late room (interning forest)) (h .1)))
+  pub call-first : (n p : ℕ) → FirstAt n p (callChecks c) → run c ≡ refused n p
+  unfolding run _>>=_
+  call-first n p f = lent (first-split n p (lentChecks c) _ f)
     where
-      go : FirstAt n p (checks forest) ⊎ (Passes (checks forest) × FirstAt n p (late room (interning forest))) →
-          written forest room ≡ refused n p
-      go (inl f) = written-refused n p f
-      go (inr w) = written-accepted (w .0) ∙ rest-first room (interning forest) n p (w .1)
+      after : FirstAt n p (checks (c .forest)) ⊎
+          (Passes (checks (c .forest)) × FirstAt n p (late (c .room) (interning (c .forest)))) →
+          written c ≡ refused n p
+      after (inl f) = written-refused n p f
+      after (inr w) = written-accepted (w .0) ∙ rest-first (c .room) (interning (c .forest)) n p (w .1)
 
-  pub call-passes : Passes (callChecks forest room words) →
-      Passes (checks forest) × ((o : ℕ × State) × Defined forest o × (run forest room words ≡ good (writtenOf o)))
-  unfolding run unless
+      lent : FirstAt n p (lentChecks c) ⊎ (Passes (lentChecks c) ×
+          FirstAt n p (checks (c .forest) ++ late (c .room) (interning (c .forest)))) → run c ≡ refused n p
+      lent (inl f) = rw (first-checked n p (lentChecks c) c f) refl
+      lent (inr w) =
+          rw (passes-checked (lentChecks c) c (w .0)) (after (first-split n p (checks (c .forest)) _ (w .1)))
+
+  pub call-passes : Passes (callChecks c) →
+      Passes (checks (c .forest)) × ((o : ℕ × State) × Defined (c .forest) o × (run c ≡ good (writtenOf o)))
+  unfolding run _>>=_
   call-passes h =
-      let w = passes-split (checks forest) (late room (interning forest)) (h .1) in
-      let v = rest-passes room _ (interning forest) (root-limited forest) (w .1) in
-      (w .0, (v .0, v .1, rw (h .0) (written-accepted (w .0) ∙ v .2)))
+      let l = passes-split (lentChecks c) (checks (c .forest) ++ late (c .room) (interning (c .forest))) h in
+      let w = passes-split (checks (c .forest)) (late (c .room) (interning (c .forest))) (l .1) in
+      let v = rest-passes (c .room) _ (interning (c .forest)) (root-limited (c .forest)) (w .1) in
+      (w .0, (v .0, v .1, rw (passes-checked (lentChecks c) c (l .0)) (written-accepted (w .0) ∙ v .2)))
 
 -- ---- acceptance
 
-late-from-11 : (room : ℕ) (m : Out) → Rising 11 (late room m)
-late-from-11 room m = (omega arith, (omega arith, (omega arith, (omega arith, tt))))
-
-checks-from-2-to-10 : (forest : List ℕ) (n p : ℕ) → Fails n p (checks forest) → (2 ≤ n) × (n ≤ 10)
-checks-from-2-to-10 forest n p f =
-    let ls = late 0 (interning forest) in
-    let rise = checks-rise forest 0 0 .1 in
-    let high : n < 11 = fails-before 2 (checks forest) (11, refusedAt 11 (interning forest)) _ rise n p f in
-    (fails-from 2 (checks forest ++ ls) rise n p (fails-left n p (checks forest) ls f), omega arith)
-
--- an accepted forest is one that no check of 2 to 10 stops
+-- an accepted forest is one that no check of acceptance stops
 pub passes-accepted : (forest : List ℕ) → Passes (checks forest) → Accepted forest
-passes-accepted forest h room words n p low high a = go (applies-fails forest room words n p a)
-  where
-    go : Fails n p (callChecks forest room words) → ⊥
-    go (inl f) = absurd (omega (arith, f .0))
-    go (inr f) = turn (fails-split n p (checks forest) (late room (interning forest)) f)
-      where
-        turn : Fails n p (checks forest) ⊎ Fails n p (late room (interning forest)) → ⊥
-        turn (inl g) = passes-none-fails (checks forest) h n p g
-        turn (inr g) =
-            absurd (omega (
-              arith,
-              fails-from 11 (late room (interning forest)) (late-from-11 room (interning forest)) n p g,
-            ))
+passes-accepted forest h c e n p i a =
+    passes-none (Applies c) (checks (c .forest)) (forest-exact c) (rw e h) n p
+    (rw (accepting (c .forest)) (isIn-true n acceptance i)) a
 
 accepted-passes : (forest : List ℕ) → Accepted forest → Passes (checks forest)
 accepted-passes forest h = go (passes-or-first (checks forest))
@@ -269,9 +337,10 @@ accepted-passes forest h = go (passes-or-first (checks forest))
     go : Passes (checks forest) ⊎ ((n : ℕ) × (p : ℕ) × FirstAt n p (checks forest)) → Passes (checks forest)
     go (inl w) = w
     go (inr (n, p, f)) =
-        let g = first-fails n p (checks forest) f in
-        let l = checks-from-2-to-10 forest n p g in
-        absurd (h 0 0 n p (l .0) (l .1) (fails-applies forest 0 0 n p (inr (fails-left n p (checks forest) _ g))))
+        absurd (h (ample forest) refl n p
+        (in-isIn n acceptance (rw (accepting forest) at (first-in n p (checks forest) f)))
+        (first-says (Applies (ample forest)) (checks forest)
+        (exact-says (Applies (ample forest)) (checks forest) (forest-exact (ample forest))) n p f))
 
 -- the definitions' acceptance is the paper's
 pub accepted-exactly : (forest : List ℕ) → (accept forest ≡ good (treesOf forest)) ↔ Accepted forest

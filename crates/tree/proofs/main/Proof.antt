@@ -6,20 +6,22 @@ use native.Mathlib.Omega.{arith}
 use lib.ListN.{length}
 use lib.Seq.{length-take-le}
 use borrow.Author.Needs.{needs}
+use Rattle.model.specs.Call.{Call, Numbers}
+use Rattle.model.specs.Demand3.{Demanded}
 use Rattle.cse.specs.declared.Answer.{Answer}
 use Rattle.cse.specs.declared.Answer.the-variants.{Written}
 use Rattle.cse.specs.Call.{numbersIn}
-use Rattle.cse.specs.Demanded.{Demanded}
 use Rattle.tree.proofs.main.Statement.{statement}
 use Rattle.tree.proofs.main.Tie as tie
 
 -- what is written lies in the output
-written-fits : {bs out : List ℕ} {words : ℕ} {r : Answer} {out′ : List ℕ} {len symbols readings : ℕ} →
-    Demanded bs out words (numbersIn r) out′ → r ≡ Written len symbols readings → len ≤ length out
+written-fits : {c : Call} {out : List ℕ} {r : Answer} {out′ : List ℕ} {len symbols readings : ℕ} →
+    Demanded c out (numbersIn r) out′ → r ≡ Written len symbols readings → len ≤ c .room
 written-fits {r = r} {len = len} d e =
     let zero : numbersIn r .number ≡ 0 = ap (λ (a : Answer). numbersIn a .number) e in
     let told : numbersIn r .len ≡ len = ap (λ (a : Answer). numbersIn a .len) e in
-    omega (arith, d .tree zero .fits-in)
+    let w = d .writes zero in
+    omega (arith, w .fits-in, ap (λ (z : Numbers). z .len) (w .answers))
 
 array-share-prefix-out : tie.Need-array-share-prefix-out
 array-share-prefix-out c =
