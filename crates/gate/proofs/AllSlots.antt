@@ -1,7 +1,7 @@
 -- The counts of all symbols: the slots of one symbol more; the uses of the symbols below a bound; the whole.
 -- Assumes nothing.
 use Prim.Native.Nat.{ℕ, zero, suc, _+_, _<_, _≤_}
-use mathlib.Core.Path.{_≡_, refl, ap, _∙_}
+use mathlib.Core.Path.{_≡_, ap, _∙_}
 use mathlib.Core.List.{List, [], _∷_, _++_}
 use native.Mathlib.Omega.{arith}
 use lib.ListN.{length}
@@ -12,8 +12,9 @@ use Rattle.symbols.specs.Symbols.{kidsAt, symOf, symFrom, symsOf}
 use Rattle.gate.specs.Gate.{usesAt, cleared, tallied, Countable, CountsOnly, Tallied}
 use Rattle.laws.proofs.Frame.{frame-none, frame-then}
 use Rattle.regions.specs.Regions.{WORDS}
+use Rattle.laws.proofs.Once.{count-append}
 use Rattle.laws.proofs.Falls.{Under}
-use Rattle.gate.proofs.Words.{count-append, cleared-frame}
+use Rattle.gate.proofs.Words.{cleared-frame}
 use Rattle.gate.proofs.Words.{cleared-zero, allNoted-frame, allNoted-uses}
 use Rattle.gate.proofs.Run.{kids-under, kids-kept, countable-kept}
 

@@ -14,9 +14,8 @@ use Rattle.model.specs.Intern.{Sym, symAt}
 use Rattle.model.specs.Gate.{reach, slotsOf}
 use Rattle.laws.specs.Members.{In, Once}
 use Rattle.laws.proofs.Members.{isIn-false, not-in-isIn, union-left, union-cases}
-use Rattle.laws.proofs.Once.{reach-once}
+use Rattle.laws.proofs.Once.{reach-once, count-append}
 use Rattle.laws.proofs.Falls.{Under}
-use Rattle.gate.proofs.Words.{count-append}
 
 -- ---- what `reach` adds
 

@@ -1,9 +1,8 @@
--- The symbols in a run of words noted. In order: a run's members; one word more; the children of a symbol; words of
+-- The symbols in a run of words noted. In order: one word more; the children of a symbol; words of
 -- symbols that are kept.
 -- Assumes nothing.
-use Prim.Native.Nat.{ℕ, zero, suc, _+_, _<_, _≤_}
+use Prim.Native.Nat.{ℕ, _+_, _<_, _≤_}
 use mathlib.Core.Path.{_≡_, sym, subst}
-use mathlib.Core.Logic.{inl, inr}
 use mathlib.Core.List.{List}
 use native.Mathlib.Omega.{arith}
 use native.Mathlib.Numerals.{add-one}
@@ -15,26 +14,11 @@ use Rattle.key.specs.Key.{symbolAt}
 use Rattle.key.proofs.Laws.{symbol-agree}
 use Rattle.symbols.specs.Words.{wordsFrom, slotsFrom}
 use Rattle.symbols.specs.Symbols.{kidsAt}
-use Rattle.symbols.proofs.Words.{words-length, words-more, words-agree}
+use Rattle.symbols.proofs.Words.{words-length, words-under, words-more, words-agree}
 use Rattle.gate.specs.Gate.{usesAt, noted, allNoted, Lower, Countable, Small, Notable, CountsOnly}
 use Rattle.laws.proofs.Once.{count-short}
 use Rattle.laws.proofs.Falls.{Under}
 use Rattle.gate.proofs.Words.{allNoted-more, allNoted-frame, allNoted-uses}
-
--- ---- a run's members
-
-pub words-under : (ws : List ℕ) (at n m : ℕ) → ((k : ℕ) → k < n → getD ws (at + k) 0 < m) →
-    Under m (wordsFrom ws at n)
-unfolding wordsFrom
-words-under ws at zero m h a i = absurd i
-words-under ws at (suc n) m h a (inl e) =
-    let z : at + 0 ≡ at = omega arith in
-    let l : getD ws at 0 < m = rw z at (h 0 (omega arith)) in
-    omega arith
-words-under ws at (suc n) m h a (inr i) = words-under ws (suc at) n m rest a i
-  where
-    rest : (k : ℕ) → k < n → getD ws (suc at + k) 0 < m
-    rest k l = let e : suc at + k ≡ at + suc k = omega arith in rw e (h (suc k) (omega arith))
 
 -- ---- one word more
 

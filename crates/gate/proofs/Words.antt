@@ -15,7 +15,7 @@ use borrow.Author.Tests.{eq-eqb, eqb-true, eqb-false}
 use Rattle.model.specs.Lists.{isIn, count, add, union}
 use Rattle.laws.proofs.Frame.{frame-none, frame-then, frame-store}
 use Rattle.regions.specs.Regions.{USES, REACHED, WORDS}
-use Rattle.laws.proofs.Members.{in-isIn, in-right}
+use Rattle.laws.proofs.Members.{in-isIn, in-right, isIn-last}
 use Rattle.laws.proofs.Falls.{Under}
 use Rattle.gate.specs.Gate.{usesAt, reachedAt, cleared, noted, allNoted, CountsOnly}
 
@@ -29,33 +29,17 @@ isIn-added xs k = go (isIn k xs) refl
     go true e = e
     go false e = in-isIn k (xs ++ (k ∷ [])) (in-right k xs (k ∷ []) (inl refl))
 
-isIn-last : (xs : List ℕ) (k s : ℕ) → eqb s k ≡ false → isIn s (xs ++ (k ∷ [])) ≡ isIn s xs
-unfolding isIn
-isIn-last [] k s e = rw e
-isIn-last (x ∷ xs) k s e = rw (isIn-last xs k s e)
-
 isIn-other : (xs : List ℕ) (k s : ℕ) → eqb s k ≡ false → isIn s (add xs k) ≡ isIn s xs
 unfolding add
 isIn-other xs k s e = go (isIn k xs)
   where
     go : (t : Bool) → isIn s (elim t [ true ↦ xs | false ↦ xs ++ (k ∷ []) ]) ≡ isIn s xs
     go true = refl
-    go false = isIn-last xs k s e
+    go false = isIn-last xs k s (eqb-false s k e)
 
 count-nil : (s n : ℕ) → n ≡ n + count s []
 unfolding count
 count-nil s n = omega arith
-
-pub count-append : (s : ℕ) (xs ys : List ℕ) → count s (xs ++ ys) ≡ count s xs + count s ys
-unfolding count
-count-append s [] ys = omega arith
-count-append s (x ∷ xs) ys = go (eqb s x) (count-append s xs ys)
-  where
-    go : (t : Bool) → count s (xs ++ ys) ≡ count s xs + count s ys →
-        _≡_ {A = ℕ} (elim t [ true ↦ suc (count s (xs ++ ys)) | false ↦ count s (xs ++ ys) ])
-        (elim t [ true ↦ suc (count s xs) | false ↦ count s xs ] + count s ys)
-    go true e = omega arith
-    go false e = e
 
 -- ---- two words stored, at symbol s
 

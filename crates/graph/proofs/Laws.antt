@@ -1,14 +1,13 @@
 -- Laws of the graph in the words. In order: a symbol's parts; its children, which are lower; slots in use; the words
 -- that it hangs on; the tests of it.
 -- Assumes nothing.
-use Prim.Native.Nat.{ℕ, zero, suc, _+_, _*_, _<_, _≤_}
+use Prim.Native.Nat.{ℕ, _+_, _*_, _<_, _≤_}
 use mathlib.Core.Path.{_≡_, refl, sym, ap, subst, _∙_}
 use mathlib.Core.Bool.{Bool, true, false}
-use mathlib.Core.Logic.{inl, inr}
 use mathlib.Core.List.{List}
 use native.Mathlib.Omega.{arith}
 use lib.Dec.{eqb, ltb}
-use lib.ListN.{length, getD, List·getD-eq-default}
+use lib.ListN.{length, List·getD-eq-default}
 use borrow.Author.Tests.{ltb-true, ltb-false}
 use Rattle.regions.specs.Regions.{SLOTS, SCOPES}
 use Rattle.model.specs.Intern.{Sym, noSym, symAt}
@@ -23,9 +22,9 @@ use Rattle.key.specs.declared.Node.{Node}
 use Rattle.key.specs.declared.Node.the-variants.{Const, Unparsed, Arg, Lambda, Op}
 use Rattle.key.specs.Key.{partsOf, symbolAt}
 use Rattle.key.proofs.Laws.{symbol-agree}
-use Rattle.symbols.specs.Words.{wordsFrom}
 use Rattle.symbols.specs.Symbols.{nodeOf, symsOf, AllSound}
 use Rattle.symbols.specs.Symbols as symbols
+use Rattle.symbols.proofs.Words.{words-under}
 use Rattle.symbols.proofs.Laws.{syms-length, sym-at, kids-at, sounds-agree}
 use Rattle.scopes.specs.declared.Rel.{Rel}
 use Rattle.scopes.specs.Scopes.{Nested, scopeWord}
@@ -46,16 +45,6 @@ module _ (bs ws : List ℕ) (n m : ℕ) (slots : List ℕ) (s : ℕ) (lt : s < n
 
 -- ---- its children
 
--- words that are below a bound, as a list
-pub words-low : (ws : List ℕ) (at k b : ℕ) → ((j : ℕ) → j < k → getD ws (at + j) 0 < b) →
-    Under b (wordsFrom ws at k)
-unfolding wordsFrom
-words-low ws at zero b h x i = absurd i
-words-low ws at (suc k) b h x (inl e) = let z : at + 0 ≡ at = omega arith in omega (arith, rw z at (h 0 (omega arith)))
-words-low ws at (suc k) b h x (inr i) =
-    words-low ws (suc at) k b
-    (λ j l. let z : suc at + j ≡ at + suc j = omega arith in rw z (h (suc j) (omega arith))) x i
-
 -- a symbol's children are lower; past the last symbol there are none
 pub kids-low : (bs ws : List ℕ) (n m : ℕ) → Arena bs ws n m → (slots : List ℕ) (s : ℕ) →
     Under s (symOf (graphOf bs ws n m slots) s .kids)
@@ -64,7 +53,7 @@ kids-low bs ws n m arena slots s = go (ltb s n) refl
     go : (b : Bool) → ltb s n ≡ b → Under s (symAt (symsOf bs ws n) s .kids)
     go true e =
         let lt = ltb-true s n e in
-        subst (Under s) (sym (kids-at bs ws n s lt)) (words-low ws _ _ s (arena .sound s lt .lower))
+        subst (Under s) (sym (kids-at bs ws n s lt)) (words-under ws _ _ s (arena .sound s lt .lower))
     go false e =
         subst (λ (y : Sym). Under s (y .kids)) (sym (List·getD-eq-default (symsOf bs ws n) noSym
         (omega (arith, syms-length bs ws n, ltb-false s n e)))) (λ x i. absurd i)

@@ -12,7 +12,7 @@ use mathlib.Core.Bool.{Bool, true, false, _&&_, _||_, or-true, or-assoc, true≢
 use mathlib.Core.List.{List, [], _∷_, _++_}
 use Prim.Native.Nat.{ℕ}
 use lib.Dec.{eqb}
-use borrow.Author.Tests.{eqb-true, eq-eqb}
+use borrow.Author.Tests.{eqb-true, eq-eqb, ne-eqb}
 use Rattle.model.specs.Lists.{isIn, add, union, without, same, anyIn}
 use Rattle.model.specs.Tree.{Rec, sameRec}
 use Rattle.laws.specs.Members.{In}
@@ -99,6 +99,12 @@ pub in-either : (a : ℕ) (xs ys : List ℕ) → In a (xs ++ ys) → In a xs ⊎
 in-either a [] ys h = inr h
 in-either a (x ∷ xs) ys (inl e) = inl (inl e)
 in-either a (x ∷ xs) ys (inr h) = elim (in-either a xs ys h) [ inl k ↦ inl (inr k) | inr k ↦ inr k ]
+
+-- one more that is another
+pub isIn-last : (xs : List ℕ) (k s : ℕ) → (s ≡ k → ⊥) → isIn s (xs ++ (k ∷ [])) ≡ isIn s xs
+unfolding isIn
+isIn-last [] k s n = rw (ne-eqb s k n)
+isIn-last (x ∷ xs) k s n = rw (isIn-last xs k s n)
 
 -- ---- `add`: one more member
 

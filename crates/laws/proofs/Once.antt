@@ -1,13 +1,13 @@
 -- Lists that hold each number once: what is reached from a root does, and so do lists used as sets.
 --
 -- In order: one more at the end; `add` and `union`; `reach`; how often a number can be in a list
--- (`count-short`).
+-- (`count-short`), and in two lists joined (`count-append`).
 -- Assumes nothing.
 use mathlib.Core.Path.{_≡_, refl, sym}
 use mathlib.Core.Logic.{_⊎_, inl, inr}
 use mathlib.Core.Bool.{Bool, true, false}
 use mathlib.Core.List.{List, [], _∷_, _++_}
-use Prim.Native.Nat.{ℕ, zero, suc, _≤_}
+use Prim.Native.Nat.{ℕ, zero, suc, _+_, _≤_}
 use native.Mathlib.Omega.{arith}
 use lib.Dec.{eqb}
 use lib.ListN.{length}
@@ -59,3 +59,14 @@ count-short n (x ∷ xs) = go (eqb n x) (count-short n xs)
     go : (b : Bool) → count n xs ≤ length xs → elim b [ true ↦ suc (count n xs) | false ↦ count n xs ] ≤ suc (length xs)
     go true l = omega arith
     go false l = omega arith
+
+pub count-append : (s : ℕ) (xs ys : List ℕ) → count s (xs ++ ys) ≡ count s xs + count s ys
+unfolding count
+count-append s [] ys = omega arith
+count-append s (x ∷ xs) ys = go (eqb s x) (count-append s xs ys)
+  where
+    go : (t : Bool) → count s (xs ++ ys) ≡ count s xs + count s ys →
+        _≡_ {A = ℕ} (elim t [ true ↦ suc (count s (xs ++ ys)) | false ↦ count s (xs ++ ys) ])
+        (elim t [ true ↦ suc (count s xs) | false ↦ count s xs ] + count s ys)
+    go true e = omega arith
+    go false e = e

@@ -3,11 +3,9 @@
 -- Assumes nothing.
 use Prim.Native.Nat.{ℕ, zero, suc, _+_, _*_, _<_, _≤_}
 use mathlib.Core.Path.{_≡_, sym, ap}
-use mathlib.Core.Bool.{Bool, true, false}
 use mathlib.Core.List.{List, [], _∷_, _++_, append-assoc, append-nil}
 use native.Mathlib.Omega.{arith}
 use native.Mathlib.Numerals.{add-one}
-use lib.Dec.{eqb}
 use lib.ListN.{length, length-append}
 use Rattle.model.specs.Lists.{count}
 use Rattle.model.specs.Text.{text}
@@ -20,7 +18,7 @@ use Rattle.symbols.specs.Symbols.{kidsAt, symOf, symFrom, symsOf, AllSound}
 use Rattle.symbols.proofs.Words.{words-length}
 use Rattle.symbols.proofs.Laws.{syms-length, sym-at}
 use Rattle.gate.specs.Gate.{usesAt}
-use Rattle.gate.proofs.Words.{count-append}
+use Rattle.laws.proofs.Once.{count-short, count-append}
 use Rattle.output.specs.Output.{over, Wrote}
 use Rattle.output.proofs.Wrote.{wrote-none, wrote-as, wrote-then, wrote-both}
 use Rattle.text.proofs.Refusal.{newline}
@@ -28,15 +26,6 @@ use Rattle.lines.specs.Lines.{Listable}
 use Rattle.lines.proofs.Line.{line-length}
 
 -- ---- the uses are few
-
-count-length : (s : ℕ) (xs : List ℕ) → count s xs ≤ length xs
-unfolding count
-count-length s [] = omega arith
-count-length s (x ∷ xs) = go (count s xs) (count-length s xs) (eqb s x)
-  where
-    go : (m : ℕ) → m ≤ length xs → (b : Bool) → elim b as (λ _. ℕ) [ true ↦ suc m | false ↦ m ] ≤ suc (length xs)
-    go m h true = omega arith
-    go m h false = omega arith
 
 slots-more : (l : List Sym) (y : Sym) → allSlots (l ++ (y ∷ [])) ≡ allSlots l ++ y .kids
 unfolding allSlots
@@ -53,7 +42,7 @@ slots-few bs ws (suc n) s sound =
     omega (
       arith,
       count-append s (allSlots l) (kidsAt ws n),
-      count-length s (kidsAt ws n),
+      count-short s (kidsAt ws n),
       words-length ws (SLOTS .first + symbolAt ws n .kids) (symbolAt ws n .count),
       sound n (omega arith) .slots,
       slots-few bs ws n s (λ i lt. sound i (omega arith)),

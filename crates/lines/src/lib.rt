@@ -117,7 +117,7 @@ fn put_lines(forest: &[u8], work: &[u32], n: usize, out: &mut [u8], start: usize
 }
 
 // What the lister prints for n symbols, over the output's start; `gate::count_all` has counted their uses.
-// The answer is its length. Rules out: a symbol's mark as its usage; the count of symbols left out.
+// The answer is its length. Rules out: that a symbol is reached as its usage; the count of symbols left out.
 pub fn put_symbols(forest: &[u8], work: &[u32], n: usize, out: &mut [u8]) -> usize
     requires { ⌜ Listable (now forest) (now work) n ⌝ }
     requires { ⌜ 32768 ≤ length (now out) ⌝ }

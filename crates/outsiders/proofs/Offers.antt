@@ -25,7 +25,7 @@ use Rattle.symbols.proofs.Same.{key-opcode}
 use Rattle.symbols.proofs.Words.{words-length, words-more}
 use Rattle.symbols.proofs.Laws.{rec-at, kids-at}
 use Rattle.graph.specs.Graph.{Arena, graphOf, Tests, isOutsider}
-use Rattle.outsiders.specs.Outsiders.{offered, Lower, Held, Listed}
+use Rattle.outsiders.specs.Outsiders.{offered, WordsBelow, Held, Listed}
 use Rattle.outsiders.proofs.Lists.{held-room, held-more, take-put, listed-none, listed-then, listed-as}
 
 -- ---- one symbol
@@ -136,7 +136,7 @@ module _ (bs ws : List ℕ) (n m cs : ℕ) (b t : Bool) (op j d : ℕ) (is : t �
 
 module _ (bs ws : List ℕ) (n m s : ℕ) (arena : Arena bs ws n m) (lt : s < n) (y : Symbol)
     (loaded : y ≡ symbolAt ws s) where
-  pub kids-lower : Lower ws (SLOTS .first + y .kids) (y .count) n
+  pub kids-lower : WordsBelow ws (SLOTS .first + y .kids) (y .count) n
   kids-lower =
       let so = arena .sound s lt in
       rw loaded (record { fit = omega (arith, so .slots); low = λ j l. omega (arith, so .lower j l) })

@@ -16,7 +16,7 @@ pub record Below (list : List ℕ) (k n : ℕ) : Type 0 where
   pub fit : k ≤ length list
   pub low : (j : ℕ) → j < k → getD list j 0 < n
 
-pub record Lower (ws : List ℕ) (at k n : ℕ) : Type 0 where
+pub record WordsBelow (ws : List ℕ) (at k n : ℕ) : Type 0 where
   pub fit : at + k ≤ end SLOTS
   pub low : (j : ℕ) → j < k → getD ws (at + j) 0 < n
 

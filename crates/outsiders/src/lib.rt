@@ -13,7 +13,7 @@ ghost use Rattle.model.specs.Schedule.{operands, localDepOrder, outsiders};
 ghost use Rattle.record.specs.Record.{Laid};
 ghost use Rattle.symbols.specs.Words.{wordsFrom};
 ghost use Rattle.graph.specs.Graph.{Arena, Scoped};
-ghost use Rattle.outsiders.specs.Outsiders.{offered, Below, Lower, Held, Listed};
+ghost use Rattle.outsiders.specs.Outsiders.{offered, Below, WordsBelow, Held, Listed};
 
 // Which operands of a record with this opcode are meant: its thunks, or the others.
 struct Arms {
@@ -132,7 +132,7 @@ fn offer_words(
     n: usize,
 ) -> usize
     requires { ⌜ Scoped (now work) (g .symbols) (g .scopes) ⌝ }
-    requires { ⌜ Lower (now work) from count (g .symbols) ⌝ }
+    requires { ⌜ WordsBelow (now work) from count (g .symbols) ⌝ }
     requires { ⌜ Held (g .symbols) (now list) n ⌝ }
     ensures { λ r.
         ⌜ ((bs : List ℕ) → Listed bs (now (work .entry)) (g .symbols) (g .scopes)

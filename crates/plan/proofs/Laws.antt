@@ -1,7 +1,7 @@
 -- Planned rows in words. In order: a row's three words; a row stored is loaded again, and words elsewhere are kept; the
 -- words that a plan hangs on; one row more at a plan's end; joined plans.
 -- Assumes nothing.
-use Prim.Native.Nat.{ℕ, zero, suc, _+_, _*_, _≤_, _<_}
+use Prim.Native.Nat.{ℕ, zero, suc, _+_, _*_, _≤_}
 use mathlib.Core.Path.{_≡_, refl, ap, ap₂, _∙_}
 use mathlib.Core.List.{List, [], _∷_, _++_}
 use native.Mathlib.Omega.{arith}

@@ -1,4 +1,4 @@
--- Lists that are lent with marks of what is in them. In order: an empty list; what a mark says; one symbol more; what
+-- Lists that are lent with what was seen. In order: an empty list; what was seen; one symbol more; what
 -- becomes of a list, step by step.
 -- Assumes nothing.
 use Prim.Native.Nat.{ℕ, _<_, _≤_}
@@ -13,7 +13,7 @@ use lib.Seq.{getD-set-same, getD-set-other}
 use borrow.Author.Tests.{eq-eqb, ne-eqb, eqb-true, eqb-false}
 use Rattle.model.specs.Lists.{isIn}
 use Rattle.model.specs.Gate.{Graph}
-use Rattle.laws.proofs.Members.{in-isIn, in-right}
+use Rattle.laws.proofs.Members.{in-isIn, in-right, isIn-last}
 use Rattle.graph.specs.Graph.{graphOf}
 use Rattle.outsiders.specs.Outsiders.{Held}
 use Rattle.outsiders.proofs.Lists.{held-room, held-more}
@@ -29,11 +29,11 @@ pub lent-empty : (n : ℕ) (seen list : List ℕ) → length seen ≡ 512 → se
 unfolding isIn
 lent-empty n seen list l e long = record {
   held = held-empty n list long;
-  marks-long = l;
-  marks = λ s lt. rw (e, getD-replicate {A = ℕ} 512 s 0 0 lt);
+  seen-long = l;
+  known = λ s lt. rw (e, getD-replicate {A = ℕ} 512 s 0 0 lt);
 }
 
--- ---- what a mark says
+-- ---- what was seen
 
 module _ (n : ℕ) (seen list : List ℕ) (k : ℕ) (h : Lent n seen list k) (s : ℕ) (few : s < 512) where
   flip : (a b : Bool) → a ≡ not b → b ≡ not a
@@ -42,18 +42,13 @@ module _ (n : ℕ) (seen list : List ℕ) (k : ℕ) (h : Lent n seen list k) (s 
   flip false true e = refl
   flip false false e = e
 
-  pub mark-fresh : getD seen s 0 ≡ 0 → isIn s (take k list) ≡ false
-  mark-fresh e = flip _ _ (h .marks s few) ∙ ap not (eq-eqb (getD seen s 0) 0 e)
+  pub unseen : getD seen s 0 ≡ 0 → isIn s (take k list) ≡ false
+  unseen e = flip _ _ (h .known s few) ∙ ap not (eq-eqb (getD seen s 0) 0 e)
 
-  pub mark-seen : (getD seen s 0 ≡ 0 → ⊥) → isIn s (take k list) ≡ true
-  mark-seen e = flip _ _ (h .marks s few) ∙ ap not (ne-eqb (getD seen s 0) 0 e)
+  pub seen-in : (getD seen s 0 ≡ 0 → ⊥) → isIn s (take k list) ≡ true
+  seen-in e = flip _ _ (h .known s few) ∙ ap not (ne-eqb (getD seen s 0) 0 e)
 
 -- ---- one symbol more
-
-isIn-last : (xs : List ℕ) (s x : ℕ) → (x ≡ s → ⊥) → isIn x (xs ++ (s ∷ [])) ≡ isIn x xs
-unfolding isIn
-isIn-last [] s x ne = rw (ne-eqb x s ne)
-isIn-last (y ∷ xs) s x ne = rw (isIn-last xs s x ne)
 
 module _ (n : ℕ) (seen list : List ℕ) (k : ℕ) (h : Lent n seen list k) (s : ℕ) (lt : s < n) (few : n ≤ 512)
     (new : isIn s (take k list) ≡ false) where
@@ -64,22 +59,22 @@ module _ (n : ℕ) (seen list : List ℕ) (k : ℕ) (h : Lent n seen list k) (s 
       Lent n seen′ list′ r
   lent-put seen′ list′ r p long = record {
     held = held-more n list k (h .held) s lt new few list′ r long (p .one-more) (p .is);
-    marks-long = ap length (p .marked) ∙ simp length-set (h .marks-long);
-    marks = λ x l. rw (p .marked, p .is) (mark x l (eqb x s) refl);
+    seen-long = ap length (p .seen-too) ∙ simp length-set (h .seen-long);
+    known = λ x l. rw (p .seen-too, p .is) (after x l (eqb x s) refl);
   }
     where
-      mark : (x : ℕ) → x < 512 → (b : Bool) → eqb x s ≡ b →
+      after : (x : ℕ) → x < 512 → (b : Bool) → eqb x s ≡ b →
           eqb (getD (set seen s 1) x 0) 0 ≡ not (isIn x (take k list ++ (s ∷ [])))
-      mark x l true e =
+      after x l true e =
           let q : x ≡ s = eqb-true x s e in
           rw (
             q,
-            getD-set-same seen s 1 0 (omega (arith, h .marks-long)),
+            getD-set-same seen s 1 0 (omega (arith, h .seen-long)),
             in-isIn s (take k list ++ (s ∷ [])) (in-right s (take k list) (s ∷ []) (inl refl)),
           )
-      mark x l false e =
+      after x l false e =
           let ne : x ≡ s → ⊥ = eqb-false x s e in
-          rw (getD-set-other seen s x 1 0 ne, isIn-last (take k list) s x ne) (h .marks x l)
+          rw (getD-set-other seen s x 1 0 ne, isIn-last (take k list) s x ne) (h .known x l)
 
 -- ---- what becomes of a list
 

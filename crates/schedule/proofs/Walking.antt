@@ -25,7 +25,7 @@ use Rattle.outsiders.proofs.Lists.{every-at}
 use Rattle.schedule.specs.Schedule.{orderOf, passed, stops, nearOf, stepOf, Lent, Put, Walked, Scheduled}
 use Rattle.schedule.proofs.Neighbours.{near-low, step-passed, step-visit, step-seen, visit-after, steps-fresh}
 use Rattle.schedule.proofs.Neighbours.{near-end, near-rel}
-use Rattle.schedule.proofs.Lending.{mark-fresh, mark-seen, lent-put, walked-none, walked-then, walked-as}
+use Rattle.schedule.proofs.Lending.{unseen, seen-in, lent-put, walked-none, walked-then, walked-as}
 
 module _ (bs ws : List ℕ) (n m : ℕ) (arena : Arena bs ws n m) (b : Bool) (cs : ℕ) where
   abbrev low : (slots : List ℕ) (s : ℕ) → Under s (symOf (graphOf bs ws n m slots) s .kids)
@@ -45,7 +45,7 @@ module _ (bs ws : List ℕ) (n m : ℕ) (arena : Arena bs ws n m) (b : Bool) (cs
         let g = graphOf bs ws n m slots in
         go g (passed g b cs s) refl
         (λ e. step-seen g (low slots) b cs s (take k list) e
-        (mark-seen n seen list k h s (omega (arith, arena .scoped .few)) ne));
+        (seen-in n seen list k h s (omega (arith, arena .scoped .few)) ne));
   }
     where
       go : (g : Graph) (p : Bool) → passed g b cs s ≡ p →
@@ -70,7 +70,7 @@ module _ (bs ws : List ℕ) (n m : ℕ) (arena : Arena bs ws n m) (b : Bool) (cs
           let g = graphOf bs ws n m [] in
           ap (isIn s) (near .is [])
           ∙ steps-fresh g b cs s (nearOf g b cs s) (take k list) (near-low g (low []) cs b s)
-          (mark-fresh n seen list k h s (omega (arith, arena .scoped .few)) z)
+          (unseen n seen list k h s (omega (arith, arena .scoped .few)) z)
 
       pub visit-new : (seen₂ list₂ : List ℕ) (k₂ : ℕ) → Put seen₁ list₁ k₁ s seen₂ list₂ k₂ → length list₂ ≡ 512 →
           Step seen₂ list₂ k₂
@@ -80,7 +80,7 @@ module _ (bs ws : List ℕ) (n m : ℕ) (arena : Arena bs ws n m) (b : Bool) (cs
             let g = graphOf bs ws n m slots in
             q .is ∙ (ap (λ (l : List ℕ). l ++ (s ∷ [])) (near .is slots)
             ∙ (visit-after g (low slots) b cs s (take k list)
-            (mark-fresh n seen list k h s (omega (arith, arena .scoped .few)) z)
+            (unseen n seen list k h s (omega (arith, arena .scoped .few)) z)
             ∙ step-visit g cs b s (take k list) (sym (test bs slots) ∙ e)));
       }
 

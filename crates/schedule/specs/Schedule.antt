@@ -48,18 +48,18 @@ needsOf g cs s = elim (relOf g s cs) [ local ↦ localDepOrder (symOf g s) | dee
 
 -- ---- lists that are lent
 
--- the symbols in the list are those that are marked as seen
+-- the symbols in the list are those that were seen
 pub record Lent (n : ℕ) (seen list : List ℕ) (k : ℕ) : Type 0 where
   pub held : Held n list k
-  pub marks-long : length seen ≡ 512
-  pub marks : (s : ℕ) → s < 512 → eqb (getD seen s 0) 0 ≡ not (isIn s (take k list))
+  pub seen-long : length seen ≡ 512
+  pub known : (s : ℕ) → s < 512 → eqb (getD seen s 0) 0 ≡ not (isIn s (take k list))
 
 -- ---- what the functions give
 
--- s is put at the end, and marked
+-- s is put at the end, and is seen
 pub record Put (seen list : List ℕ) (k s : ℕ) (seen′ list′ : List ℕ) (r : ℕ) : Type 0 where
   pub one-more : r ≡ k + 1
-  pub marked : seen′ ≡ set seen s 1
+  pub seen-too : seen′ ≡ set seen s 1
   pub is : take r list′ ≡ take k list ++ (s ∷ [])
 
 -- the list has become what f makes of it

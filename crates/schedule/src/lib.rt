@@ -69,7 +69,7 @@ pub fn zeros16() -> [u16; 512]
     [0u16; 512]
 }
 
-// Symbol s after the n that stand in the list, and marked as seen.
+// Symbol s after the n that stand in the list, and seen.
 fn put(seen: &mut [u8], list: &mut [u16], n: usize, s: usize) -> usize
     requires { ⌜ (n < 512) × (s < 512) × (length (now seen) ≡ 512) × (length (now list) ≡ 512) ⌝ }
     ensures { λ r. ⌜ Put (now (seen .entry)) (now (list .entry)) n s (now (seen .exit)) (now (list .exit)) r ⌝ }

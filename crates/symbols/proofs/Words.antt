@@ -1,13 +1,15 @@
--- Laws of `wordsFrom`: its length, its elements, one word more, the words that it hangs on, a stored run; a copy.
+-- Laws of `wordsFrom`: its length, its elements, a bound of them, one word more, the words that it hangs on, a stored run; a copy.
 -- Assumes nothing.
 use Prim.Native.Nat.{ℕ, zero, suc, _+_, _<_, _≤_}
 use mathlib.Core.Path.{_≡_, refl, ap, _∙_}
+use mathlib.Core.Logic.{inl, inr}
 use mathlib.Core.List.{List, [], _∷_, _++_}
 use native.Mathlib.Omega.{arith}
 use native.Mathlib.Numerals.{add-one}
 use lib.ListN.{length, getD, set}
 use lib.Seq.{sets, ext-getD}
 use Rattle.laws.specs.Frame.{Agree}
+use Rattle.laws.proofs.Falls.{Under}
 use Rattle.laws.proofs.Runs.{sets-run, sets-after, sets-more}
 use Rattle.symbols.specs.Words.{wordsFrom}
 
@@ -22,6 +24,20 @@ words-at ws at zero j lt = absurd (omega arith)
 words-at ws at (suc n) zero lt = let e : at + 0 ≡ at = omega arith in rw e
 words-at ws at (suc n) (suc j) lt =
     let e : suc at + j ≡ at + suc j = omega arith in words-at ws (suc at) n j (omega arith) ∙ rw e
+
+-- words that are below a bound, as a list
+pub words-under : (ws : List ℕ) (at n m : ℕ) → ((k : ℕ) → k < n → getD ws (at + k) 0 < m) →
+    Under m (wordsFrom ws at n)
+unfolding wordsFrom
+words-under ws at zero m h a i = absurd i
+words-under ws at (suc n) m h a (inl e) =
+    let z : at + 0 ≡ at = omega arith in
+    let l : getD ws at 0 < m = rw z at (h 0 (omega arith)) in
+    omega arith
+words-under ws at (suc n) m h a (inr i) = words-under ws (suc at) n m rest a i
+  where
+    rest : (k : ℕ) → k < n → getD ws (suc at + k) 0 < m
+    rest k l = let e : suc at + k ≡ at + suc k = omega arith in rw e (h (suc k) (omega arith))
 
 pub words-more : (ws : List ℕ) (at n : ℕ) → wordsFrom ws at (suc n) ≡ wordsFrom ws at n ++ (getD ws (at + n) 0 ∷ [])
 unfolding wordsFrom

@@ -7,7 +7,6 @@ use shape::VAL_DEF;
 use shape::VAL_DEF_OP;
 use shape::VAL_USE;
 use shape::VAL_USE_OP;
-ghost use mathlib.Core.Path.{_≡_};
 ghost use mathlib.Core.List.{[]};
 ghost use Prim.Native.Nat.{_+_, _<_, _≤_};
 ghost use lib.ListN.{length};

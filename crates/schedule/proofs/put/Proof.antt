@@ -12,7 +12,7 @@ returns c =
     let a = c .args in
     record {
       one-more = refl;
-      marked = refl;
+      seen-too = refl;
       is = take-put (now (a .list)) (a .n) (a .s) (omega (arith, c .pre .0, c .pre .3));
     }
 

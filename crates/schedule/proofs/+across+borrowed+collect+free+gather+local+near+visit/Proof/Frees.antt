@@ -38,7 +38,7 @@ free-put-requires t c κs =
     let fresh = body-fresh _ _ _ _ (p .1 .0) _ (p .1 .1 .0) _ (ap scopeIn
     (c .before .before .before .before .before .before .before .before .load .ensures)) _ _ _ _ w in
     let room = put-room _ _ _ _ (w .lent) _ (p .1 .1 .0) (p .1 .0 .scoped .few) fresh in
-    (room, omega (arith, p .1 .1 .0, p .1 .0 .scoped .few), w .lent .marks-long, w .lent .held .long)
+    (room, omega (arith, p .1 .1 .0, p .1 .0 .scoped .few), w .lent .seen-long, w .lent .held .long)
 
 pub free-collect-requires : (t : ℕ) → free-lts.Need-collect-requires (measures.free-calls t) (measures.free-at t)
     free.Post

@@ -45,7 +45,7 @@ visit-slice-read-if2 t c =
       arith,
       p .1 .0 .scoped .few,
       p .1 .1 .0,
-      p .1 .1 .1 .marks-long,
+      p .1 .1 .1 .seen-long,
     )
 
 pub visit-returns-2 : (t : ℕ) → visit-lts.Need-returns-2 (measures.visit-calls t) (measures.visit-at t) visit.Post
@@ -70,7 +70,7 @@ visit-put-requires t c κs =
     (c5 .before .before .before .before .before .before .if1 .left) (c5 .before .before .before .before .if2 .left) _ _
     _ w in
     let room = put-room _ _ _ _ (w .lent) _ (p .1 .1 .0) (p .1 .0 .scoped .few) fresh in
-    (room, omega (arith, p .1 .1 .0, p .1 .0 .scoped .few), w .lent .marks-long, w .lent .held .long)
+    (room, omega (arith, p .1 .1 .0, p .1 .0 .scoped .few), w .lent .seen-long, w .lent .held .long)
 
 pub visit-same-length : (t : ℕ) → visit-lts.Need-same-length (measures.visit-calls t) (measures.visit-at t) visit.Post
 visit-same-length t c =
@@ -234,7 +234,7 @@ local-slice-read-if1 t c =
     let l = c .before .before .before in
     let p = l .before .before .before .before .before .before .before .before .pre .1 in
     let lower = local-lower t (c .before .before) in
-    omega (arith, lower, p .1 .1 .0, p .1 .0 .scoped .few, l .loop .inv .3 .lent .marks-long)
+    omega (arith, lower, p .1 .1 .0, p .1 .0 .scoped .few, l .loop .inv .3 .lent .seen-long)
 
 pub local-visit-requires : (t : ℕ) → local-lts.Need-visit-requires
     (measures.local-calls t) (measures.local-at t) local.Post measures.local-Inv-loop measures.local-μ-loop
