@@ -1,21 +1,22 @@
--- Bindings in words, two to an entry, from word 8,456 on. In order: an entry; the entries as an environment; a lambda's
+-- Bindings in words, two to an entry, from BINDINGS on. In order: an entry; the entries as an environment; a lambda's
 -- arguments. Assumes nothing.
-use Prim.Native.Nat.{ℕ, zero, suc, _+_, _*_}
+use Prim.Native.Nat.{ℕ, _+_, _*_}
 use mathlib.Core.List.{List, [], _∷_}
 use lib.ListN.{length, getD, set}
 use Rattle.model.specs.Intern.{Env}
+use Rattle.laws.specs.Stack.{stackOf}
+use Rattle.regions.specs.Regions.{BINDINGS}
 
 -- id and symbol of entry k
 abbrev pub entryAt : List ℕ → ℕ → ℕ × ℕ
-entryAt ws k = (getD ws (8456 + 2 * k) 0, getD ws (8456 + 2 * k + 1) 0)
+entryAt ws k = (getD ws (BINDINGS .first + 2 * k) 0, getD ws (BINDINGS .first + 2 * k + 1) 0)
 
 abbrev pub bound : List ℕ → ℕ → ℕ → ℕ → List ℕ
-bound ws k id symbol = set (set ws (8456 + 2 * k) id) (8456 + 2 * k + 1) symbol
+bound ws k id symbol = set (set ws (BINDINGS .first + 2 * k) id) (BINDINGS .first + 2 * k + 1) symbol
 
 -- the first n entries, the newest first
 unfoldable pub envOf : List ℕ → ℕ → Env
-envOf ws zero = []
-envOf ws (suc n) = entryAt ws n ∷ envOf ws n
+envOf ws n = stackOf (entryAt ws) n
 
 -- a lambda's arguments as bindings, the first argument first
 abbrev pub pairsOf : List (ℕ × List ℕ) → List ℕ → Env

@@ -1,20 +1,15 @@
 -- What binding a lambda's arguments, or a definition, makes of the work words.
--- In order: what is kept; a lambda's arguments; a definition. Assumes nothing.
-use Prim.Native.Nat.{ℕ, _+_, _*_, _<_, _≤_}
+-- In order: a lambda's arguments; a definition. Assumes nothing.
+use Prim.Native.Nat.{ℕ, _+_, _*_, _≤_}
 use mathlib.Core.Path.{_≡_}
 use mathlib.Core.List.{List}
-use lib.ListN.{length, getD}
 use Rattle.model.specs.Binding.{argsOf}
 use Rattle.model.specs.Intern.{bindArgs, bindDef}
 use Rattle.laws.specs.Range.{range}
+use Rattle.laws.specs.Frame.{Frame}
 use Rattle.walk.specs.Walk.{recAt, treeAt}
+use Rattle.regions.specs.Regions.{BINDINGS}
 use Rattle.bindings.specs.Bindings.{envOf}
-
--- no word changed but those of the entries from top to r
-pub record Beside (top r : ℕ) (ws ws′ : List ℕ) : Type 0 where
-  pub low : (k : ℕ) → k < 8456 + 2 * top → getD ws′ k 0 ≡ getD ws k 0
-  pub high : (k : ℕ) → 8456 + 2 * r ≤ k → getD ws′ k 0 ≡ getD ws k 0
-  pub size : length ws′ ≡ length ws
 
 -- lambda i's arguments were bound to the symbols from `first` on, above top entries, and now there are r
 pub record ArgsBound (bs : List ℕ) (i top first : ℕ) (ws ws′ : List ℕ) (r : ℕ) : Type 0 where
@@ -22,11 +17,11 @@ pub record ArgsBound (bs : List ℕ) (i top first : ℕ) (ws ws′ : List ℕ) (
   pub most : r ≤ top + 15
   pub env : envOf ws′ r ≡ bindArgs (argsOf (recAt bs i .aux) (recAt bs i .lit)) (range first (recAt bs i .aux))
       (envOf ws top)
-  pub kept : Beside top r ws ws′
+  pub kept : Frame (BINDINGS .first + 2 * top) (BINDINGS .first + 2 * r) ws ws′
 
 -- what record i's subtree binds in its later siblings was bound to its symbol, above top entries, and now there are r
 pub record DefBound (bs : List ℕ) (i top symbol : ℕ) (ws ws′ : List ℕ) (r : ℕ) : Type 0 where
   pub least : top ≤ r
   pub most : r ≤ top + 1
   pub env : envOf ws′ r ≡ bindDef (treeAt bs i) symbol (envOf ws top)
-  pub kept : Beside top r ws ws′
+  pub kept : Frame (BINDINGS .first + 2 * top) (BINDINGS .first + 2 * r) ws ws′

@@ -11,13 +11,13 @@ ghost use Rattle.model.specs.Intern.{resolve};
 ghost use Rattle.laws.specs.Range.{range};
 ghost use Rattle.shape.specs.Args.{Left};
 ghost use Rattle.walk.specs.Walk.{recAt, Sound};
-ghost use Rattle.regions.specs.Regions.{WORDS};
+ghost use Rattle.regions.specs.Regions.{WORDS, BINDINGS};
 ghost use Rattle.bindings.specs.Bindings.{envOf, bound, pairsOf, boundAll};
 ghost use Rattle.bindings.specs.Made.{ArgsBound, DefBound};
 
 // The symbol of an id among the first n entries, by the newest that has it. Rules out: by the oldest; the id itself.
 pub fn resolve(work: &[u32], n: usize, id: u32) -> u32
-    requires { ⌜ 8456 + 2 * n ≤ length (now work) ⌝ }
+    requires { ⌜ (2 * n ≤ BINDINGS .size) × (WORDS ≤ length (now work)) ⌝ }
     ensures { λ r. ⌜ r ≡ resolve (envOf (now (work .entry)) n) id ⌝ }
 {
     let mut k = n;
@@ -33,7 +33,7 @@ pub fn resolve(work: &[u32], n: usize, id: u32) -> u32
 // An id and its symbol become entry k.
 // Rules out: the symbol under the next id; a word changed beside the entry's two.
 pub fn bind(work: &mut [u32], k: usize, id: u32, symbol: u32)
-    requires { ⌜ 8456 + 2 * k + 1 < length (now work) ⌝ }
+    requires { ⌜ BINDINGS .first + 2 * k + 1 < length (now work) ⌝ }
     ensures { λ _. ⌜ now (work .exit) ≡ bound (now (work .entry)) k id symbol ⌝ }
 {
     work[BINDINGS + 2 * k] = id;

@@ -7,12 +7,13 @@ use mathlib.Core.Bool.{Bool, not, _&&_, _||_}
 use mathlib.Core.Option.{none}
 use mathlib.Core.List.{List}
 use lib.Dec.{eqb, ltb}
-use lib.ListN.{drop}
 use Rattle.model.specs.Answer.{Answer, refused, good}
 use Rattle.model.specs.Tree.{Trees}
 use Rattle.model.specs.Forest.{treesOf, check5}
 use Rattle.model.specs.Accept.{accept}
+use Rattle.laws.specs.Frame.{Frame}
 use Rattle.walk.specs.Walk.{Sound}
+use Rattle.regions.specs.Regions.{IDS, end}
 use Rattle.codec.specs.declared.Verdict.{Verdict}
 use Rattle.codec.specs.declared.Verdict.the-variants.{Accepted, Refused}
 
@@ -35,7 +36,7 @@ abbrev pub Layout : List ℕ → Verdict → Type 0
 Layout bs Accepted = Shaped bs
 Layout bs (Refused n p) = refused n p ≡ accept bs
 
--- the answer of all checks, and the words from 3,840 on as they were
+-- the answer of all checks, and no word changed but those of IDS
 pub record Answered (bs ws ws′ : List ℕ) (r : Verdict) : Type 0 where
   pub is : answerOf r (treesOf bs) ≡ accept bs
-  pub kept : drop 3840 ws′ ≡ drop 3840 ws
+  pub kept : Frame (IDS .first) (end IDS) ws ws′

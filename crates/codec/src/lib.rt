@@ -9,6 +9,7 @@ ghost use Rattle.model.specs.Forest as model;
 ghost use Rattle.model.specs.Shape as table;
 ghost use Rattle.record.specs.Record.{Laid, rowAt};
 ghost use Rattle.walk.specs.Walk.{placeOf};
+ghost use Rattle.regions.specs.Regions.{IDS, end};
 ghost use Rattle.codec.specs.Codec.{badPair, Layout, Shaped, Answered};
 
 // What the checks say of a forest: accepted, or the number of the first check that fails and its place.
@@ -196,7 +197,7 @@ fn layout(forest: &[u8]) -> Verdict
 // Rules out: 9 where 8 fails in a later record; a place of another check.
 fn fault(forest: &[u8], work: &mut [u32]) -> Verdict
     requires { ⌜ Shaped (now forest) ⌝ }
-    requires { ⌜ 3840 ≤ length (now work) ⌝ }
+    requires { ⌜ end IDS ≤ length (now work) ⌝ }
     ensures { λ r. ⌜ Answered (now (forest .entry)) (now (work .entry)) (now (work .exit)) r ⌝ }
 {
     match walk::trees(forest, work, 7) {
@@ -221,7 +222,7 @@ fn fault(forest: &[u8], work: &mut [u32]) -> Verdict
 // no other is needed. Rules out: accepted where 10 alone fails; 10 where it fails in a record before one that fails 7.
 fn bindings(forest: &[u8], work: &mut [u32]) -> Verdict
     requires { ⌜ Shaped (now forest) ⌝ }
-    requires { ⌜ 3840 ≤ length (now work) ⌝ }
+    requires { ⌜ end IDS ≤ length (now work) ⌝ }
     ensures { λ r. ⌜ Answered (now (forest .entry)) (now (work .entry)) (now (work .exit)) r ⌝ }
 {
     match walk::trees(forest, work, walk::ANY) {
@@ -230,11 +231,11 @@ fn bindings(forest: &[u8], work: &mut [u32]) -> Verdict
     }
 }
 
-// Checks 2 to 10, "in that order, each over the whole forest before the next". The work memory's first 3,840 words
+// Checks 2 to 10, "in that order, each over the whole forest before the next". The words of IDS
 // held the ids in force and may hold anything; the others are as they were.
 // Rules out: 9 where 8 fails in a later record; accepted where a definition's value uses it.
 pub fn check(forest: &[u8], work: &mut [u32]) -> Verdict
-    requires { ⌜ 3840 ≤ length (now work) ⌝ }
+    requires { ⌜ end IDS ≤ length (now work) ⌝ }
     ensures { λ r. ⌜ Answered (now (forest .entry)) (now (work .entry)) (now (work .exit)) r ⌝ }
 {
     match layout(forest) {

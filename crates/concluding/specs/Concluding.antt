@@ -92,4 +92,5 @@ pub record Selects (bs ws : List ℕ) (st : State) (i cur held : ℕ) : Type 0 w
 pub record Uses (bs ws : List ℕ) (i top : ℕ) : Type 0 where
   pub from : i < recordCount bs
   pub shape : rowAt bs i .rec .shape ≡ 7
-  pub words : BINDINGS .first + 2 * top ≤ length ws
+  pub few : 2 * top ≤ BINDINGS .size
+  pub words : WORDS ≤ length ws

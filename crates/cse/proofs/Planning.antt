@@ -12,7 +12,7 @@ use Rattle.laws.specs.Frame.{Agree}
 use Rattle.symbols.specs.Symbols.{symsOf}
 use Rattle.symbols.proofs.Laws.{syms-agree}
 use Rattle.scopes.specs.Scopes.{scopesOf}
-use Rattle.scopes.proofs.Open.{scopes-kept}
+use Rattle.scopes.proofs.Open.{scopes-agree}
 use Rattle.interner.specs.declared.State.{State}
 use Rattle.tables.specs.Tables.{first}
 use Rattle.interner.specs.State.{absOf, Rep}
@@ -37,7 +37,8 @@ module _ (bs ws : List ℕ) (st : State) (rep : Rep bs ws st) (root : ℕ) (ws�
 
   scopes-same : scopesOf ws₁ (st .scopes) ≡ scopesOf ws (st .scopes)
   scopes-same =
-      scopes-kept ws₁ ws (st .scopes) (λ k l. counted-same (5120 + k) (omega arith) (omega (arith, rep .arena .scoped .few-scopes)))
+      scopes-agree ws ws₁ (st .scopes)
+      (λ k l r. counted-same k (omega arith) (omega (arith, rep .arena .scoped .few-scopes)))
 
   -- how many symbols and scopes there are
   abbrev graph : Graph

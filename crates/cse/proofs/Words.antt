@@ -1,6 +1,6 @@
 -- Work words. In order: words cleared from the start on, and what the call leaves; words kept from some place on.
 -- Assumes nothing.
-use Prim.Native.Nat.{ℕ, zero, suc, _+_, _-_, _<_, _≤_}
+use Prim.Native.Nat.{ℕ, zero, suc, _+_, _<_, _≤_}
 use mathlib.Core.Path.{_≡_, refl, sym, ap, _∙_}
 use mathlib.Core.Bool.{Bool, true, false}
 use mathlib.Core.List.{List, [], _∷_, _++_}
@@ -62,8 +62,3 @@ pub drop-kept : (n : ℕ) (ws ws′ : List ℕ) → length ws′ ≡ length ws �
 drop-kept n ws ws′ l h =
     ext-getD 0 (drop n ws′) (drop n ws) (simp length-drop (omega arith))
     (λ i _. getD-drop n ws′ i 0 ∙ h (n + i) (omega arith) ∙ sym (getD-drop n ws i 0))
-
-pub kept-drop : (n : ℕ) (ws ws′ : List ℕ) → drop n ws′ ≡ drop n ws → (k : ℕ) → n ≤ k → getD ws′ k 0 ≡ getD ws k 0
-kept-drop n ws ws′ e k h =
-    let at : k ≡ n + (k - n) = omega arith in
-    rw at (sym (getD-drop n ws′ (k - n) 0) ∙ ap (λ (l : List ℕ). getD l (k - n) 0) e ∙ getD-drop n ws (k - n) 0)

@@ -29,7 +29,7 @@ use Rattle.symbols.proofs.Laws.{syms-length, sym-at, kids-at, sounds-agree}
 use Rattle.scopes.specs.declared.Rel.{Rel}
 use Rattle.scopes.specs.Scopes.{Nested, scopeWord}
 use Rattle.scopes.specs.Relation.{relIn, Classified}
-use Rattle.scopes.proofs.Open.{nested-kept}
+use Rattle.scopes.proofs.Open.{nested-agree}
 use Rattle.graph.specs.Graph.{Within, Scoped, Arena, graphOf, Related, Tests, isOutsider}
 
 -- ---- a symbol's parts
@@ -69,9 +69,6 @@ within-sound bs ws used n within sound i lt =
 module _ (bs ws ws′ : List ℕ) (used n m : ℕ) (long : length ws′ ≡ length ws) (own : Agree ws ws′ 0 (5 * n))
     (slots : Agree ws ws′ (SLOTS .first) (SLOTS .first + used))
     (scopes : Agree ws ws′ (SCOPES .first) (SCOPES .first + m)) where
-  pub scope-agree : (c : ℕ) → c < m → scopeWord ws′ c ≡ scopeWord ws c
-  scope-agree c lt = scopes (SCOPES .first + c) (omega arith) (omega arith)
-
   pub node-agree : (s : ℕ) → s < n → symbolAt ws′ s ≡ symbolAt ws s
   node-agree s lt = symbol-agree ws ws′ s (λ k l r. own k (omega arith) (omega arith))
 
@@ -81,7 +78,7 @@ module _ (bs ws ws′ : List ℕ) (used n m : ℕ) (long : length ws′ ≡ leng
     words = omega (arith, h .words);
     some-scope = h .some-scope;
     few-scopes = h .few-scopes;
-    nested = nested-kept ws′ ws m (h .some-scope) scope-agree (h .nested);
+    nested = nested-agree ws ws′ m (h .some-scope) scopes (h .nested);
     placed = λ s lt. rw (node-agree s lt) (h .placed s lt);
   }
 

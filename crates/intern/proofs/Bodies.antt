@@ -42,7 +42,7 @@ use Rattle.intern.specs.declared.Here.{Here}
 use Rattle.intern.specs.declared.Entered.{Entered}
 use Rattle.intern.specs.Words.{Words, Kept}
 use Rattle.intern.specs.Intern.{Stands, Counted, argsMade, Body, Enters}
-use Rattle.intern.proofs.Kept.{words-then, scope-words, leaves-kept, later-rep, later-abs, beside-frame, beside-words}
+use Rattle.intern.proofs.Kept.{words-then, scope-words, leaves-kept, later-rep, later-abs, beside-words}
 
 -- ---- no arguments, from whatever symbol on
 
@@ -199,7 +199,7 @@ module _ (bs ws : List ℕ) (t : Tables) (st : State) (i : ℕ) (at : Here) (sou
           }
 
           binds : Frame (BINDINGS .first + 2 * at .top) (BINDINGS .first + 2 * top′) ws₂ ws₃
-          binds = beside-frame (bound .kept)
+          binds = bound .kept
 
           words₃ : Words (st .scopes) (at .held) (at .top) ws₂ ws₃
           words₃ =

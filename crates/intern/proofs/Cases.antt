@@ -300,7 +300,8 @@ module _ (bs ws : List ℕ) (t : Tables) (st : State) (i : ℕ) (at : Here) (sou
       record-uses e = record {
         from = lt;
         shape = e;
-        words = omega (arith, stands .top, stands .rep .arena .scoped .words, lt, records-few bs sound);
+        few = omega (arith, stands .top, lt, records-few bs sound);
+        words = stands .rep .arena .scoped .words;
       }
 
       use-kids : recAt bs i .shape ≡ 7 → rowAt bs i .kids ≡ 0

@@ -16,7 +16,7 @@ use Rattle.walk.specs.Walk.{treeAt}
 use Rattle.symbols.specs.Words.{pendingFrom}
 use Rattle.symbols.proofs.Words.{words-more, words-agree}
 use Rattle.bindings.specs.Bindings.{envOf}
-use Rattle.bindings.specs.Made.{Beside, DefBound}
+use Rattle.bindings.specs.Made.{DefBound}
 use Rattle.bindings.proofs.Laws.{env-words}
 use Rattle.tables.specs.declared.Tables.{Tables}
 use Rattle.tables.specs.Tables.{Open}
@@ -92,10 +92,6 @@ module _ (bs ws ws′ : List ℕ) (st : State) (rep : Rep bs ws st) (lo hi : ℕ
   pub later-abs : (t : Tables) → Open t (st .entries) → absOf bs ws′ t st ≡ absOf bs ws t st
   later-abs = abs-same bs ws ws′ st rep (same-later bs ws ws′ st rep lo hi le f)
 
-pub beside-frame : {top r : ℕ} {ws ws′ : List ℕ} → Beside top r ws ws′ →
-    Frame (BINDINGS .first + 2 * top) (BINDINGS .first + 2 * r) ws ws′
-beside-frame h = record { long = h .size; before = h .low; after = h .high }
-
 -- bindings changed above `top`
 pub beside-words : (n held : ℕ) {top r : ℕ} {ws ws′ : List ℕ} → n ≤ 2049 → held ≤ PENDING .size → r ≤ 1200 →
     Frame (BINDINGS .first + 2 * top) (BINDINGS .first + 2 * r) ws ws′ → Words n held top ws ws′
@@ -133,7 +129,7 @@ module _ (bs ws : List ℕ) (t : Tables) (st : State) (i held top symbol : ℕ) 
       (frame-wider (PENDING .first + held) (end PENDING) (PENDING .first) (end BINDINGS) ws ws₁ first (omega arith)
       (omega arith))
       (frame-wider (BINDINGS .first + 2 * top) (BINDINGS .first + 2 * top′) (PENDING .first) (end BINDINGS) ws₁ ws′
-      (beside-frame (d .kept)) (omega arith) (omega (arith, d .most)))
+      (d .kept) (omega arith) (omega (arith, d .most)))
 
   stored-env : envOf ws′ top′ ≡ bindDef (treeAt bs i) symbol (envOf ws top)
   stored-env =
@@ -148,11 +144,11 @@ module _ (bs ws : List ℕ) (t : Tables) (st : State) (i held top symbol : ℕ) 
     scopes = λ k l r. first .before k (omega arith);
     pending = λ k l r. first .before k r;
     bound = λ k l r. first .after k l;
-  }) (beside-words n held few (omega arith) (omega (arith, d .most)) (beside-frame (d .kept)))
+  }) (beside-words n held few (omega arith) (omega (arith, d .most)) (d .kept))
 
   stored-at : getD ws′ (PENDING .first + held) 0 ≡ symbol
   stored-at =
-      beside-frame (d .kept) .before (PENDING .first + held) (omega arith)
+      d .kept .before (PENDING .first + held) (omega arith)
       ∙ getD-set-same ws (PENDING .first + held) symbol 0 (omega (arith, rep .arena .scoped .words))
 
   stored-pending : (from j : ℕ) → from + j ≡ held →

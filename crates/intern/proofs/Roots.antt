@@ -22,6 +22,7 @@ use Rattle.laws.specs.Frame.{Frame}
 use Rattle.laws.proofs.Frame.{frame-then, frame-wider}
 use Rattle.laws.proofs.Clear.{Clear, clear-left, clear-right, first-clear}
 use Rattle.laws.proofs.Header.{header-of}
+use Rattle.laws.specs.Stack.{stackOf}
 use Rattle.walk.specs.Walk.{Sound}
 use Rattle.walk.proofs.Bridge.{tree-count}
 use Rattle.walk.proofs.Walking.{trees-there, trees-whole}
@@ -90,7 +91,7 @@ module _ (bs ws : List ℕ) (accepted : accept bs ≡ good (treesOf bs)) where
     rep = started .rep bs
 
     no-ids : envOf ws₁ 0 ≡ []
-    unfolding envOf
+    unfolding envOf stackOf
     no-ids = refl
 
     shallow : depths (trees bs 0 count) ≤ 64

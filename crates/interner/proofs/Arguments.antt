@@ -33,7 +33,7 @@ use Rattle.symbols.proofs.Laws.{syms-length}
 use Rattle.tables.specs.declared.Tables.{Tables}
 use Rattle.tables.specs.Tables.{Open}
 use Rattle.tables.proofs.Stack.{open-later}
-use Rattle.levels.specs.Levels.{has}
+use Rattle.scopes.specs.Levels.{has}
 use Rattle.scopes.specs.Scopes.{scopeWord, levelOf, scopesOf, outward}
 use Rattle.scopes.proofs.Laws.{scopes-length, scope-level, scope-args}
 use Rattle.scopes.proofs.Tracks.{Below, outward-below, EachArgs, tracks-apart}

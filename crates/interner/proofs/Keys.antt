@@ -15,6 +15,7 @@ use Rattle.model.specs.Lists.{without}
 use Rattle.model.specs.Intern.{Sym, isKey, lookupIn, lookup, unionDeps, alloc, finish}
 use Rattle.model.specs.Intern as intern
 use Rattle.laws.proofs.Apart.{none-some}
+use Rattle.laws.specs.Stack.{stackOf}
 use Rattle.key.specs.declared.Node.{Node}
 use Rattle.key.specs.declared.Node.the-variants.{Const, Unparsed, Arg, Lambda, Op}
 use Rattle.key.specs.declared.Parts.{Parts}
@@ -65,7 +66,7 @@ module _ (ss : List Sym) (r : Rec) (ks : List ℕ) (n : ℕ) where
 
 module _ (ws : List ℕ) (top n : ℕ) (below : Below ws top n) where
   entries-low : (start k : ℕ) → k ≤ top - start → EachBelow n (entries ws start k)
-  unfolding entries
+  unfolding entries stackOf
   entries-low start zero le = tt
   entries-low start (suc k) le = (below (start + k) (omega arith), entries-low start k (omega arith))
 

@@ -18,7 +18,7 @@ use Rattle.key.specs.declared.Symbol.{Symbol}
 use Rattle.key.specs.Key.{symbolAt}
 use Rattle.symbols.specs.Words.{wordsFrom}
 use Rattle.symbols.proofs.Words.{words-more}
-use Rattle.levels.specs.Levels.{has}
+use Rattle.scopes.specs.Levels.{has}
 use Rattle.interner.specs.Levels.{anyHas}
 
 -- ---- the words that they hang on: those of the symbols

@@ -20,6 +20,7 @@ use Rattle.laws.specs.Frame.{Frame}
 use Rattle.laws.specs.Members.{In, Every, Once}
 use Rattle.laws.proofs.Frame.{frame-wider, frame-store}
 use Rattle.laws.proofs.Members.{isIn-true, in-one, without-cases}
+use Rattle.laws.specs.Stack.{stackOf}
 use Rattle.tables.specs.declared.Tables.{Tables}
 use Rattle.tables.specs.Tables.{Open}
 use Rattle.memo.specs.Memo.{memoOf, remembered, keysIn, MemoBelow}
@@ -110,7 +111,7 @@ keys-low n (m ∷ ms) h x (inl e) = omega (arith, h .0 .0)
 keys-low n (m ∷ ms) h x (inr i) = keys-low n ms (h .1) x i
 
 keys-length : (ws : List ℕ) (k : ℕ) → length (keysIn (memoOf ws k)) ≡ k
-unfolding memoOf
+unfolding memoOf stackOf
 keys-length ws zero = refl
 keys-length ws (suc k) = ap suc (keys-length ws k)
 
@@ -148,7 +149,7 @@ module _ (bs ws : List ℕ) (st : State) (p : ℕ) (rep : Rep bs ws st) (low : p
 
     memo-is : memoOf ws₁ (st .memo + 1) ≡ (p, a, b) ∷ memoOf ws (st .memo)
     memo-is =
-        memo-remembered ws (st .memo) p a b (omega (arith, rep .arena .scoped .words, rep .arena .scoped .few, memo-room))
+        memo-remembered ws (st .memo) p a b (omega (arith, rep .arena .scoped .few, memo-room)) (rep .arena .scoped .words)
         (omega (arith, low, rep .arena .scoped .few)) (omega (arith, la, rep .arena .scoped .few))
 
     pub abs-remembered : (t : Tables) → Open t (st .entries) →

@@ -23,7 +23,7 @@ use Rattle.key.specs.Key.{partsOf, symbolAt}
 use Rattle.symbols.specs.Words.{wordsFrom, pendingFrom}
 use Rattle.symbols.specs.Symbols.{symsOf, ownOf}
 use Rattle.symbols.proofs.Laws.{sym-kept}
-use Rattle.levels.specs.Levels.{has}
+use Rattle.scopes.specs.Levels.{has}
 use Rattle.scopes.specs.Scopes.{scopeWord, levelOf, argsIn, scopesOf, outward}
 use Rattle.scopes.proofs.Laws.{scope-around}
 use Rattle.interner.specs.declared.State.{State}

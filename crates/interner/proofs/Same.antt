@@ -18,11 +18,11 @@ use Rattle.tables.specs.declared.Tables.{Tables}
 use Rattle.tables.specs.Tables.{Open}
 use Rattle.tables.proofs.Stack.{tables-agree, hinted-agree}
 use Rattle.scopes.specs.Scopes.{scopeWord, levelOf, scopesOf}
-use Rattle.scopes.proofs.Open.{scopes-kept}
+use Rattle.scopes.proofs.Open.{word-agree, scopes-agree}
 use Rattle.memo.specs.Memo.{memoOf}
-use Rattle.memo.proofs.Laws.{memo-kept}
+use Rattle.memo.proofs.Laws.{memo-agree}
 use Rattle.graph.specs.Graph.{Arena}
-use Rattle.graph.proofs.Laws.{within-sound, scope-agree, node-agree, arena-agree}
+use Rattle.graph.proofs.Laws.{within-sound, node-agree, arena-agree}
 use Rattle.interner.specs.declared.State.{State}
 use Rattle.interner.specs.Levels.{depsAt, Levelled, AtLevel, ArgLevels, AllLevelled}
 use Rattle.interner.specs.State.{absOf, Slotted, Entered, Remembered, Rep}
@@ -51,9 +51,7 @@ module _ (bs ws ws′ : List ℕ) (st : State) (rep : Rep bs ws st) (same : Same
       (same .scopes)
 
   word-same : (c : ℕ) → c < st .scopes → scopeWord ws′ c ≡ scopeWord ws c
-  word-same =
-      scope-agree bs ws ws′ (st .slots) (st .symbols) (st .scopes) (same .long) (same .symbols) (same .slots)
-      (same .scopes)
+  word-same = word-agree ws ws′ (st .scopes) (same .scopes)
 
   arena-same : Arena bs ws′ (st .symbols) (st .scopes)
   arena-same =
@@ -108,7 +106,7 @@ module _ (bs ws ws′ : List ℕ) (st : State) (rep : Rep bs ws st) (same : Same
   }
 
   memos-same : memoOf ws′ (st .memo) ≡ memoOf ws (st .memo)
-  memos-same = memo-kept ws′ ws (st .memo) (λ k lt. same .memo (MEMO .first + k) (omega arith) (omega arith))
+  memos-same = memo-agree ws ws′ (st .memo) (same .memo)
 
   memo-same : Remembered ws′ (st .memo) (st .symbols)
   memo-same = record {
@@ -135,7 +133,7 @@ module _ (bs ws ws′ : List ℕ) (st : State) (rep : Rep bs ws st) (same : Same
       rw (
         syms-same,
         tables-agree ws ws′ t (st .entries) opened (same .entries),
-        scopes-kept ws′ ws (st .scopes) word-same,
+        scopes-agree ws ws′ (st .scopes) (same .scopes),
         memos-same,
       )
 

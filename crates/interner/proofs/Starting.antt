@@ -10,6 +10,7 @@ use Rattle.regions.specs.Regions.{SYMBOLS, SCOPES, PENDING, WORDS}
 use Rattle.model.specs.Intern.{start}
 use Rattle.laws.proofs.Apart.{none-some}
 use Rattle.laws.proofs.Frame.{frame-store}
+use Rattle.laws.specs.Stack.{stackOf}
 use Rattle.symbols.specs.Symbols.{symsOf}
 use Rattle.tables.specs.Tables.{first}
 use Rattle.tables.proofs.Stack.{first-open, first-tables}
@@ -34,7 +35,7 @@ module _ (ws : List ℕ) (words : WORDS ≤ length ws) where
       none-some (sym (ap argsIn w) ∙ e)
 
   rep-start : (bs : List ℕ) → Rep bs ws₁ firstState
-  unfolding symsOf memoOf
+  unfolding symsOf memoOf stackOf
   rep-start bs = record {
     arena = record {
       scoped = record {
@@ -60,7 +61,7 @@ module _ (ws : List ℕ) (words : WORDS ≤ length ws) where
   }
 
   abs-start : (bs : List ℕ) → absOf bs ws₁ first firstState ≡ start
-  unfolding start symsOf memoOf
+  unfolding start symsOf memoOf stackOf
   abs-start bs = rw (first-tables ws₁, scopes-outermost ws₁)
 
   pub started : (ws′ : List ℕ) → ws′ ≡ ws₁ → Started ws ws′ firstState

@@ -15,7 +15,7 @@ use Rattle.laws.proofs.Apart.{false-true}
 use Rattle.laws.specs.Members.{In}
 use Rattle.laws.proofs.Members.{isIn-true, anyIn-false}
 use Rattle.key.specs.Key.{symbolAt}
-use Rattle.levels.specs.Levels.{has}
+use Rattle.scopes.specs.Levels.{has}
 use Rattle.scopes.specs.Scopes.{scopeWord, parentOf, levelOf, argsIn, scopesOf, ownLevel, Nested}
 use Rattle.scopes.specs.Scopes.{outward, Tracks, lambdas}
 use Rattle.scopes.proofs.Laws.{scope-args, scope-around, scope-level, outermost-around}

@@ -15,7 +15,7 @@ use Rattle.model.specs.Intern.{Scope, scopeAt, symAt}
 use Rattle.laws.specs.Members.{In, Every}
 use Rattle.key.specs.Key.{symbolAt}
 use Rattle.symbols.specs.Symbols.{symsOf}
-use Rattle.levels.specs.Levels.{has}
+use Rattle.scopes.specs.Levels.{has}
 use Rattle.scopes.specs.Scopes.{scopeWord, levelOf, argsIn, outward}
 
 -- level j is among those of some symbol of a list

@@ -25,7 +25,7 @@ use Rattle.laws.specs.Range.{range}
 use Rattle.symbols.specs.Symbols.{symsOf, recOf, nodeOf, ownOf, depsOf}
 use Rattle.tables.specs.declared.Tables.{Tables}
 use Rattle.tables.specs.Tables.{hint, hintOf, Open}
-use Rattle.levels.specs.Levels.{has}
+use Rattle.scopes.specs.Levels.{has}
 use Rattle.scopes.specs.Scopes.{scopesOf, scopeWord, parentOf, levelOf, argsIn, outward, Tracks}
 use Rattle.interner.specs.declared.State.{State}
 use Rattle.interner.specs.declared.Step.{Step}

@@ -17,7 +17,7 @@ ghost use Prim.Native.Nat.{ℕ, _+_, _*_, _<_, _≤_};
 ghost use lib.Dec.{eqb};
 ghost use lib.ListN.{length, getD};
 ghost use Rattle.regions.specs.Regions.{SLOTS, SCOPES, PENDING, WORDS};
-ghost use Rattle.levels.specs.Levels.{has};
+ghost use Rattle.scopes.specs.Levels.{has};
 ghost use Rattle.scopes.specs.Scopes.{scopeWord, levelOf};
 ghost use Rattle.symbols.specs.Words.{pendingFrom};
 ghost use Rattle.model.specs.Intern.{pairProjection};
@@ -172,12 +172,12 @@ fn levels_of(work: &[u32], held: usize, count: usize) -> u64
     ensures { λ r.
         ⌜ ((j : ℕ) → has r j ≡ anyHas (now (work .entry)) j (pendingFrom (now (work .entry)) held count)) ⌝ }
 {
-    let mut all = levels::empty();
+    let mut all = scopes::levels::empty();
     let mut k = 0;
     while k < count {
         let s = work[PENDING + held + k];
         let y = key::load(work, s as usize);
-        all = levels::join(all, y.levels);
+        all = scopes::levels::join(all, y.levels);
         k += 1;
     }
     all
@@ -196,7 +196,7 @@ fn key_levels(work: &[u32], node: Node, held: usize, count: usize) -> u64
         return all;
     }
     let body = p.second as usize;
-    levels::without(all, scopes::level(work, body))
+    scopes::levels::without(all, scopes::level(work, body))
 }
 
 // The symbol of a node over the pending children from `held` on: the one that has its key, or a new one, or 512. Rules
@@ -294,7 +294,7 @@ fn level_inside(work: &[u32], cur: usize) -> u64
     ensures { λ r. ⌜ ((j : ℕ) → has r j ≡ eqb j (levelOf (scopeWord (now (work .entry)) cur) + 1)) ⌝ }
 {
     let depth = scopes::level(work, cur);
-    levels::with(levels::empty(), depth + 1)
+    scopes::levels::with(scopes::levels::empty(), depth + 1)
 }
 
 // `count` argument symbols for the lambda of record `at`, made in scope `cur`. Rules out: an argument in a table, where

@@ -1,4 +1,4 @@
--- Laws of `Frame` and `Agree`. In order: nothing done; one step after another; a wider run; what agrees beside the run;
+-- Laws of `Frame` and `Agree`. In order: nothing done; one step after another; a wider run, and a step inside it; what agrees beside the run;
 -- the words from a place on; a store, a run of stores. Assumes nothing.
 use Prim.Native.Nat.{ℕ, _+_, _-_, _<_, _≤_}
 use mathlib.Core.Path.{_≡_, refl, ap, sym, _∙_}
@@ -25,6 +25,11 @@ frame-wider lo hi lo′ hi′ ws us f l r = record {
   before = λ k b. f .before k (omega arith);
   after = λ k a. f .after k (omega arith);
 }
+
+-- a step that leaves alone all but a part of the run
+pub frame-inside : (lo hi lo′ hi′ : ℕ) (ws us vs : List ℕ) → Frame lo hi ws us → Frame lo′ hi′ us vs → lo ≤ lo′ →
+    hi′ ≤ hi → Frame lo hi ws vs
+frame-inside lo hi lo′ hi′ ws us vs f g l r = frame-then lo hi ws us vs f (frame-wider lo′ hi′ lo hi us vs g l r)
 
 pub frame-below : (lo hi a b : ℕ) (ws us : List ℕ) → Frame lo hi ws us → b ≤ lo → Agree ws us a b
 frame-below lo hi a b ws us f h k l r = f .before k (omega arith)

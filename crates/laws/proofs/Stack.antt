@@ -1,9 +1,10 @@
--- Laws of `stackOf`. In order: its newest entry; the entries it hangs on; a search from the newest entry downwards.
+-- Laws of `stackOf`. In order: its newest entry, its length, its parts; the entries it hangs on; a search from the newest entry downwards.
 -- Assumes nothing.
-use Prim.Native.Nat.{ℕ, zero, suc, _-_, _<_, _≤_}
+use Prim.Native.Nat.{ℕ, zero, suc, _+_, _-_, _<_, _≤_}
 use mathlib.Core.Path.{_≡_, refl, ap}
-use mathlib.Core.List.{List, [], _∷_}
+use mathlib.Core.List.{List, [], _∷_, _++_}
 use native.Mathlib.Omega.{arith}
+use lib.ListN.{length}
 use Rattle.laws.specs.Stack.{stackOf}
 
 module _ {A : Type 0} where
@@ -11,6 +12,19 @@ module _ {A : Type 0} where
   unfolding stackOf
   stack-newest f zero lt = absurd (omega arith)
   stack-newest f (suc k) lt = let e : suc k - 1 ≡ k = omega arith in rw e
+
+  pub stack-length : (f : ℕ → A) (n : ℕ) → length (stackOf f n) ≡ n
+  unfolding stackOf
+  stack-length f zero = refl
+  stack-length f (suc n) = ap suc (stack-length f n)
+
+  -- the entries from m on stand before those below it
+  pub stack-split : (f : ℕ → A) (m n : ℕ) → stackOf f (m + n) ≡ stackOf (λ j. f (m + j)) n ++ stackOf f m
+  unfolding stackOf
+  stack-split f m zero = let e : m + 0 ≡ m = omega arith in rw e
+  stack-split f m (suc n) =
+      let e : m + suc n ≡ suc (m + n) = omega arith in
+      rw e (ap (λ (xs : List A). f (m + n) ∷ xs) (stack-split f m n))
 
   -- the first n entries are the same
   pub stack-kept : (f g : ℕ → A) (n : ℕ) → ((j : ℕ) → j < n → f j ≡ g j) → stackOf f n ≡ stackOf g n

@@ -1,56 +1,57 @@
 -- Projections remembered in words. In order: the search; which words they hang on; one more pair. Assumes nothing.
-use Prim.Native.Nat.{ℕ, zero, suc, _+_, _-_, _*_, _/_, _%_, _<_, _≤_}
-use mathlib.Core.Path.{_≡_, refl, sym, ap, _∙_}
-use mathlib.Core.Option.{none, some}
+use Prim.Native.Nat.{ℕ, _+_, _*_, _/_, _%_, _<_, _≤_, _-_}
+use mathlib.Core.Path.{_≡_, sym, ap, _∙_}
+use mathlib.Core.Option.{Option, none, some}
 use mathlib.Core.List.{List, _∷_}
 use native.Mathlib.Omega.{arith}
 use native.Mathlib.Numerals.{add-one}
 use borrow.Author.Tests.{eq-eqb, ne-eqb}
-use lib.ListN.{length, getD}
-use lib.Seq.{getD-set-same, getD-set-other}
+use lib.ListN.{length}
+use lib.Seq.{getD-set-same}
 use Rattle.model.specs.Intern.{recall}
+use Rattle.laws.specs.Frame.{Agree}
+use Rattle.laws.specs.Stack.{stackOf}
+use Rattle.laws.proofs.Frame.{agree-store}
+use Rattle.laws.proofs.Stack.{stack-kept, search-none, search-hit, search-miss}
+use Rattle.regions.specs.Regions.{WORDS, MEMO}
 use Rattle.memo.specs.Memo.{tripleOf, tripleAt, memoOf, remembered}
 
 -- ---- the search, from the newest of k pairs downwards
 
-recall-here : (m : ℕ × ℕ × ℕ) (ms : List (ℕ × ℕ × ℕ)) (p : ℕ) → m .0 ≡ p → some (m .1, m .2) ≡ recall (m ∷ ms) p
-unfolding recall
-recall-here m ms p e = rw (eq-eqb (m .0) p e, recall)
+module _ (p : ℕ) where
+  abbrev Is : ℕ × ℕ × ℕ → Type 0
+  Is m = m .0 ≡ p
 
-recall-there : (m : ℕ × ℕ × ℕ) (ms : List (ℕ × ℕ × ℕ)) (p : ℕ) → (m .0 ≡ p → ⊥) → recall ms p ≡ recall (m ∷ ms) p
-unfolding recall
-recall-there m ms p n = sym (rw (ne-eqb (m .0) p n, recall))
+  abbrev fields : ℕ × ℕ × ℕ → Option (ℕ × ℕ)
+  fields m = some (m .1, m .2)
 
-module _ (ws : List ℕ) (p : ℕ) where
-  pub recall-none : (k : ℕ) → k ≤ 0 → none ≡ recall (memoOf ws k) p
-  unfolding recall memoOf
-  recall-none k le = let e : k ≡ 0 = omega arith in rw e
+  here : (m : ℕ × ℕ × ℕ) (ms : List (ℕ × ℕ × ℕ)) → Is m → fields m ≡ recall (m ∷ ms) p
+  unfolding recall
+  here m ms e = rw (eq-eqb (m .0) p e, recall)
 
-  newest : (k : ℕ) → 0 < k → memoOf ws k ≡ tripleAt ws (k - 1) ∷ memoOf ws (k - 1)
-  unfolding memoOf
-  newest zero lt = absurd (omega arith)
-  newest (suc k) lt = let e : suc k - 1 ≡ k = omega arith in rw e
+  there : (m : ℕ × ℕ × ℕ) (ms : List (ℕ × ℕ × ℕ)) → (Is m → ⊥) → recall ms p ≡ recall (m ∷ ms) p
+  unfolding recall
+  there m ms n = sym (rw (ne-eqb (m .0) p n, recall))
 
-  pub recall-hit : (k : ℕ) → 0 < k → tripleAt ws (k - 1) .0 ≡ p
-      → some (tripleAt ws (k - 1) .1, tripleAt ws (k - 1) .2) ≡ recall (memoOf ws k) p
-  recall-hit k lt h = rw (newest k lt) (recall-here (tripleAt ws (k - 1)) (memoOf ws (k - 1)) p h)
+  module _ (ws : List ℕ) (k : ℕ) where
+    pub recall-none : k ≤ 0 → none ≡ recall (memoOf ws k) p
+    unfolding recall memoOf
+    recall-none = search-none (tripleAt ws) (λ ms. recall ms p) Is fields here there k
 
-  pub recall-miss : (k : ℕ) → 0 < k → (tripleAt ws (k - 1) .0 ≡ p → ⊥)
-      → recall (memoOf ws (k - 1)) p ≡ recall (memoOf ws k) p
-  recall-miss k lt h = rw (newest k lt) (recall-there (tripleAt ws (k - 1)) (memoOf ws (k - 1)) p h)
+    pub recall-hit : 0 < k → Is (tripleAt ws (k - 1)) → fields (tripleAt ws (k - 1)) ≡ recall (memoOf ws k) p
+    unfolding memoOf
+    recall-hit = search-hit (tripleAt ws) (λ ms. recall ms p) Is fields here there k
+
+    pub recall-miss : 0 < k → (Is (tripleAt ws (k - 1)) → ⊥) → recall (memoOf ws (k - 1)) p ≡ recall (memoOf ws k) p
+    unfolding memoOf
+    recall-miss = search-miss (tripleAt ws) (λ ms. recall ms p) Is fields here there k
 
 -- ---- which words
 
--- the words of the first n pairs are the same
-abbrev pub Kept : List ℕ → List ℕ → ℕ → Type 0
-Kept us ws n = (k : ℕ) → k < n → getD us (7688 + k) 0 ≡ getD ws (7688 + k) 0
-
-pub memo-kept : (us ws : List ℕ) (n : ℕ) → Kept us ws n → memoOf us n ≡ memoOf ws n
+pub memo-agree : (ws us : List ℕ) (n : ℕ) → Agree ws us (MEMO .first) (MEMO .first + n) → memoOf us n ≡ memoOf ws n
 unfolding memoOf
-memo-kept us ws zero h = refl
-memo-kept us ws (suc n) h =
-    rw (memo-kept us ws n (λ k lt. h k (omega arith)))
-    (ap (λ (w : ℕ). tripleOf w ∷ memoOf ws n) (h n (omega arith)))
+memo-agree ws us n h =
+    stack-kept (tripleAt us) (tripleAt ws) n (λ k lt. ap tripleOf (h (MEMO .first + k) (omega arith) (omega arith)))
 
 -- ---- one more pair
 
@@ -62,11 +63,10 @@ triple-back p a b q r =
     let g : (p + 512 * a + 262144 * b) / 262144 ≡ b = omega arith in
     rw (e, f, g)
 
-pub memo-remembered : (ws : List ℕ) (n p a b : ℕ) → 7688 + n < length ws → p < 512 → a < 512
+pub memo-remembered : (ws : List ℕ) (n p a b : ℕ) → n < MEMO .size → WORDS ≤ length ws → p < 512 → a < 512
     → memoOf (remembered ws n p a b) (n + 1) ≡ (p, a, b) ∷ memoOf ws n
-unfolding memoOf
-memo-remembered ws n p a b lt q r =
-    let us = remembered ws n p a b in
-    rw (add-one n, memo-kept us ws n (λ k l. getD-set-other ws (7688 + n) (7688 + k) _ 0 (λ e. omega arith)))
-    (ap (λ (w : ℕ). tripleOf w ∷ memoOf ws n) (getD-set-same ws (7688 + n) _ 0 lt)
+unfolding memoOf stackOf
+memo-remembered ws n p a b few long q r =
+    rw (add-one n, memo-agree ws (remembered ws n p a b) n (agree-store ws (MEMO .first + n) _ _ _ (omega arith)))
+    (ap (λ (w : ℕ). tripleOf w ∷ memoOf ws n) (getD-set-same ws (MEMO .first + n) _ 0 (omega arith))
     ∙ ap (λ (t : ℕ × ℕ × ℕ). t ∷ memoOf ws n) (triple-back p a b q r))

@@ -14,10 +14,10 @@ use Rattle.regions.specs.Regions.{SLOTS, SCOPES, USES}
 use Rattle.symbols.specs.Words.{slotsFrom}
 use Rattle.symbols.specs.Symbols.{kidsAt}
 use Rattle.symbols.proofs.Laws.{syms-agree, kids-agree}
-use Rattle.scopes.proofs.Open as scopes
+use Rattle.scopes.proofs.Open.{scopes-agree}
 use Rattle.symbols.specs.Sourced.{Sourced}
 use Rattle.graph.specs.Graph.{Arena}
-use Rattle.graph.proofs.Laws.{scope-agree, node-agree, arena-agree}
+use Rattle.graph.proofs.Laws.{node-agree, arena-agree}
 use Rattle.planner.specs.Grew.{PlanOnly}
 use Rattle.planner.specs.Building.{Opens, NoUse, Buildable, GraphIn}
 
@@ -46,8 +46,7 @@ module _ {bs ws ws′ : List ℕ} {n m : ℕ} (k : PlanOnly ws ws′) (a : Arena
   graph-same : {gr : Graph} → GraphIn bs ws n m gr → GraphIn bs ws′ n m gr
   graph-same st = record {
     syms = st .syms ∙ sym (syms-agree bs ws ws′ (SLOTS .size) slots-kept n own-kept (a .sound));
-    scopes = st .scopes ∙ sym (scopes.scopes-kept ws′ ws m
-        (scope-agree bs ws ws′ (SLOTS .size) n m (k .long) own-kept slots-kept scopes-kept));
+    scopes = st .scopes ∙ sym (scopes-agree ws ws′ m scopes-kept);
     uses = λ s lt. k .after (USES .first + s) (omega arith) ∙ st .uses s lt;
   }
 

@@ -8,9 +8,12 @@ use native.Mathlib.Omega.{arith}
 use native.Mathlib.Numerals.{add-one}
 use native.Mathlib.Decide.{decLt}
 use lib.ListN.{length, set}
-use lib.Seq.{getD-set-same, getD-set-other}
+use lib.Seq.{getD-set-same}
 use Rattle.model.specs.Intern.{Scope, rootScope}
 use Rattle.laws.specs.Range.{range}
+use Rattle.laws.specs.Frame.{Agree}
+use Rattle.laws.proofs.Frame.{agree-store}
+use Rattle.regions.specs.Regions.{SCOPES}
 use Rattle.scopes.specs.Scopes.{
   scopeWord,
   packedOf,
@@ -32,29 +35,37 @@ use Rattle.scopes.proofs.Laws.{packed-parent, packed-level, packed-args
 
 -- ---- words kept
 
--- the words of the first m scopes are the same
-abbrev pub Kept : List ℕ → List ℕ → ℕ → Type 0
-Kept us ws m = (k : ℕ) → k < m → scopeWord us k ≡ scopeWord ws k
-
 from-kept : (l : List Scope) (us ws : List ℕ) (k : ℕ) → scopeWord us k ≡ scopeWord ws k
     → scopeFrom l us k ≡ scopeFrom l ws k
 from-kept l us ws zero e = refl
 from-kept l us ws (suc k) e = rw e
 
-pub scopes-kept : (us ws : List ℕ) (m : ℕ) → Kept us ws m → scopesOf us m ≡ scopesOf ws m
-unfolding scopesOf
-scopes-kept us ws zero e = refl
-scopes-kept us ws (suc m) e =
-    rw (scopes-kept us ws m (λ k lt. e k (omega arith)), from-kept (scopesOf ws m) us ws m (e m (omega arith)))
+-- the word of one of the first m scopes
+pub word-agree : (ws us : List ℕ) (m : ℕ) → Agree ws us (SCOPES .first) (SCOPES .first + m) → (k : ℕ) → k < m →
+    scopeWord us k ≡ scopeWord ws k
+word-agree ws us m e k lt = e (SCOPES .first + k) (omega arith) (omega arith)
 
-pub nested-kept : (us ws : List ℕ) (m : ℕ) → 0 < m → Kept us ws m → Nested ws m → Nested us m
-nested-kept us ws m z e h = record {
-  outermost = e 0 z ∙ h .outermost;
-  lower = λ k p lt. rw (e k lt) (h .lower k p lt);
-  level = λ k p lt.
-      let q = h .lower k p lt in
-      rw (e k lt, e (parentOf (scopeWord ws k)) (omega arith)) (h .level k p lt);
-}
+pub scopes-agree : (ws us : List ℕ) (m : ℕ) → Agree ws us (SCOPES .first) (SCOPES .first + m) →
+    scopesOf us m ≡ scopesOf ws m
+unfolding scopesOf
+scopes-agree ws us zero e = refl
+scopes-agree ws us (suc m) e =
+    rw (
+      scopes-agree ws us m (λ k l r. e k l (omega arith)),
+      from-kept (scopesOf ws m) us ws m (word-agree ws us (suc m) e m (omega arith)),
+    )
+
+pub nested-agree : (ws us : List ℕ) (m : ℕ) → 0 < m → Agree ws us (SCOPES .first) (SCOPES .first + m) → Nested ws m →
+    Nested us m
+nested-agree ws us m z e h =
+    let word = word-agree ws us m e in
+    record {
+      outermost = word 0 z ∙ h .outermost;
+      lower = λ k p lt. rw (word k lt) (h .lower k p lt);
+      level = λ k p lt.
+          let q = h .lower k p lt in
+          rw (word k lt, word (parentOf (scopeWord ws k)) (omega arith)) (h .level k p lt);
+    }
 
 -- fewer scopes
 pub nested-less : (ws : List ℕ) (m n : ℕ) → n ≤ m → Nested ws m → Nested ws n
@@ -64,52 +75,48 @@ nested-less ws m n le h = record {
   level = λ k p lt. h .level k p (omega arith);
 }
 
--- a store outside the scopes' words
-pub set-keeps : (ws : List ℕ) (m i v : ℕ) → ((k : ℕ) → k < m → 5120 + k ≡ i → ⊥) → Kept (set ws i v) ws m
-set-keeps ws m i v apart = λ k lt. getD-set-other ws i (5120 + k) v 0 (apart k lt)
-
 -- ---- the outermost scope
 
 pub scopes-outermost : (ws : List ℕ) → scopesOf ws 1 ≡ rootScope ∷ []
 unfolding scopesOf
 scopes-outermost ws = refl
 
-pub nested-outermost : (ws : List ℕ) → 5120 < length ws → Nested (set ws 5120 0) 1
+pub nested-outermost : (ws : List ℕ) → SCOPES .first < length ws → Nested (set ws (SCOPES .first) 0) 1
 nested-outermost ws lt = record {
-  outermost = getD-set-same ws 5120 0 0 lt;
+  outermost = getD-set-same ws (SCOPES .first) 0 0 lt;
   lower = λ k p q. absurd (omega arith);
   level = λ k p q. absurd (omega arith);
 }
 
 -- ---- one more scope, whatever its word
 
-module _ (ws : List ℕ) (m w : ℕ) (room : 5120 + m < length ws) where
-  word-new : scopeWord (set ws (5120 + m) w) m ≡ w
-  word-new = getD-set-same ws (5120 + m) w 0 room
+module _ (ws : List ℕ) (m w : ℕ) (room : SCOPES .first + m < length ws) where
+  word-new : scopeWord (set ws (SCOPES .first + m) w) m ≡ w
+  word-new = getD-set-same ws (SCOPES .first + m) w 0 room
 
-  old-kept : Kept (set ws (5120 + m) w) ws m
-  old-kept = set-keeps ws m (5120 + m) w (λ k lt e. omega arith)
+  old-kept : Agree ws (set ws (SCOPES .first + m) w) (SCOPES .first) (SCOPES .first + m)
+  old-kept = agree-store ws (SCOPES .first + m) w (SCOPES .first) (SCOPES .first + m) (omega arith)
 
   scopes-one : 0 < m
-      → scopesOf (set ws (5120 + m) w) (m + 1)
+      → scopesOf (set ws (SCOPES .first + m) w) (m + 1)
       ≡ scopesOf ws m ++ (record { around = outward (scopesOf ws m) (parentOf w); args = argsIn w } ∷ [])
   unfolding scopesOf
   scopes-one z =
-      rw (add-one m, scopes-kept (set ws (5120 + m) w) ws m old-kept)
+      rw (add-one m, scopes-agree ws (set ws (SCOPES .first + m) w) m old-kept)
       (ap (λ (s : Scope). scopesOf ws m ++ (s ∷ [])) (one m z word-new))
     where
-      one : (k : ℕ) → 0 < k → scopeWord (set ws (5120 + m) w) k ≡ w
+      one : (k : ℕ) → 0 < k → scopeWord (set ws (SCOPES .first + m) w) k ≡ w
           → _≡_ {A = Scope}
-          (scopeFrom (scopesOf ws m) (set ws (5120 + m) w) k)
+          (scopeFrom (scopesOf ws m) (set ws (SCOPES .first + m) w) k)
           (record { around = outward (scopesOf ws m) (parentOf w); args = argsIn w })
       one zero z e = absurd (omega arith)
       one (suc k) z e = rw e
 
   nested-one : 0 < m → parentOf w < m
       → levelOf w ≡ ownLevel (argsIn w) + levelOf (scopeWord ws (parentOf w)) → Nested ws m
-      → Nested (set ws (5120 + m) w) (m + 1)
+      → Nested (set ws (SCOPES .first + m) w) (m + 1)
   nested-one z p l h =
-      let o = nested-kept (set ws (5120 + m) w) ws m z old-kept h in
+      let o = nested-agree ws (set ws (SCOPES .first + m) w) m z old-kept h in
       record {
         outermost = o .outermost;
         lower = λ k i lt. elim (decLt k m) [
@@ -118,13 +125,13 @@ module _ (ws : List ℕ) (m w : ℕ) (room : 5120 + m < length ws) where
         ];
         level = λ k i lt. elim (decLt k m) [
           | yes q ↦ o .level k i q
-          | no q ↦ let e : k ≡ m = omega arith in rw (e, word-new, old-kept (parentOf w) p) l
+          | no q ↦ let e : k ≡ m = omega arith in rw (e, word-new, word-agree ws (set ws (SCOPES .first + m) w) m old-kept (parentOf w) p) l
         ];
       }
 
 -- ---- a thunk, a lambda
 
-module _ (ws : List ℕ) (m cur : ℕ) (room : 5120 + m < length ws) (lt : cur < m) (few : m ≤ 4096) where
+module _ (ws : List ℕ) (m cur : ℕ) (room : SCOPES .first + m < length ws) (lt : cur < m) (few : m ≤ 4096) where
   -- the parts of a word inside `cur`, as the laws of one more scope want them
   module _ (first code own : ℕ) (f : first < 512) (c : code < 32) (o : ownLevel (argsFrom first code) ≡ own) where
     abbrev word : ℕ
@@ -139,7 +146,7 @@ module _ (ws : List ℕ) (m cur : ℕ) (room : 5120 + m < length ws) (lt : cur <
     word-level : levelOf word ≡ own + levelOf (scopeWord ws cur)
     word-level = packed-level cur first code (own + levelOf (scopeWord ws cur)) (omega arith) f c
 
-    scopes-word : scopesOf (set ws (5120 + m) word) (m + 1)
+    scopes-word : scopesOf (set ws (SCOPES .first + m) word) (m + 1)
         ≡ scopesOf ws m ++ (record { around = outward (scopesOf ws m) cur; args = argsFrom first code } ∷ [])
     scopes-word =
         scopes-one ws m word room (omega arith)
@@ -149,7 +156,7 @@ module _ (ws : List ℕ) (m cur : ℕ) (room : 5120 + m < length ws) (lt : cur <
         scopesOf ws m ++ (record { around = outward (scopesOf ws m) cur; args = a } ∷ []))
         word-args
 
-    nested-word : Nested ws m → Nested (set ws (5120 + m) word) (m + 1)
+    nested-word : Nested ws m → Nested (set ws (SCOPES .first + m) word) (m + 1)
     nested-word h =
         nested-one ws m word room (omega arith) (rw word-parent lt) (word-level ∙ rw (word-args, o, word-parent)) h
 

@@ -10,7 +10,7 @@ use native.Mathlib.Decide.{decLt}
 use lib.ListN.{length}
 use Rattle.model.specs.Lists.{anyIn}
 use Rattle.model.specs.Intern.{Scope, scopeAt}
-use Rattle.levels.specs.Levels.{has}
+use Rattle.scopes.specs.Levels.{has}
 use Rattle.scopes.specs.Scopes.{scopeWord, parentOf, scopesOf, Nested, outward, Tracks, lambdas}
 use Rattle.scopes.proofs.Laws.{scopes-length, outermost-around, scope-around}
 

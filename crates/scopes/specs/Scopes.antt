@@ -1,4 +1,4 @@
--- Scopes in words, one to a scope, from word 5,120 on.
+-- Scopes in words, one to a scope, from SCOPES on.
 -- In order: a scope's word and its parts; a scope opened; the scopes of the words, and what is asked of them; where a
 -- symbol is placed. Assumes nothing.
 use Prim.Native.Nat.{ℕ, zero, suc, _+_, _*_, _/_, _%_, _<_}
@@ -10,13 +10,14 @@ use lib.Dec.{eqb}
 use lib.ListN.{getD, set}
 use Rattle.model.specs.Lists.{anyIn}
 use Rattle.model.specs.Intern.{Scope, rootScope, scopeAt, climb}
-use Rattle.levels.specs.Levels.{has}
+use Rattle.scopes.specs.Levels.{has}
 use Rattle.laws.specs.Range.{range}
+use Rattle.regions.specs.Regions.{SCOPES}
 
 -- ---- a scope's word
 
 abbrev pub scopeWord : List ℕ → ℕ → ℕ
-scopeWord ws k = getD ws (5120 + k) 0
+scopeWord ws k = getD ws (SCOPES .first + k) 0
 
 -- parent; a lambda's first argument; 1 more than its number of arguments, or 0 of a thunk; nesting level of lambdas
 abbrev pub packedOf : ℕ → ℕ → ℕ → ℕ → ℕ
@@ -52,10 +53,10 @@ lambdaWord ws cur first n = packedOf cur first (n + 1) (levelOf (scopeWord ws cu
 -- ---- a scope opened: scope m, inside `cur`
 
 abbrev pub withThunk : List ℕ → ℕ → ℕ → List ℕ
-withThunk ws m cur = set ws (5120 + m) (thunkWord ws cur)
+withThunk ws m cur = set ws (SCOPES .first + m) (thunkWord ws cur)
 
 abbrev pub withLambda : List ℕ → ℕ → ℕ → ℕ → ℕ → List ℕ
-withLambda ws m cur first n = set ws (5120 + m) (lambdaWord ws cur first n)
+withLambda ws m cur first n = set ws (SCOPES .first + m) (lambdaWord ws cur first n)
 
 -- ---- the scopes of the words, and what is asked of them
 

@@ -1,10 +1,14 @@
 // Scopes in work words: opening one, its parts, where a new symbol is placed, where a scope lies seen from another.
+// levels.rt has sets of nesting levels.
+pub mod levels;
+
 use regions::SCOPES;
 ghost use mathlib.Core.Path.{_≡_};
 ghost use Prim.Native.Nat.{ℕ, _+_, _<_, _≤_};
 ghost use lib.ListN.{length, set};
 ghost use Rattle.model.specs.Lists.{isIn};
 ghost use Rattle.model.specs.Intern.{scopeAt};
+ghost use Rattle.regions.specs.Regions.{SCOPES};
 ghost use Rattle.scopes.specs.Scopes.{scopeWord, packedOf, parentOf, levelOf, argsIn, withThunk, withLambda};
 ghost use Rattle.scopes.specs.Scopes.{scopesOf, Nested, leftBy, Placed};
 ghost use Rattle.scopes.specs.Relation.{symbolsOf, Classified};
@@ -36,15 +40,15 @@ fn packed(parent: u32, first: u32, code: u32, level: u32) -> u32
 
 // The outermost scope is opened. Rules out: a word left as it was; a lambda.
 pub fn open_outermost(work: &mut [u32])
-    requires { ⌜ 5120 < length (now work) ⌝ }
-    ensures { λ _. ⌜ now (work .exit) ≡ set (now (work .entry)) 5120 0 ⌝ }
+    requires { ⌜ SCOPES .first < length (now work) ⌝ }
+    ensures { λ _. ⌜ now (work .exit) ≡ set (now (work .entry)) (SCOPES .first) 0 ⌝ }
 {
     work[SCOPES] = 0;
 }
 
 // Scope m is opened as a thunk inside `cur`. Rules out: a lambda without arguments; a scope one level deeper.
 pub fn open_thunk(work: &mut [u32], m: usize, cur: usize)
-    requires { ⌜ 5120 + m < length (now work) ⌝ }
+    requires { ⌜ SCOPES .first + m < length (now work) ⌝ }
     requires { ⌜ (cur < m) × (m ≤ 4096) ⌝ }
     ensures { λ _. ⌜ now (work .exit) ≡ withThunk (now (work .entry)) m cur ⌝ }
 {
@@ -55,7 +59,7 @@ pub fn open_thunk(work: &mut [u32], m: usize, cur: usize)
 // Scope m is opened as the body of a lambda inside `cur`, with `count` arguments from symbol `first` on.
 // Rules out: at the level of `cur`; with one argument more or less.
 pub fn open_lambda(work: &mut [u32], m: usize, cur: usize, first: u32, count: u32)
-    requires { ⌜ 5120 + m < length (now work) ⌝ }
+    requires { ⌜ SCOPES .first + m < length (now work) ⌝ }
     requires { ⌜ (cur < m) × (m ≤ 4096) ⌝ }
     requires { ⌜ (first < 512) × (count < 31) ⌝ }
     requires { ⌜ levelOf (scopeWord (now work) cur) < 63 ⌝ }
@@ -69,7 +73,7 @@ pub fn open_lambda(work: &mut [u32], m: usize, cur: usize, first: u32, count: u3
 
 // The scope around scope k. Rules out: k itself; the outermost.
 pub fn parent(work: &[u32], k: usize) -> usize
-    requires { ⌜ 5120 + k < length (now work) ⌝ }
+    requires { ⌜ SCOPES .first + k < length (now work) ⌝ }
     ensures { λ r. ⌜ r ≡ parentOf (scopeWord (now (work .entry)) k) ⌝ }
 {
     (work[SCOPES + k] % 4096) as usize
@@ -77,7 +81,7 @@ pub fn parent(work: &[u32], k: usize) -> usize
 
 // The lambdas around scope k, its own among them. Rules out: those around its parent; the scopes around k.
 pub fn level(work: &[u32], k: usize) -> u32
-    requires { ⌜ 5120 + k < length (now work) ⌝ }
+    requires { ⌜ SCOPES .first + k < length (now work) ⌝ }
     ensures { λ r. ⌜ (r ≡ levelOf (scopeWord (now (work .entry)) k)) × (r < 64) ⌝ }
 {
     work[SCOPES + k] / 67108864
@@ -85,7 +89,7 @@ pub fn level(work: &[u32], k: usize) -> u32
 
 // The arguments of scope k. Rules out: those of the nearest lambda; no arguments for a lambda that has none.
 pub fn args(work: &[u32], k: usize) -> Arguments
-    requires { ⌜ 5120 + k < length (now work) ⌝ }
+    requires { ⌜ SCOPES .first + k < length (now work) ⌝ }
     ensures { λ r. ⌜ symbolsOf r ≡ argsIn (scopeWord (now (work .entry)) k) ⌝ }
 {
     let w = work[SCOPES + k];
@@ -100,7 +104,7 @@ pub fn args(work: &[u32], k: usize) -> Arguments
 
 // Whether a symbol with these levels moves out of scope k.
 fn leaves(work: &[u32], k: usize, levels: u64) -> bool
-    requires { ⌜ 5120 + k < length (now work) ⌝ }
+    requires { ⌜ SCOPES .first + k < length (now work) ⌝ }
     ensures { λ r. ⌜ r ≡ leftBy levels (scopeWord (now (work .entry)) k) ⌝ }
 {
     let w = work[SCOPES + k];
@@ -117,7 +121,7 @@ fn leaves(work: &[u32], k: usize, levels: u64) -> bool
 // of a thunk.
 // Rules out: the parent of a thunk; a lambda that the symbol does not depend on.
 pub fn placement(work: &[u32], cur: usize, levels: u64) -> usize
-    requires { ⌜ 5120 + cur < length (now work) ⌝ }
+    requires { ⌜ SCOPES .first + cur < length (now work) ⌝ }
     requires { ⌜ Nested (now work) (cur + 1) ⌝ }
     ensures { λ r. ⌜ Placed (now (work .entry)) cur levels r ⌝ }
 {
@@ -132,7 +136,7 @@ pub fn placement(work: &[u32], cur: usize, levels: u64) -> usize
 
 // Whether scope `ancestor` is around scope `sc`. Rules out: true of `sc` itself; true of a scope inside `sc`.
 pub fn is_ancestor(work: &[u32], ancestor: usize, sc: usize) -> bool
-    requires { ⌜ 5120 + sc < length (now work) ⌝ }
+    requires { ⌜ SCOPES .first + sc < length (now work) ⌝ }
     requires { ⌜ Nested (now work) (sc + 1) ⌝ }
     ensures { λ r. ⌜ ((m : ℕ) → sc < m → r ≡ isIn ancestor (scopeAt (scopesOf (now (work .entry)) m) sc .around)) ⌝ }
 {
@@ -148,7 +152,7 @@ pub fn is_ancestor(work: &[u32], ancestor: usize, sc: usize) -> bool
 
 // Where scope `sc` lies, seen from `cur`. Rules out: where `cur` lies, seen from `sc`; deeper for `cur` itself.
 pub fn classify(work: &[u32], sc: usize, cur: usize) -> Rel
-    requires { ⌜ 5120 + sc < length (now work) ⌝ }
+    requires { ⌜ SCOPES .first + sc < length (now work) ⌝ }
     requires { ⌜ Nested (now work) (sc + 1) ⌝ }
     ensures { λ r. ⌜ Classified (now (work .entry)) sc cur r ⌝ }
 {

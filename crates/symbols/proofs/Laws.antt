@@ -15,6 +15,7 @@ use Rattle.key.specs.declared.Symbol.{Symbol}
 use Rattle.key.specs.Key.{partsOf, symbolAt, storeSymbol}
 use Rattle.laws.specs.Frame.{Agree}
 use Rattle.laws.proofs.Runs.{sets-before, sets-after}
+use Rattle.regions.specs.Regions.{SLOTS, PENDING}
 use Rattle.key.proofs.Laws.{symbol-agree, load-store, store-length, store-before, store-after}
 use Rattle.symbols.specs.Words.{wordsFrom, slotsFrom, pendingFrom}
 use Rattle.symbols.specs.Symbols.{recOf, symOf, symFrom, symsOf, kidsAt}
@@ -62,12 +63,12 @@ module _ (bs ws : List ℕ) where
 
 -- ---- the words that symbols hang on: their own, and the slots in use
 
-module _ (bs ws ws′ : List ℕ) (used : ℕ) (slots : Agree ws ws′ 2560 (2560 + used)) where
+module _ (bs ws ws′ : List ℕ) (used : ℕ) (slots : Agree ws ws′ (SLOTS .first) (SLOTS .first + used)) where
   -- children, read by the symbol as it was
   pub kids-agree : (i : ℕ) → Sound bs ws used i →
       slotsFrom ws′ (symbolAt ws i .kids) (symbolAt ws i .count) ≡ kidsAt ws i
   kids-agree i sound =
-      words-agree ws ws′ (2560 + symbolAt ws i .kids) (symbolAt ws i .count)
+      words-agree ws ws′ (SLOTS .first + symbolAt ws i .kids) (symbolAt ws i .count)
       (λ k l r. slots k (omega arith) (omega (arith, sound .slots)))
 
   sym-agree : (lower : List Sym) (i : ℕ) → Agree ws ws′ (5 * i) (5 * i + 5) → Sound bs ws used i →
@@ -92,7 +93,7 @@ module _ (bs ws ws′ : List ℕ) (used : ℕ) (slots : Agree ws ws′ 2560 (256
         slots = rw e (sound .slots);
         lower = rw e
             (λ k lt. subst (λ (z : ℕ). z < i)
-            (sym (slots (2560 + symbolAt ws i .kids + k) (omega arith) (omega (arith, sound .slots))))
+            (sym (slots (SLOTS .first + symbolAt ws i .kids + k) (omega arith) (omega (arith, sound .slots))))
             (sound .lower k lt));
       }
 
@@ -106,34 +107,34 @@ module _ (bs ws ws′ : List ℕ) (used : ℕ) (slots : Agree ws ws′ 2560 (256
 
 -- how `make` makes it
 pub made-by : (ws ws₁ ws₂ : List ℕ) (n held : ℕ) (y : Symbol) →
-    ws₁ ≡ sets ws (2560 + y .kids) (pendingFrom ws held (y .count)) → ws₂ ≡ storeSymbol ws₁ n y → ws₂ ≡ made ws n held y
+    ws₁ ≡ sets ws (SLOTS .first + y .kids) (pendingFrom ws held (y .count)) → ws₂ ≡ storeSymbol ws₁ n y → ws₂ ≡ made ws n held y
 unfolding made
 made-by ws ws₁ ws₂ n held y e f = rw (f, e)
 
 module _ (ws : List ℕ) (n held : ℕ) (y : Symbol) where
   abbrev slotted : List ℕ
-  slotted = sets ws (2560 + y .kids) (pendingFrom ws held (y .count))
+  slotted = sets ws (SLOTS .first + y .kids) (pendingFrom ws held (y .count))
 
   pub made-length : length (made ws n held y) ≡ length ws
   unfolding made
-  made-length = store-length slotted n y ∙ length-sets ws (2560 + y .kids) (pendingFrom ws held (y .count))
+  made-length = store-length slotted n y ∙ length-sets ws (SLOTS .first + y .kids) (pendingFrom ws held (y .count))
 
   pub made-before : n < 512 → Agree ws (made ws n held y) 0 (5 * n)
   unfolding made
   made-before few k l r =
-      store-before slotted n y k r ∙ sets-before (pendingFrom ws held (y .count)) ws (2560 + y .kids) k (omega arith)
+      store-before slotted n y k r ∙ sets-before (pendingFrom ws held (y .count)) ws (SLOTS .first + y .kids) k (omega arith)
 
-  pub made-between : Agree ws (made ws n held y) (5 * n + 5) (2560 + y .kids)
+  pub made-between : Agree ws (made ws n held y) (5 * n + 5) (SLOTS .first + y .kids)
   unfolding made
   made-between k l r =
-      store-after slotted n y k l ∙ sets-before (pendingFrom ws held (y .count)) ws (2560 + y .kids) k r
+      store-after slotted n y k l ∙ sets-before (pendingFrom ws held (y .count)) ws (SLOTS .first + y .kids) k r
 
-  pub made-after : n < 512 → (k : ℕ) → 2560 + y .kids + y .count ≤ k → getD (made ws n held y) k 0 ≡ getD ws k 0
+  pub made-after : n < 512 → (k : ℕ) → SLOTS .first + y .kids + y .count ≤ k → getD (made ws n held y) k 0 ≡ getD ws k 0
   unfolding made
   made-after few k h =
-      let l : length (pendingFrom ws held (y .count)) ≡ y .count = words-length ws (8200 + held) (y .count) in
+      let l : length (pendingFrom ws held (y .count)) ≡ y .count = words-length ws (PENDING .first + held) (y .count) in
       store-after slotted n y k (omega arith)
-      ∙ sets-after (pendingFrom ws held (y .count)) ws (2560 + y .kids) k (omega arith)
+      ∙ sets-after (pendingFrom ws held (y .count)) ws (SLOTS .first + y .kids) k (omega arith)
 
 -- ---- one more symbol
 
@@ -142,24 +143,24 @@ module _ (ws : List ℕ) (n held : ℕ) (y : Symbol) (room : Room ws n held y) w
   unfolding made
   made-symbol =
       let l : length (slotted ws n held y) ≡ length ws =
-      length-sets ws (2560 + y .kids) (pendingFrom ws held (y .count)) in
+      length-sets ws (SLOTS .first + y .kids) (pendingFrom ws held (y .count)) in
       load-store (slotted ws n held y) n y (room .fits) (omega (arith, room .few, room .words))
 
   slots-made : slotsFrom (made ws n held y) (y .kids) (y .count) ≡ pendingFrom ws held (y .count)
   unfolding made
   slots-made =
       let vs = pendingFrom ws held (y .count) in
-      let l : length vs ≡ y .count = words-length ws (8200 + held) (y .count) in
-      words-agree (slotted ws n held y) (made ws n held y) (2560 + y .kids) (y .count)
+      let l : length vs ≡ y .count = words-length ws (PENDING .first + held) (y .count) in
+      words-agree (slotted ws n held y) (made ws n held y) (SLOTS .first + y .kids) (y .count)
       (λ k h r. store-after (slotted ws n held y) n y k (omega (arith, room .few)))
-      ∙ (ap (λ (z : ℕ). wordsFrom (slotted ws n held y) (2560 + y .kids) z) (sym l)
-      ∙ words-stored ws (2560 + y .kids) vs (omega (arith, room .slots, room .words)))
+      ∙ (ap (λ (z : ℕ). wordsFrom (slotted ws n held y) (SLOTS .first + y .kids) z) (sym l)
+      ∙ words-stored ws (SLOTS .first + y .kids) vs (omega (arith, room .slots, room .words)))
 
   pub made-kids : kidsAt (made ws n held y) n ≡ pendingFrom ws held (y .count)
   made-kids = rw made-symbol slots-made
 
   module _ (bs : List ℕ) (used : ℕ) (le : used ≤ y .kids) (sound : AllSound bs ws used n) where
-    slots-kept : Agree ws (made ws n held y) 2560 (2560 + used)
+    slots-kept : Agree ws (made ws n held y) (SLOTS .first) (SLOTS .first + used)
     slots-kept k l r = made-between ws n held y k (omega (arith, room .few)) (omega arith)
 
     own-kept : (i : ℕ) → i < n → Agree ws (made ws n held y) (5 * i) (5 * i + 5)
@@ -174,7 +175,7 @@ module _ (ws : List ℕ) (n held : ℕ) (y : Symbol) (room : Room ws n held y) w
         rw (e, made-symbol, slots-made)
 
     pub sound-made : partsOf (y .node) .source < recordCount bs →
-        ((k : ℕ) → k < y .count → getD ws (8200 + held + k) 0 < n) →
+        ((k : ℕ) → k < y .count → getD ws (PENDING .first + held + k) 0 < n) →
         AllSound bs (made ws n held y) (y .kids + y .count) (suc n)
     sound-made from lower i lt =
         let le : i ≤ n = omega arith in ⊎-elim (λ e. rw e newest) others (eq-or-lt-of-le le)
@@ -185,11 +186,11 @@ module _ (ws : List ℕ) (n held : ℕ) (y : Symbol) (room : Room ws n held y) w
             (omega arith)
             (sound-agree bs ws (made ws n held y) used slots-kept i (own-kept i l) (sound i l))
 
-        kid : (k : ℕ) → k < y .count → getD (made ws n held y) (2560 + y .kids + k) 0 < n
+        kid : (k : ℕ) → k < y .count → getD (made ws n held y) (SLOTS .first + y .kids + k) 0 < n
         kid k l =
             subst (λ (z : ℕ). z < n)
-            (sym (sym (words-at (made ws n held y) (2560 + y .kids) (y .count) k l)
-            ∙ (ap (λ (z : List ℕ). getD z k 0) slots-made ∙ words-at ws (8200 + held) (y .count) k l)))
+            (sym (sym (words-at (made ws n held y) (SLOTS .first + y .kids) (y .count) k l)
+            ∙ (ap (λ (z : List ℕ). getD z k 0) slots-made ∙ words-at ws (PENDING .first + held) (y .count) k l)))
             (lower k l)
 
         newest : Sound bs (made ws n held y) (y .kids + y .count) n

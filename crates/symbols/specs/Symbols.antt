@@ -20,7 +20,7 @@ use Rattle.key.specs.declared.Node.the-variants.{Const, Unparsed, Arg, Lambda, 
 use Rattle.key.specs.Key.{Fits, partsOf, symbolAt, storeSymbol}
 use Rattle.symbols.specs.Words.{slotsFrom, pendingFrom}
 use Rattle.laws.specs.Range.{range}
-use Rattle.regions.specs.Regions.{WORDS}
+use Rattle.regions.specs.Regions.{WORDS, SLOTS}
 
 -- ---- a symbol's record and node
 
@@ -84,12 +84,12 @@ symsOf bs ws (suc n) = let l = symsOf bs ws n in l ++ (symFrom bs l ws n ∷ [])
 
 -- y as symbol n, its children those pending from `held` on
 unfoldable pub made : List ℕ → ℕ → ℕ → Symbol → List ℕ
-made ws n held y = storeSymbol (sets ws (2560 + y .kids) (pendingFrom ws held (y .count))) n y
+made ws n held y = storeSymbol (sets ws (SLOTS .first + y .kids) (pendingFrom ws held (y .count))) n y
 
 -- there is room for it: a symbol's five words, its slots, and its pending children
 pub record Room (ws : List ℕ) (n held : ℕ) (y : Symbol) : Type 0 where
   pub few : n < 512
-  pub slots : y .kids + y .count ≤ 2560
+  pub slots : y .kids + y .count ≤ SLOTS .size
   pub pending : held + y .count ≤ 256
   pub words : WORDS ≤ length ws
   pub fits : Fits y
@@ -100,7 +100,7 @@ pub record Room (ws : List ℕ) (n held : ℕ) (y : Symbol) : Type 0 where
 pub record Sound (bs ws : List ℕ) (used i : ℕ) : Type 0 where
   pub from : partsOf (symbolAt ws i .node) .source < recordCount bs
   pub slots : symbolAt ws i .kids + symbolAt ws i .count ≤ used
-  pub lower : (k : ℕ) → k < symbolAt ws i .count → getD ws (2560 + symbolAt ws i .kids + k) 0 < i
+  pub lower : (k : ℕ) → k < symbolAt ws i .count → getD ws (SLOTS .first + symbolAt ws i .kids + k) 0 < i
 
 abbrev pub AllSound : List ℕ → List ℕ → ℕ → ℕ → Type 0
 AllSound bs ws used n = (i : ℕ) → i < n → Sound bs ws used i

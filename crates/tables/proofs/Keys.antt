@@ -11,6 +11,7 @@ use Rattle.model.specs.Tree.{Rec, sameRec}
 use Rattle.model.specs.Intern.{isKey}
 use Rattle.laws.proofs.Members.{and-both, same-true, sameRec-true}
 use Rattle.record.specs.Record.{rowAt}
+use Rattle.regions.specs.Regions.{SLOTS, PENDING}
 use Rattle.key.specs.declared.Symbol.{Symbol}
 use Rattle.key.specs.Key.{partsOf, symbolAt}
 use Rattle.symbols.specs.Words.{wordsFrom, slotsFrom, pendingFrom}
@@ -44,7 +45,7 @@ module _ (ws : List ℕ) (a b m n : ℕ) where
 -- ---- keys: what `same_key` loads, and what it says by it
 
 module _ (bs ws : List ℕ) (s : ℕ) {y : Symbol} (loads : y ≡ symbolAt ws s) where
-  pub loaded-slots : Sound bs ws 2560 s → y .kids + y .count ≤ 2560
+  pub loaded-slots : Sound bs ws (SLOTS .size) s → y .kids + y .count ≤ SLOTS .size
   loaded-slots sound = rw loads (sound .slots)
 
   module _ (i field held count : ℕ) {t : Bool}
@@ -74,15 +75,15 @@ module _ (ws : List ℕ) (held : ℕ) where
   hint-none opcode count e = rw e
 
   pub hint-first : (opcode count : ℕ) → (count ≡ 0 → ⊥) →
-      opcode + 256 * getD ws (8200 + held) 0 ≡ hint opcode (pendingFrom ws held count)
+      opcode + 256 * getD ws (PENDING .first + held) 0 ≡ hint opcode (pendingFrom ws held count)
   unfolding hint wordsFrom
   hint-first opcode zero h = absurd (h refl)
   hint-first opcode (suc n) h = refl
 
-  pub first-pending : (count : ℕ) → ((k : ℕ) → k < count → getD ws (8200 + held + k) 0 < 512) → (count ≡ 0 → ⊥) →
-      getD ws (8200 + held) 0 < 512
+  pub first-pending : (count : ℕ) → ((k : ℕ) → k < count → getD ws (PENDING .first + held + k) 0 < 512) → (count ≡ 0 → ⊥) →
+      getD ws (PENDING .first + held) 0 < 512
   first-pending count low h =
-      let e : 8200 + held + 0 ≡ 8200 + held = omega arith in rw e at (low 0 (omega arith))
+      let e : PENDING .first + held + 0 ≡ PENDING .first + held = omega arith in rw e at (low 0 (omega arith))
 
 -- equal keys have equal hints
 module _ (bs ws : List ℕ) (i field held count s : ℕ) where

@@ -10,6 +10,8 @@ use native.Mathlib.Omega.{arith}
 use lib.ListN.{getD}
 use Rattle.model.specs.Tree.{Rec}
 use Rattle.model.specs.Intern.{Sym, isKey, lookupIn, lookup}
+use Rattle.laws.specs.Stack.{stackOf}
+use Rattle.laws.proofs.Stack.{stack-newest}
 use Rattle.tables.specs.Tables.{entrySymbol, entries, tables}
 
 module _ (ss : List Sym) (r : Rec) (ks : List ℕ) where
@@ -47,12 +49,12 @@ module _ (ss : List Sym) (r : Rec) (ks : List ℕ) where
         entries ws start (k - start) ≡ entrySymbol ws (k - 1) ∷ entries ws start (k - 1 - start)
     unfolding entries
     entries-newest start k lt =
-        let e : k - start ≡ suc (k - 1 - start) = omega arith in
+        let e : k - start - 1 ≡ k - 1 - start = omega arith in
         let f : start + (k - 1 - start) ≡ k - 1 = omega arith in
-        rw (e, f)
+        stack-newest (λ j. entrySymbol ws (start + j)) (k - start) (omega arith) ∙ rw (e, f)
 
     pub entries-end : (start k : ℕ) → k ≤ start → lookupIn ss r ks (entries ws start (k - start)) ≡ none
-    unfolding entries lookupIn
+    unfolding entries stackOf lookupIn
     entries-end start k le = let e : k - start ≡ 0 = omega arith in rw e
 
     pub entries-hit : (start k : ℕ) → start < k → isKey ss r ks (entrySymbol ws (k - 1)) ≡ true →

@@ -13,7 +13,10 @@ use lib.Seq.{getD-set-same, getD-set-other}
 use Rattle.model.specs.Intern.{enter, dropFirst}
 use Rattle.key.specs.Key.{symbolAt}
 use Rattle.laws.specs.Frame.{Agree}
+use Rattle.laws.specs.Stack.{stackOf}
 use Rattle.laws.proofs.Frame.{agree-store}
+use Rattle.laws.proofs.Stack.{stack-kept}
+use Rattle.regions.specs.Regions.{SLOTS, ENTRIES}
 use Rattle.key.proofs.Laws.{symbol-agree}
 use Rattle.symbols.specs.Symbols.{AllSound}
 use Rattle.symbols.proofs.Laws.{kids-agree}
@@ -23,14 +26,14 @@ use Rattle.tables.specs.Tables.{Open, Entries, Below, Hinted}
 
 -- ---- the words that tables hang on: their entries; and the starts below d
 
-entries-agree : (ws ws′ : List ℕ) (top start n : ℕ) → Agree ws ws′ 7176 (7176 + top) → n ≤ top - start →
+entries-agree : (ws ws′ : List ℕ) (top start n : ℕ) → Agree ws ws′ (ENTRIES .first) (ENTRIES .first + top) → n ≤ top - start →
     entries ws′ start n ≡ entries ws start n
 unfolding entries
-entries-agree ws ws′ top start zero h le = refl
-entries-agree ws ws′ top start (suc n) h le =
-    rw (h (7176 + (start + n)) (omega arith) (omega arith), entries-agree ws ws′ top start n h (omega arith))
+entries-agree ws ws′ top start n h le =
+    stack-kept (λ j. entrySymbol ws′ (start + j)) (λ j. entrySymbol ws (start + j)) n
+    (λ j lt. rw (h (ENTRIES .first + (start + j)) (omega arith) (omega arith)))
 
-runs-agree : (ws ws′ base base′ : List ℕ) (top d end : ℕ) → Agree ws ws′ 7176 (7176 + top) → Agree base base′ 0 d →
+runs-agree : (ws ws′ base base′ : List ℕ) (top d end : ℕ) → Agree ws ws′ (ENTRIES .first) (ENTRIES .first + top) → Agree base base′ 0 d →
     ((e : ℕ) → e < d → getD base e 0 ≤ top) → end ≤ top → tables ws′ base′ d end ≡ tables ws base d end
 unfolding tables
 runs-agree ws ws′ base base′ top zero end h hb starts le = refl
@@ -43,7 +46,7 @@ runs-agree ws ws′ base base′ top (suc d) end h hb starts le =
       runs-agree ws ws′ base base′ top d (getD base d 0) h (λ e l r. hb e l (omega arith)) below s,
     )
 
-pub tables-agree : (ws ws′ : List ℕ) (t : Tables) (top : ℕ) → Open t top → Agree ws ws′ 7176 (7176 + top) →
+pub tables-agree : (ws ws′ : List ℕ) (t : Tables) (top : ℕ) → Open t top → Agree ws ws′ (ENTRIES .first) (ENTRIES .first + top) →
     tablesOf ws′ t top ≡ tablesOf ws t top
 tables-agree ws ws′ t top open′ h =
     runs-agree ws ws′ (t .base) (t .base) top (t .depth) top h (λ e l r. refl) (open′ .starts) (omega arith)
@@ -51,7 +54,7 @@ tables-agree ws ws′ t top open′ h =
 -- ---- the words that hints hang on: the entries, their symbols, and the slots in use
 
 module _ (bs ws ws′ : List ℕ) (used n : ℕ) where
-  hint-agree : AllSound bs ws used n → Agree ws ws′ 0 (5 * n) → Agree ws ws′ 2560 (2560 + used) →
+  hint-agree : AllSound bs ws used n → Agree ws ws′ 0 (5 * n) → Agree ws ws′ (SLOTS .first) (SLOTS .first + used) →
       (s : ℕ) → s < n → hintOf bs ws′ s ≡ hintOf bs ws s
   hint-agree sound own slots s lt =
       let e : symbolAt ws′ s ≡ symbolAt ws s =
@@ -59,9 +62,9 @@ module _ (bs ws ws′ : List ℕ) (used n : ℕ) where
       rw (e, kids-agree bs ws ws′ used slots s (sound s lt))
 
   pub hinted-agree : (top : ℕ) → AllSound bs ws used n → Below ws top n → Agree ws ws′ 0 (5 * n) →
-      Agree ws ws′ 2560 (2560 + used) → Agree ws ws′ 7176 (7176 + top) → Hinted bs ws top → Hinted bs ws′ top
+      Agree ws ws′ (SLOTS .first) (SLOTS .first + used) → Agree ws ws′ (ENTRIES .first) (ENTRIES .first + top) → Hinted bs ws top → Hinted bs ws′ top
   hinted-agree top sound below own slots entries hinted k lt =
-      rw (entries (7176 + k) (omega arith) (omega arith))
+      rw (entries (ENTRIES .first + k) (omega arith) (omega arith))
       (hinted k lt ∙ sym (hint-agree sound own slots (entrySymbol ws k) (below k lt)))
 
 -- ---- the first table
@@ -76,7 +79,7 @@ first-open = record {
 }
 
 pub first-tables : (ws : List ℕ) → tablesOf ws first 0 ≡ [] ∷ []
-unfolding tables entries
+unfolding tables entries stackOf
 first-tables ws = refl
 
 -- ---- opening a table, and dropping it
@@ -130,7 +133,7 @@ module _ (t : Tables) (top : ℕ) (is : Open t top) where
 
     -- the tables of model's `openThunk`
     pub opened-tables : (ws : List ℕ) → tablesOf ws (opened t top) top ≡ [] ∷ tablesOf ws t top
-    unfolding tables entries
+    unfolding tables entries stackOf
     opened-tables ws = let z : top - top ≡ 0 = omega arith in rw (add-one (t .depth), new-start, z, older-tables ws)
 
     -- dropping it, with what was entered: the tables of model's `closeThunk`
@@ -144,15 +147,15 @@ module _ (t : Tables) (top : ℕ) (is : Open t top) where
 
   -- ---- one entry more, in the newest table
 
-  module _ (ws : List ℕ) (s m : ℕ) (low : s < 512) (room : 7176 + top < length ws) where
+  module _ (ws : List ℕ) (s m : ℕ) (low : s < 512) (room : ENTRIES .first + top < length ws) where
     abbrev entered : List ℕ
-    entered = set ws (7176 + top) (s + 512 * m)
+    entered = set ws (ENTRIES .first + top) (s + 512 * m)
 
-    others-kept : Agree ws entered 7176 (7176 + top)
-    others-kept = agree-store ws (7176 + top) (s + 512 * m) 7176 (7176 + top) (omega arith)
+    others-kept : Agree ws entered (ENTRIES .first) (ENTRIES .first + top)
+    others-kept = agree-store ws (ENTRIES .first + top) (s + 512 * m) (ENTRIES .first) (ENTRIES .first + top) (omega arith)
 
-    new-word : getD entered (7176 + top) 0 ≡ s + 512 * m
-    new-word = getD-set-same ws (7176 + top) (s + 512 * m) 0 room
+    new-word : getD entered (ENTRIES .first + top) 0 ≡ s + 512 * m
+    new-word = getD-set-same ws (ENTRIES .first + top) (s + 512 * m) 0 room
 
     new-symbol : entrySymbol entered top ≡ s
     new-symbol = omega (arith, new-word)
@@ -162,7 +165,7 @@ module _ (t : Tables) (top : ℕ) (is : Open t top) where
 
     -- the tables of model's `push`
     pub entered-tables : tablesOf entered t (top + 1) ≡ enter s (tablesOf ws t top)
-    unfolding tables entries
+    unfolding tables entries stackOf
     entered-tables = go (t .depth) (is .some) (is .starts)
       where
         go : (d : ℕ) → 0 < d → ((e : ℕ) → e < d → getD (t .base) e 0 ≤ top) →
@@ -186,10 +189,10 @@ module _ (t : Tables) (top : ℕ) (is : Open t top) where
     entered-below n below lt k l =
         let le : k ≤ top = omega arith in
         ⊎-elim (λ e. omega (arith, ap (entrySymbol entered) e ∙ new-symbol))
-        (λ r. rw (others-kept (7176 + k) (omega arith) (omega arith)) (below k r)) (eq-or-lt-of-le le)
+        (λ r. rw (others-kept (ENTRIES .first + k) (omega arith) (omega arith)) (below k r)) (eq-or-lt-of-le le)
 
     -- with its own hint, where the other entries have theirs
-    pub entered-hinted : (bs : List ℕ) (used n : ℕ) → AllSound bs ws used n → used ≤ 2560 → n ≤ 512 →
+    pub entered-hinted : (bs : List ℕ) (used n : ℕ) → AllSound bs ws used n → used ≤ SLOTS .size → n ≤ 512 →
         Below ws top n → s < n → Hinted bs ws top → m ≡ hintOf bs ws s → Hinted bs entered (top + 1)
     entered-hinted bs used n sound slots few below lt hinted e k l =
         let le : k ≤ top = omega arith in
@@ -197,10 +200,10 @@ module _ (t : Tables) (top : ℕ) (is : Open t top) where
         (λ r. hinted-agree bs ws entered used n top sound below own kids others-kept hinted k r) (eq-or-lt-of-le le)
       where
         own : Agree ws entered 0 (5 * n)
-        own = agree-store ws (7176 + top) (s + 512 * m) 0 (5 * n) (omega arith)
+        own = agree-store ws (ENTRIES .first + top) (s + 512 * m) 0 (5 * n) (omega arith)
 
-        kids : Agree ws entered 2560 (2560 + used)
-        kids = agree-store ws (7176 + top) (s + 512 * m) 2560 (2560 + used) (omega arith)
+        kids : Agree ws entered (SLOTS .first) (SLOTS .first + used)
+        kids = agree-store ws (ENTRIES .first + top) (s + 512 * m) (SLOTS .first) (SLOTS .first + used) (omega arith)
 
         newest : entryHint entered top ≡ hintOf bs entered (entrySymbol entered top)
         newest =
@@ -208,7 +211,7 @@ module _ (t : Tables) (top : ℕ) (is : Open t top) where
 
 -- ---- entries that are sound
 
-pub entries-sound : (bs ws : List ℕ) (used n top : ℕ) → AllSound bs ws used n → used ≤ 2560 → n ≤ 512 → top ≤ 512 →
+pub entries-sound : (bs ws : List ℕ) (used n top : ℕ) → AllSound bs ws used n → used ≤ SLOTS .size → n ≤ 512 → top ≤ 512 →
     Below ws top n → Hinted bs ws top → Entries bs ws top
 entries-sound bs ws used n top sound slots few tops below hinted = record {
   few = tops;

@@ -9,6 +9,8 @@ use mathlib.Core.List.{List, [], _∷_}
 use lib.ListN.{length, getD, set, replicate}
 use Rattle.model.specs.Lists.{same}
 use Rattle.model.specs.Tree.{sameRec}
+use Rattle.laws.specs.Stack.{stackOf}
+use Rattle.regions.specs.Regions.{SLOTS, ENTRIES}
 use Rattle.key.specs.Key.{symbolAt}
 use Rattle.symbols.specs.Words.{pendingFrom}
 use Rattle.symbols.specs.Symbols.{keyRec, recOf, kidsAt, Sound}
@@ -25,10 +27,10 @@ foundOf Nothing = none
 -- ---- an entry: a symbol, and above it the hint of its key
 
 abbrev pub entrySymbol : List ℕ → ℕ → ℕ
-entrySymbol ws k = getD ws (7176 + k) 0 % 512
+entrySymbol ws k = getD ws (ENTRIES .first + k) 0 % 512
 
 abbrev pub entryHint : List ℕ → ℕ → ℕ
-entryHint ws k = getD ws (7176 + k) 0 / 512
+entryHint ws k = getD ws (ENTRIES .first + k) 0 / 512
 
 -- what equal keys have in common: the opcode and the first child
 unfoldable pub hint : ℕ → List ℕ → ℕ
@@ -43,8 +45,7 @@ hintOf bs ws s = hint (recOf bs (symbolAt ws s .node) .opcode) (kidsAt ws s)
 
 -- n entries from entry `start` on, the last first
 unfoldable pub entries : List ℕ → ℕ → ℕ → List ℕ
-entries ws start zero = []
-entries ws start (suc n) = entrySymbol ws (start + n) ∷ entries ws start n
+entries ws start n = stackOf (λ j. entrySymbol ws (start + j)) n
 
 -- the d oldest tables, of which the newest ends at entry `end`
 unfoldable pub tables : List ℕ → List ℕ → ℕ → ℕ → List (List ℕ)
@@ -85,7 +86,7 @@ Hinted bs ws top = (k : ℕ) → k < top → entryHint ws k ≡ hintOf bs ws (en
 pub record Entries (bs ws : List ℕ) (top : ℕ) : Type 0 where
   pub few : top ≤ 512
   pub below : Below ws top 512
-  pub sound : (k : ℕ) → k < top → Sound bs ws 2560 (entrySymbol ws k)
+  pub sound : (k : ℕ) → k < top → Sound bs ws (SLOTS .size) (entrySymbol ws k)
   pub hinted : Hinted bs ws top
 
 -- ---- keys

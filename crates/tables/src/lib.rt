@@ -1,4 +1,4 @@
-// The stack of open tables (interner.rs), and the search through it. Entry k of the tables is word 7,176 + k: a symbol,
+// The stack of open tables (interner.rs), and the search through it. Entry k of the tables is word k of ENTRIES: a symbol,
 // and above it a hint of its key, so that most entries are passed over by one comparison.
 // In order: the stack; one entry more; hints; keys compared; the search.
 use regions::ENTRIES;
@@ -11,7 +11,7 @@ ghost use Rattle.model.specs.Lists.{same};
 ghost use Rattle.model.specs.Forest.{recordCount};
 ghost use Rattle.model.specs.Intern.{lookup};
 ghost use Rattle.record.specs.Record.{Laid, rowAt};
-ghost use Rattle.regions.specs.Regions.{WORDS};
+ghost use Rattle.regions.specs.Regions.{WORDS, SLOTS, ENTRIES, PENDING};
 ghost use Rattle.symbols.specs.Words.{slotsFrom, pendingFrom};
 ghost use Rattle.symbols.specs.Symbols.{keyRec, symsOf, Sound};
 ghost use Rattle.tables.specs.Tables.{foundOf, tablesOf, first, opened};
@@ -58,7 +58,7 @@ impl Tables {
 // One entry more in the newest table, where there are `top`. Rules out: an entry in the oldest table; another symbol.
 pub fn enter(work: &mut [u32], top: usize, symbol: u32, hint: u32)
     requires { ⌜ (top < 512) × (symbol < 512) × (hint < 131072) × (WORDS ≤ length (now work)) ⌝ }
-    ensures { λ _. ⌜ now (work .exit) ≡ set (now (work .entry)) (7176 + top) (symbol + 512 * hint) ⌝ }
+    ensures { λ _. ⌜ now (work .exit) ≡ set (now (work .entry)) (ENTRIES .first + top) (symbol + 512 * hint) ⌝ }
 {
     work[ENTRIES + top] = symbol + 512 * hint;
 }
@@ -69,7 +69,7 @@ pub fn hint_of(forest: &[u8], work: &[u32], i: usize, held: usize, count: usize)
     requires { ⌜ Laid (now forest) ⌝ }
     requires { ⌜ i < recordCount (now forest) ⌝ }
     requires { ⌜ (held + count ≤ 256) × (WORDS ≤ length (now work)) ⌝ }
-    requires { ⌜ ((k : ℕ) → k < count → getD (now work) (8200 + held + k) 0 < 512) ⌝ }
+    requires { ⌜ ((k : ℕ) → k < count → getD (now work) (PENDING .first + held + k) 0 < 512) ⌝ }
     ensures { λ r.
         ⌜ (r ≡ hint (rowAt (now (forest .entry)) i .rec .opcode) (pendingFrom (now (work .entry)) held count))
         × (r < 131072) ⌝ }
@@ -82,7 +82,7 @@ pub fn hint_of(forest: &[u8], work: &[u32], i: usize, held: usize, count: usize)
 }
 
 fn same_kids(work: &[u32], kids: usize, n: usize, held: usize, count: usize) -> bool
-    requires { ⌜ (kids + n ≤ 2560) × (held + count ≤ 256) × (WORDS ≤ length (now work)) ⌝ }
+    requires { ⌜ (kids + n ≤ SLOTS .size) × (held + count ≤ 256) × (WORDS ≤ length (now work)) ⌝ }
     ensures { λ r. ⌜ r ≡ same (slotsFrom (now (work .entry)) kids n) (pendingFrom (now (work .entry)) held count) ⌝ }
 {
     if n != count {
@@ -110,7 +110,7 @@ fn same_key(
 ) -> bool
     requires { ⌜ Laid (now forest) ⌝ }
     requires { ⌜ i < recordCount (now forest) ⌝ }
-    requires { ⌜ Sound (now forest) (now work) 2560 s ⌝ }
+    requires { ⌜ Sound (now forest) (now work) (SLOTS .size) s ⌝ }
     requires { ⌜ (s < 512) × (held + count ≤ 256) × (WORDS ≤ length (now work)) ⌝ }
     ensures { λ r. ⌜ r ≡ sameKey (now (forest .entry)) (now (work .entry)) i field held count s ⌝ }
 {
@@ -141,7 +141,7 @@ pub fn find(
     requires { ⌜ Open t top ⌝ }
     requires { ⌜ Entries (now forest) (now work) top ⌝ }
     requires { ⌜ (held + count ≤ 256) × (WORDS ≤ length (now work)) ⌝ }
-    requires { ⌜ ((k : ℕ) → k < count → getD (now work) (8200 + held + k) 0 < 512) ⌝ }
+    requires { ⌜ ((k : ℕ) → k < count → getD (now work) (PENDING .first + held + k) 0 < 512) ⌝ }
     ensures { λ r.
         ⌜ ((n : ℕ) → Below (now (work .entry)) top n →
         foundOf r ≡ lookup (symsOf (now (forest .entry)) (now (work .entry)) n)

@@ -1,35 +1,37 @@
 -- A lambda's arguments, put on top one by one: what is left gives the whole.
 -- Assumes nothing.
 use Prim.Native.Nat.{ℕ, suc, _+_, _-_, _<_, _≤_}
-use mathlib.Core.Path.{_≡_, refl, sym, ap, _∙_}
+use mathlib.Core.Path.{_≡_, sym, ap, _∙_}
 use mathlib.Core.Option.{none}
 use mathlib.Core.List.{List, _∷_, _++_, map, append-nil, []}
 use native.Mathlib.Omega.{arith}
-use lib.ListN.{length, set, drop, length-set}
+use lib.ListN.{length, set, drop}
 use Rattle.model.specs.Bytes.{u32}
 use Rattle.model.specs.Shape.{aArg}
+use Rattle.laws.specs.Stack.{stackOf}
+use Rattle.laws.specs.Frame.{Frame}
+use Rattle.laws.proofs.Frame.{frame-none, frame-then, frame-store}
 use Rattle.shape.specs.Args.{Left, nextArg}
 use Rattle.shape.proofs.Args.{args-step, args-none, left-stands, left-id, left-next}
-use Rattle.walk.specs.Words.{idsIn, argIdsAt, Kept, Bound}
-use Rattle.walk.proofs.Words.{kept-refl, kept-then, kept-set, push-one, pushed}
+use Rattle.regions.specs.Regions.{IDS, end}
+use Rattle.walk.specs.Words.{idsIn, argIdsAt, Bound}
+use Rattle.walk.proofs.Words.{push-one, pushed}
 
 -- of n arguments the last k are still to be put, from `at` on
 pub record Pushing (lit : List ℕ) (n top : ℕ) (ws₀ ws : List ℕ) (at k : ℕ) : Type 0 where
   pub count : k ≤ n
   pub left : Left k lit at
   pub ids : idsIn ws (top + k) (n - k) ++ argIdsAt k (drop at lit) ≡ argIdsAt n lit
-  pub kept : Kept top ws₀ ws
-  pub size : length ws ≡ length ws₀
+  pub kept : Frame top (end IDS) ws₀ ws
 
 module _ (lit : List ℕ) (n top : ℕ) (ws₀ : List ℕ) where
   pub push-start : Left n lit 0 → Pushing lit n top ws₀ ws₀ 0 n
-  unfolding idsIn
+  unfolding idsIn stackOf
   push-start l = record {
     count = omega arith;
     left = l;
     ids = let e : n - n ≡ 0 = omega arith in rw e;
-    kept = kept-refl top ws₀;
-    size = refl;
+    kept = frame-none top (end IDS) ws₀;
   }
 
   module _ (ws : List ℕ) (at k : ℕ) (h : Pushing lit n top ws₀ ws at k) where
@@ -44,20 +46,19 @@ module _ (lit : List ℕ) (n top : ℕ) (ws₀ : List ℕ) where
       pub push-stands : aArg (drop at lit) ≡ none → ⊥
       push-stands = left-stands left-one
 
-      pub push-turn : (id next : ℕ) → top + n ≤ 3840 → 3840 ≤ length ws₀ → id ≡ u32 (drop at lit) →
+      pub push-turn : (id next : ℕ) → top + n ≤ IDS .size → end IDS ≤ length ws₀ → id ≡ u32 (drop at lit) →
           next ≡ nextArg lit at →
           Pushing lit n top ws₀ (set ws (top + (k - 1)) id) next (k - 1)
       push-turn id next few room v e = record {
         count = omega (arith, h .count);
         left = rw e (left-next left-one);
         ids =
-            push-one ws top n k id lt (h .count) (omega (arith, h .size)) (argIdsAt (k - 1) (drop next lit))
+            push-one ws top n k id lt (h .count) (omega (arith, h .kept .long)) (argIdsAt (k - 1) (drop next lit))
             (argIdsAt n lit)
             (ap (λ (z : List ℕ). idsIn ws (top + k) (n - k) ++ z) (sym step) ∙ h .ids);
         kept =
-            kept-then top top ws₀ ws (set ws (top + (k - 1)) id) (omega arith) (h .kept)
-            (kept-set top ws (top + (k - 1)) id (omega arith) (omega (arith, h .count)));
-        size = length-set ws (top + (k - 1)) id ∙ h .size;
+            frame-then top (end IDS) ws₀ ws (set ws (top + (k - 1)) id) (h .kept)
+            (frame-store top (end IDS) (top + (k - 1)) id ws (omega arith) (omega (arith, h .count)));
       }
         where
           step : argIdsAt k (drop at lit) ≡ id ∷ argIdsAt (k - 1) (drop next lit)

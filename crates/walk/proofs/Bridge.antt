@@ -22,6 +22,7 @@ use Rattle.shape.specs.Args.{Left}
 use Rattle.shape.proofs.Fitting.{fits-use, fits-def, fits-func}
 use Rattle.record.specs.Record.{noRow, rowAt}
 use Rattle.laws.proofs.Header.{header-of, row-count}
+use Rattle.regions.specs.Regions.{IDS}
 use Rattle.walk.specs.Walk.{treesFrom, kidsAt, restAt, treeAt, Sound}
 
 -- ---- rows by number
@@ -111,7 +112,7 @@ pub records-few : (bs : List ℕ) → Sound bs → recordCount bs ≤ 256
 records-few bs h = header-of bs (h .laid .header) .records-most
 
 -- there is room for what record i binds: at most 15 ids a record
-pub ids-room : (bs : List ℕ) (i top : ℕ) → Sound bs → i < recordCount bs → top ≤ 15 * i → top + 15 ≤ 3840
+pub ids-room : (bs : List ℕ) (i top : ℕ) → Sound bs → i < recordCount bs → top ≤ 15 * i → top + 15 ≤ IDS .size
 ids-room bs i top h l m = omega (arith, records-few bs h)
 
 -- what stands in the literals of records that use or bind ids

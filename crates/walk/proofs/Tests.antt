@@ -16,10 +16,11 @@ use Rattle.model.specs.Binding.{Kind, valUse, valDef, block, lambda, field, oth
 use Rattle.model.specs.Binding.{after}
 use Rattle.laws.proofs.Apart.{true-false}
 use Rattle.laws.proofs.Members.{isIn-append}
+use Rattle.laws.specs.Stack.{stackOf}
+use Rattle.laws.proofs.Stack.{stack-length}
 use Rattle.walk.specs.Faults.{Ctx, deepAt, misplacedAt, reboundAt, unboundAt, anyAt, test}
 use Rattle.walk.specs.declared.Context.{Context}
 use Rattle.walk.specs.Words.{idsOf, argIdsAt, clash, childOf}
-use Rattle.walk.proofs.Words.{ids-length}
 
 -- ---- what a record binds
 
@@ -78,12 +79,12 @@ lambda-ids n lit r e f g = rw (e, f) (sym (inside-lambda r g))
 
 clash-own : (ws : List ℕ) (top m : ℕ) (more : List ℕ) → idsOf ws (top + m) ≡ more ++ idsOf ws top →
     clash ws top m ≡ (anyIn more (idsOf ws top) || twice more)
-unfolding idsOf clash anyIn twice
+unfolding idsOf stackOf clash anyIn twice
 clash-own ws top zero [] e = refl
 clash-own ws top zero (x ∷ more) e =
     let n = length-append (x ∷ more) (idsOf ws top) in
-    absurd (omega (arith, ap length e, n, ids-length ws (top + 0), ids-length ws top))
-clash-own ws top (suc m) [] e = absurd (omega (arith, ap length e, ids-length ws (top + suc m), ids-length ws top))
+    absurd (omega (arith, ap length e, n, stack-length (λ j. getD ws j 0) (top + 0), stack-length (λ j. getD ws j 0) top))
+clash-own ws top (suc m) [] e = absurd (omega (arith, ap length e, stack-length (λ j. getD ws j 0) (top + suc m), stack-length (λ j. getD ws j 0) top))
 clash-own ws top (suc m) (x ∷ more) e =
     let z : suc (top + m) ≡ top + suc m = omega arith in
     let f : getD ws (top + m) 0 ∷ idsOf ws (top + m) ≡ x ∷ (more ++ idsOf ws top) = ap (idsOf ws) z ∙ e in

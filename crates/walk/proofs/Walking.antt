@@ -12,16 +12,20 @@ use Rattle.model.specs.Tree.{Trees, nil, cons, many, takeT, dropT, size, sizes}
 use Rattle.model.specs.Forest.{recordCount, treeCount, treesOf}
 use Rattle.model.specs.Binding.{inside, after}
 use Rattle.laws.proofs.Trees.{size-some}
+use Rattle.laws.specs.Stack.{stackOf}
+use Rattle.laws.specs.Frame.{Frame}
+use Rattle.laws.proofs.Frame.{frame-none, frame-inside}
 use Rattle.record.specs.Record.{rowAt}
+use Rattle.regions.specs.Regions.{IDS, end}
 use Rattle.walk.specs.declared.Context.{Context}
 use Rattle.walk.specs.declared.Place.the-variants.{At, Nowhere}
 use Rattle.walk.specs.declared.Walk.{Walk}
 use Rattle.walk.specs.declared.Walk.the-variants.{Next, Fault}
 use Rattle.walk.specs.Faults.{Ctx, start, inner, faultsIn, test}
-use Rattle.walk.specs.Words.{idsOf, Kept, Bound, ctxOf, childOf}
+use Rattle.walk.specs.Words.{idsOf, Bound, ctxOf, childOf}
 use Rattle.walk.specs.Walk.{treesFrom, kidsAt, restAt, treeAt, Sound, Stands, faultOf, shift, Comes}
 use Rattle.walk.specs.Walk.{Walked, WalkedIn, Checked}
-use Rattle.walk.proofs.Words.{kept-refl, kept-then, ids-kept}
+use Rattle.walk.proofs.Words.{ids-kept}
 use Rattle.walk.proofs.Bridge.{trees-left, trees-all, tree-count}
 use Rattle.walk.proofs.Steps.{shift-zero, node-offends, node-passes, Remains, remains-start, remains-end}
 use Rattle.walk.proofs.Steps.{remains-offends}
@@ -29,19 +33,28 @@ use Rattle.walk.proofs.Steps.{remains-turn}
 
 -- ---- where a record stands
 
-pub stands-kept : (ws ws′ : List ℕ) (c : Context) → Kept (c .top) ws ws′ → ctxOf ws′ c ≡ ctxOf ws c
+pub stands-kept : (ws ws′ : List ℕ) (c : Context) → Frame (c .top) (end IDS) ws ws′ → ctxOf ws′ c ≡ ctxOf ws c
 stands-kept ws ws′ c h =
-    ap (λ (z : List ℕ). record { depth = c .depth; def = c .def; ids = z }) (ids-kept (c .top) ws ws′ h)
+    ap (λ (z : List ℕ). record { depth = c .depth; def = c .def; ids = z }) (ids-kept (c .top) (end IDS) ws ws′ h)
 
 -- ---- one subtree
 
+-- a step above top, after one above a lower top
+within : (top top′ : ℕ) (a b c : List ℕ) → top ≤ top′ → Frame top (end IDS) a b → Frame top′ (end IDS) b c →
+    Frame top (end IDS) a c
+within top top′ a b c l p q = frame-inside top (end IDS) top′ (end IDS) a b c p q l (omega arith)
+
 walked-none : (bs : List ℕ) (n i : ℕ) (at : Context) (ws : List ℕ) → WalkedIn bs n i 0 at ws ws (Next i)
 unfolding takeT dropT sizes faultsIn first
-walked-none bs n i at ws = record { fault = refl; comes = (omega arith, refl); kept = kept-refl (at .top) ws }
+walked-none bs n i at ws = record {
+  fault = refl;
+  comes = (omega arith, refl);
+  kept = frame-none (at .top) (end IDS) ws;
+}
 
 module _ (bs : List ℕ) (n i : ℕ) (at : Context) (ws : List ℕ) where
   pub subtree-offends : (ws′ : List ℕ) (b : Bool) → b ≡ test n (ctxOf ws′ at) (rowAt bs i .rec) → b ≡ true →
-      Kept (at .top) ws ws′ → Walked bs n i at ws ws′ (Fault i)
+      Frame (at .top) (end IDS) ws ws′ → Walked bs n i at ws ws′ (Fault i)
   subtree-offends ws′ b e t h = record {
     fault =
         node-offends (test n) i (rowAt bs i .rec) (kidsAt bs i) (ctxOf ws at)
@@ -73,7 +86,7 @@ module _ (bs : List ℕ) (n i : ℕ) (at : Context) (ws : List ℕ) where
         ∙ node-passes (test n) i (rowAt bs i .rec) (kidsAt bs i) (ctxOf ws at)
         (ap (λ (z : Ctx). test n z (rowAt bs i .rec)) (sym (stands-kept ws ws₁ at (bound .kept))) ∙ sym e ∙ f);
     comes = came r (w .comes);
-    kept = kept-then (at .top) end ws ws₁ ws₂ (bound .least) (bound .kept) (w .kept);
+    kept = within (at .top) end ws ws₁ ws₂ (bound .least) (bound .kept) (w .kept);
   }
     where
       under : Ctx
@@ -108,7 +121,7 @@ pub record Walking (bs : List ℕ) (n i count : ℕ) (at : Context) (ws₀ ws : 
   pub onward : i ≤ j
   pub more : at .top ≤ top
   pub few : top ≤ 15 * j
-  pub kept : Kept (at .top) ws₀ ws
+  pub kept : Frame (at .top) (end IDS) ws₀ ws
 
 module _ (bs : List ℕ) (n i count : ℕ) (at : Context) (ws₀ : List ℕ) where
   pub walking-start : count ≤ many (treesFrom bs i) → Stands i at → Walking bs n i count at ws₀ ws₀ i count (at .top)
@@ -117,7 +130,7 @@ module _ (bs : List ℕ) (n i count : ℕ) (at : Context) (ws₀ : List ℕ) whe
     onward = omega arith;
     more = omega arith;
     few = h .few;
-    kept = kept-refl (at .top) ws₀;
+    kept = frame-none (at .top) (end IDS) ws₀;
   }
 
   module _ (ws : List ℕ) (j left top : ℕ) (h : Walking bs n i count at ws₀ ws j left top) where
@@ -147,7 +160,7 @@ module _ (bs : List ℕ) (n i count : ℕ) (at : Context) (ws₀ : List ℕ) whe
             remains-offends bs (test n) i count (ctxOf ws₀ at) j left d (h .trees) l walking-there p
             (ap faultOf (sym e) ∙ w .fault);
         comes = tt;
-        kept = kept-then (at .top) top ws₀ ws ws₁ (h .more) (h .kept) (w .kept);
+        kept = within (at .top) top ws₀ ws ws₁ (h .more) (h .kept) (w .kept);
       }
         where
           w : Walked bs n j (childOf at (left - 1) top) ws ws₁ r
@@ -162,13 +175,13 @@ module _ (bs : List ℕ) (n i count : ℕ) (at : Context) (ws₀ : List ℕ) whe
             (record { depth = at .depth; def = at .def; ids = idsOf ws₂ top′ }) (ap faultOf (sym e) ∙ w .fault)
             (came .0) (came .1)
             (ap (λ (z : List ℕ). record { depth = at .depth; def = at .def; ids = z })
-            (b .ids ∙ ap (λ (z : List ℕ). after (treeAt bs j) ++ z) (ids-kept top ws ws₁ (w .kept))));
+            (b .ids ∙ ap (λ (z : List ℕ). after (treeAt bs j) ++ z) (ids-kept top (end IDS) ws ws₁ (w .kept))));
         onward = omega (arith, forward, h .onward);
         more = omega (arith, h .more, b .least);
         few = omega (arith, forward, h .few, b .most);
         kept =
-            kept-then (at .top) top ws₀ ws₁ ws₂ (h .more)
-            (kept-then (at .top) top ws₀ ws ws₁ (h .more) (h .kept) (w .kept)) (b .kept);
+            within (at .top) top ws₀ ws₁ ws₂ (h .more)
+            (within (at .top) top ws₀ ws ws₁ (h .more) (h .kept) (w .kept)) (b .kept);
       }
         where
           w : Walked bs n j (childOf at (left - 1) top) ws ws₁ r
@@ -201,14 +214,14 @@ module _ (bs : List ℕ) (count : ℕ) (sound : Sound bs) (e : count ≡ treeCou
 
   module _ (n : ℕ) (ws ws′ : List ℕ) (r : Walk) where
     forest-place : WalkedIn bs n 0 count origin ws ws′ r → faultOf r ≡ first (faultsIn (test n) (treesOf bs) start)
-    unfolding idsOf
+    unfolding idsOf stackOf
     forest-place w =
         w .fault
         ∙ ap (λ (z : Trees). shift 0 (first (faultsIn (test n) z (ctxOf ws origin)))) trees-whole
         ∙ shift-zero (first (faultsIn (test n) (treesOf bs) start))
 
     pub forest-clear : (j : ℕ) → r ≡ Next j → WalkedIn bs n 0 count origin ws ws′ r → Checked bs n ws ws′ Nowhere
-    forest-clear j f w = record { place = ap faultOf (sym f) ∙ forest-place w; kept = w .kept .high }
+    forest-clear j f w = record { place = ap faultOf (sym f) ∙ forest-place w; kept = w .kept }
 
     pub forest-fails : (p : ℕ) → r ≡ Fault p → WalkedIn bs n 0 count origin ws ws′ r → Checked bs n ws ws′ (At p)
-    forest-fails p f w = record { place = ap faultOf (sym f) ∙ forest-place w; kept = w .kept .high }
+    forest-fails p f w = record { place = ap faultOf (sym f) ∙ forest-place w; kept = w .kept }

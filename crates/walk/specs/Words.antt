@@ -1,26 +1,27 @@
--- Ids in work words. In order: the ids in force; ids in a part of the words; an argument list's ids; what a walk leaves
--- as it was; where a record and its children stand.
+-- Ids in work words. In order: the ids in force; ids in a part of the words; an argument list's ids; ids put on top;
+-- where a record and its children stand.
 -- Assumes nothing.
-use Prim.Native.Nat.{ℕ, zero, suc, _+_, _<_, _≤_}
+use Prim.Native.Nat.{ℕ, zero, suc, _+_, _≤_}
 use mathlib.Core.Path.{_≡_}
 use mathlib.Core.Bool.{Bool, false, _&&_, _||_}
-use mathlib.Core.List.{List, _∷_, _++_, map, []}
+use mathlib.Core.List.{List, _++_, map}
 use lib.Dec.{ltb}
-use lib.ListN.{getD, drop}
+use lib.ListN.{getD}
 use Rattle.model.specs.Lists.{isIn}
 use Rattle.model.specs.Binding.{argsOf}
+use Rattle.laws.specs.Stack.{stackOf}
+use Rattle.laws.specs.Frame.{Frame}
+use Rattle.regions.specs.Regions.{IDS, end}
 use Rattle.walk.specs.declared.Context.{Context}
 use Rattle.walk.specs.Faults.{Ctx}
 
 -- the ids in the first k words, newest first
 unfoldable pub idsOf : List ℕ → ℕ → List ℕ
-idsOf ws zero = []
-idsOf ws (suc k) = getD ws k 0 ∷ idsOf ws k
+idsOf ws k = stackOf (λ j. getD ws j 0) k
 
 -- the ids in the m words from lo on, newest first
 unfoldable pub idsIn : List ℕ → ℕ → ℕ → List ℕ
-idsIn ws lo zero = []
-idsIn ws lo (suc m) = getD ws (lo + m) 0 ∷ idsIn ws lo m
+idsIn ws lo m = stackOf (λ j. getD ws (lo + j) 0) m
 
 -- one of the m words from top on holds an id that stands before it
 unfoldable pub clash : List ℕ → ℕ → ℕ → Bool
@@ -31,17 +32,12 @@ clash ws top (suc m) = isIn (getD ws (top + m) 0) (idsOf ws (top + m)) || clash 
 abbrev pub argIdsAt : ℕ → List ℕ → List ℕ
 argIdsAt n lit = map (λ (a : ℕ × List ℕ). a .0) (argsOf n lit)
 
--- the words below top, and those from 3,840 on, are as they were
-pub record Kept (top : ℕ) (ws ws′ : List ℕ) : Type 0 where
-  pub low : (k : ℕ) → k < top → getD ws′ k 0 ≡ getD ws k 0
-  pub high : drop 3840 ws′ ≡ drop 3840 ws
-
 -- the ids `more` were put on top, and r is the new top; a record binds at most 15 ids
 pub record Bound (ws : List ℕ) (top : ℕ) (more : List ℕ) (ws′ : List ℕ) (r : ℕ) : Type 0 where
   pub ids : idsOf ws′ r ≡ more ++ idsOf ws top
   pub least : top ≤ r
   pub most : r ≤ top + 15
-  pub kept : Kept top ws ws′
+  pub kept : Frame top (end IDS) ws ws′
 
 -- where a record stands, with the ids in force in the words
 abbrev pub ctxOf : List ℕ → Context → Ctx

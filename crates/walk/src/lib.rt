@@ -18,6 +18,7 @@ ghost use Rattle.model.specs.Forest.{recordCount};
 ghost use Rattle.model.specs.Binding.{idOf, inside, after};
 ghost use Rattle.shape.specs.Args.{Left};
 ghost use Rattle.record.specs.Record.{Laid};
+ghost use Rattle.regions.specs.Regions.{IDS, end};
 ghost use Rattle.walk.specs.Faults.{reboundAt, unboundAt, anyAt, test};
 ghost use Rattle.walk.specs.Words.{idsOf, argIdsAt, clash, Bound, ctxOf, childOf};
 ghost use Rattle.walk.specs.Walk.{treesFrom, recAt, treeAt, Sound, Stands, Walked, WalkedIn, Checked};
@@ -83,7 +84,7 @@ fn clashes(work: &[u32], top: usize, end: usize) -> bool
 // Puts the ids of n arguments on top, the first newest.
 fn push_args(lit: &[u8], work: &mut [u32], n: usize, top: usize)
     requires { ⌜ Left n (now lit) 0 ⌝ }
-    requires { ⌜ (n ≤ 15) × (top + n ≤ 3840) × (3840 ≤ length (now work)) ⌝ }
+    requires { ⌜ (n ≤ 15) × (top + n ≤ IDS .size) × (end IDS ≤ length (now work)) ⌝ }
     ensures { λ r. ⌜ Bound (now (work .entry)) top (argIdsAt n (now (lit .entry))) (now (work .exit)) (top + n) ⌝ }
 {
     let mut at = 0;
@@ -99,7 +100,7 @@ fn push_args(lit: &[u8], work: &mut [u32], n: usize, top: usize)
 // Puts on top what record i binds in its children. Rules out: a definition's own id; the last argument newest.
 fn enter(forest: &[u8], work: &mut [u32], i: usize, top: usize) -> usize
     requires { ⌜ Sound (now forest) ⌝ }
-    requires { ⌜ (i < recordCount (now forest)) × (top + 15 ≤ 3840) × (3840 ≤ length (now work)) ⌝ }
+    requires { ⌜ (i < recordCount (now forest)) × (top + 15 ≤ IDS .size) × (end IDS ≤ length (now work)) ⌝ }
     ensures { λ r. ⌜ Bound (now (work .entry)) top (inside (recAt (now (forest .entry)) i)) (now (work .exit)) r ⌝ }
 {
     if record::shape(forest, i) != FUNC_VALUE {
@@ -124,7 +125,7 @@ fn id_of(forest: &[u8], i: usize) -> u32
 // Puts on top what record i's subtree binds in its later siblings. Rules out: a lambda's arguments; a use's id.
 fn define(forest: &[u8], work: &mut [u32], i: usize, top: usize) -> usize
     requires { ⌜ Sound (now forest) ⌝ }
-    requires { ⌜ (i < recordCount (now forest)) × (top < 3840) × (3840 ≤ length (now work)) ⌝ }
+    requires { ⌜ (i < recordCount (now forest)) × (top < IDS .size) × (end IDS ≤ length (now work)) ⌝ }
     ensures { λ r. ⌜ Bound (now (work .entry)) top (after (treeAt (now (forest .entry)) i)) (now (work .exit)) r ⌝ }
 {
     if record::shape(forest, i) != VAL_DEF {
@@ -241,7 +242,7 @@ fn child(at: Context, left: usize, top: usize) -> Context
 // Rules out: a fault of a later record where this one offends; the record after i's first child.
 pub fn subtree(forest: &[u8], work: &mut [u32], number: u32, i: usize, at: Context) -> Walk
     requires { ⌜ Sound (now forest) ⌝ }
-    requires { ⌜ (i < recordCount (now forest)) × (3840 ≤ length (now work)) × Stands i at ⌝ }
+    requires { ⌜ (i < recordCount (now forest)) × (end IDS ≤ length (now work)) × Stands i at ⌝ }
     ensures { λ r. ⌜ Walked (now (forest .entry)) number i at (now (work .entry)) (now (work .exit)) r ⌝ }
 {
     let top = at.top;
@@ -273,7 +274,7 @@ pub fn subtrees(
     at: Context,
 ) -> Walk
     requires { ⌜ Sound (now forest) ⌝ }
-    requires { ⌜ (count ≤ many (treesFrom (now forest) i)) × (3840 ≤ length (now work)) × Stands i at ⌝ }
+    requires { ⌜ (count ≤ many (treesFrom (now forest) i)) × (end IDS ≤ length (now work)) × Stands i at ⌝ }
     ensures { λ r. ⌜ WalkedIn (now (forest .entry)) number i count at (now (work .entry)) (now (work .exit)) r ⌝ }
 {
     let mut j = i;
@@ -297,7 +298,7 @@ pub fn subtrees(
 // Rules out: the place counted in one tree and not in the forest; a check of the first tree only.
 pub fn trees(forest: &[u8], work: &mut [u32], number: u32) -> Place
     requires { ⌜ Sound (now forest) ⌝ }
-    requires { ⌜ 3840 ≤ length (now work) ⌝ }
+    requires { ⌜ end IDS ≤ length (now work) ⌝ }
     ensures { λ r. ⌜ Checked (now (forest .entry)) number (now (work .entry)) (now (work .exit)) r ⌝ }
 {
     let start = Context {

@@ -1,7 +1,7 @@
 -- `codec::bindings` meets its contract. Assumes nothing.
 use borrow.Author.Needs.{needs}
 use denote.Ref.{now}
-use mathlib.Core.Path.{_∙_}
+use Rattle.laws.proofs.Frame.{frame-then}
 use Rattle.codec.proofs.Accepting.{passed, all-passed}
 use Rattle.codec.proofs.bindings.Statement.{statement}
 use Rattle.codec.proofs.bindings.Tie as tie
@@ -12,7 +12,10 @@ returns : tie.Need-returns
 returns c =
     let f = c .before .before in
     let w = f .before .before .before .before .before .before in
-    record { is = f .fault .ensures .is; kept = f .fault .ensures .kept ∙ w .trees .ensures .kept }
+    record {
+      is = f .fault .ensures .is;
+      kept = frame-then _ _ _ _ _ (w .trees .ensures .kept) (f .fault .ensures .kept);
+    }
 
 returns-2 : tie.Need-returns-2
 returns-2 c =

@@ -2,7 +2,8 @@
 use borrow.Author.Needs.{needs}
 use native.Mathlib.Omega.{arith}
 use denote.Ref.{now}
-use mathlib.Core.Path.{refl, subst}
+use mathlib.Core.Path.{subst}
+use Rattle.laws.proofs.Frame.{frame-none}
 use Rattle.codec.specs.Codec.{Layout}
 use Rattle.codec.proofs.check.Statement.{statement}
 use Rattle.codec.proofs.check.Tie as tie
@@ -20,7 +21,7 @@ returns c =
     let b = c .before .before .before .before .before .before in
     record {
       is = subst (Layout (now (b .args .forest))) (c .before .n .given .1) (c .before .before .before .layout .ensures);
-      kept = refl;
+      kept = frame-none _ _ _;
     }
 
 pub check-spec : {M : Type 1} → statement M

@@ -3,6 +3,7 @@ use borrow.Author.Needs.{needs}
 use denote.Ref.{now}
 use mathlib.Core.Path.{_∙_}
 use Rattle.model.specs.Forest.{treesOf}
+use Rattle.laws.proofs.Frame.{frame-then}
 use Rattle.walk.proofs.Checks.{check-7, check-8, check-9, check-10}
 use Rattle.codec.proofs.Accepting.{passed, failed, refused-7, refused-8, refused-9, refused-10, accepted}
 use Rattle.codec.proofs.fault.Statement.{statement}
@@ -31,9 +32,7 @@ returns-2 c =
     let fails = failed _ _ _ (c8 .trees2 .ensures .place ∙ check-8 (treesOf bs)) (c .before .p2 .given .1) in
     record {
       is = refused-8 bs (b .pre .0) seven _ fails;
-      kept =
-          c8 .trees2 .ensures .kept
-          ∙ c7 .trees .ensures .kept;
+      kept = frame-then _ _ _ _ _ (c7 .trees .ensures .kept) (c8 .trees2 .ensures .kept);
     }
 
 returns-3 : tie.Need-returns-3
@@ -50,9 +49,8 @@ returns-3 c =
     record {
       is = refused-9 bs (b .pre .0) seven eight _ fails;
       kept =
-          c9 .trees3 .ensures .kept
-          ∙ c8 .trees2 .ensures .kept
-          ∙ c7 .trees .ensures .kept;
+          frame-then _ _ _ _ _
+          (frame-then _ _ _ _ _ (c7 .trees .ensures .kept) (c8 .trees2 .ensures .kept)) (c9 .trees3 .ensures .kept);
     }
 
 returns-4 : tie.Need-returns-4
@@ -72,10 +70,10 @@ returns-4 c =
     record {
       is = refused-10 bs (b .pre .0) seven eight nine _ fails;
       kept =
-          c10 .trees4 .ensures .kept
-          ∙ c9 .trees3 .ensures .kept
-          ∙ c8 .trees2 .ensures .kept
-          ∙ c7 .trees .ensures .kept;
+          frame-then _ _ _ _ _
+          (frame-then _ _ _ _ _
+          (frame-then _ _ _ _ _ (c7 .trees .ensures .kept) (c8 .trees2 .ensures .kept)) (c9 .trees3 .ensures .kept))
+          (c10 .trees4 .ensures .kept);
     }
 
 returns-5 : tie.Need-returns-5
@@ -95,10 +93,10 @@ returns-5 c =
     record {
       is = accepted bs (b .pre .0) seven eight nine ten;
       kept =
-          c10 .trees4 .ensures .kept
-          ∙ c9 .trees3 .ensures .kept
-          ∙ c8 .trees2 .ensures .kept
-          ∙ c7 .trees .ensures .kept;
+          frame-then _ _ _ _ _
+          (frame-then _ _ _ _ _
+          (frame-then _ _ _ _ _ (c7 .trees .ensures .kept) (c8 .trees2 .ensures .kept)) (c9 .trees3 .ensures .kept))
+          (c10 .trees4 .ensures .kept);
     }
 
 pub fault-spec : {M : Type 1} → statement M

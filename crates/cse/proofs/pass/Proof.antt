@@ -7,7 +7,6 @@ use mathlib.Core.Path.{_∙_, subst}
 use lib.ListN.{length}
 use Rattle.model.specs.Call.{callOf, written}
 use Rattle.cse.specs.Call.{Tells}
-use Rattle.cse.proofs.Words.{kept-drop}
 use Rattle.cse.proofs.Telling.{tells-refused, check-refused, verdict-refused, verdict-accepted}
 use Rattle.cse.proofs.Places.{place-small}
 use Rattle.cse.proofs.pass.Statement.{statement}
@@ -45,7 +44,7 @@ returns c =
     let e = verdict-refused bs (q .check .result) (v .0 .0) (v .0 .1 .0) (q .check .ensures .is) (v .1) in (
       tells-refused _ out (v .0 .0) (v .0 .1 .0)
           (check-refused (callOf bs out (now (b .args .work))) (v .0 .0) (v .0 .1 .0) e),
-      λ k l. kept-drop 3840 (now (b .args .work)) (q .check .last .1 .0) (q .check .ensures .kept) k (omega arith),
+      λ k l. q .check .ensures .kept .after k (omega arith),
     )
 
 returns-2 : tie.Need-returns-2
@@ -53,13 +52,10 @@ returns-2 c =
     let w = c .before .before .before .before in
     let q = w .before .before .before .before .before .before .before in
     let b = q .before .before .before .before .before in
-    let out = now (b .args .out) in
-    let ws = now (b .args .work) in (
+    let out = now (b .args .out) in (
       subst (λ (n : ℕ). Tells (written (record { forest = now (b .args .forest); room = length out; words = n })) out
           (w .accepted .result) (w .accepted .last .1 .0)) (q .check .kept .1 .0) (w .accepted .ensures .0),
-      λ k l.
-          w .accepted .ensures .1 k l
-          ∙ kept-drop 3840 ws (q .check .last .1 .0) (q .check .ensures .kept) k (omega arith),
+      λ k l. w .accepted .ensures .1 k l ∙ q .check .ensures .kept .after k (omega arith),
     )
 
 pub pass-spec : {M : Type 1} → statement M

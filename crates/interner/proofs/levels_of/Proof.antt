@@ -6,7 +6,7 @@ use borrow.Author.Needs.{needs}
 use denote.Ref.{now}
 use Rattle.regions.specs.Regions.{PENDING}
 use Rattle.symbols.specs.Words.{pendingFrom}
-use Rattle.levels.specs.Levels.{has}
+use Rattle.scopes.specs.Levels.{has}
 use Rattle.interner.specs.Levels.{anyHas}
 use Rattle.interner.proofs.Levels.{levels-none, levels-more}
 use Rattle.interner.proofs.levels_of.Statement.{statement}

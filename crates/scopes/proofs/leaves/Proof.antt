@@ -1,6 +1,7 @@
 -- `scopes::leaves` meets its contract. Assumes nothing.
 use Prim.Native.Nat.{_+_}
 use mathlib.Core.Path.{sym, _∙_}
+use Rattle.regions.specs.Regions.{SCOPES}
 use Rattle.scopes.specs.Scopes.{scopeWord}
 use Rattle.scopes.proofs.Climb.{left-thunk, left-kept, left-past}
 use native.Mathlib.Omega.{arith}
@@ -14,7 +15,7 @@ returns c = let s = c .before .before .before .args in left-thunk _ (scopeWord (
 
 has-requires : tie.Need-has-requires
 has-requires c κs =
-    omega (arith, c .before .before .shared-slice-known .given (5120 + c .before .before .before .args .k))
+    omega (arith, c .before .before .shared-slice-known .given (SCOPES .first + c .before .before .before .args .k))
 
 returns-2 : tie.Need-returns-2
 returns-2 c =

@@ -1,6 +1,6 @@
 -- `walk::in_force` meets its contract. Assumes nothing.
 use Prim.Native.Nat.{_≤_}
-use mathlib.Core.Path.{_≡_, refl, sym, _∙_}
+use mathlib.Core.Path.{_≡_, refl, _∙_}
 use native.Mathlib.Omega.{arith}
 use lib.ListN.{length}
 use Rattle.model.specs.Lists.{isIn}
@@ -18,19 +18,18 @@ abbrev μ-loop : tie.MeasureT-loop
 returns : tie.Need-returns Inv-loop μ-loop
 returns c =
     let l = c .before .before .before .loop in
-    sym (ids-hit _ _ (l .k) (c .before .before .loop-test .taken) (c .if1 .taken)) ∙ l .inv .2
+    ids-hit _ _ (l .k) (c .before .before .loop-test .taken) (c .if1 .taken) ∙ l .inv .2
 
 loop-again : tie.Need-loop-again Inv-loop μ-loop
 loop-again c =
     let l = c .before .before .before .loop in (
       omega arith,
       omega arith,
-      sym (ids-miss _ _ (l .k) (c .before .before .loop-test .taken) (c .if1 .left))
-          ∙ l .inv .2,
+      ids-miss _ _ (l .k) (c .before .before .loop-test .taken) (c .if1 .left) ∙ l .inv .2,
     )
 
 returns-2 : tie.Need-returns-2 Inv-loop μ-loop
-returns-2 c = sym (ids-end _ _ (c .before .loop .k) (c .loop-test .left)) ∙ c .before .loop .inv .2
+returns-2 c = ids-end _ _ (c .before .loop .k) (c .loop-test .left) ∙ c .before .loop .inv .2
 
 pub in-force-spec : {M : Type 1} → statement M
 in-force-spec =

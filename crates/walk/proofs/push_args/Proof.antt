@@ -4,14 +4,15 @@ use mathlib.Core.Path.{_≡_, refl}
 use native.Mathlib.Omega.{arith}
 use denote.Ref.{now}
 use lib.ListN.{length}
+use Rattle.regions.specs.Regions.{IDS, end}
 use Rattle.walk.proofs.Args.{Pushing, push-start, push-id, push-stands, push-turn, push-end}
 use Rattle.walk.proofs.push_args.Statement.{statement}
 use Rattle.walk.proofs.push_args.Tie as tie
 
 abbrev Inv-loop : tie.InvT-loop
 Inv-loop lit work₀ n top at₀ k₀ work at k =
-    (top + n ≤ 3840) × (n ≤ 15) × (3840 ≤ length work₀) × (length work ≡ length work₀) × Pushing lit n top work₀ work
-    at k
+    (top + n ≤ IDS .size) × (n ≤ 15) × (end IDS ≤ length work₀) × (length work ≡ length work₀)
+    × Pushing lit n top work₀ work at k
 
 abbrev μ-loop : tie.MeasureT-loop
 μ-loop lit work₀ n top at₀ k₀ work at k = k
@@ -41,7 +42,7 @@ loop-again c =
     push-turn (now (a .lit)) (a .n) (a .top) (now (a .work)) (l .work) (l .at) (l .k) (l .inv .4)
     (c .before .before .loop-test .taken) (c .before .id-at .result) (c .arg-end .result) (omega arith) (omega arith)
     (c .before .id-at .ensures) (c .arg-end .ensures .is) in
-    (omega arith, omega arith, omega arith, next .size, next)
+    (omega arith, omega arith, omega arith, next .kept .long, next)
 
 returns : tie.Need-returns Inv-loop μ-loop
 returns c = push-end _ _ _ _ _ _ _ (c .before .loop .inv .4) (c .loop-test .left) (omega arith)

@@ -1,5 +1,5 @@
 -- Membership in the sets that bitwise operations make.
--- In order: digits; no level, one level; or, and, xor; the operations of the crate. Assumes nothing.
+-- In order: digits; no level, one level; or, and, xor; the operations of src/levels.rt. Assumes nothing.
 use Prim.Native.Nat.{ℕ, zero, suc, _+_, _-_, _*_, _/_, _%_, _^_, _<_, min, max}
 use mathlib.Core.Path.{_≡_, refl, sym, ap, _∙_}
 use mathlib.Core.Bool.{Bool, true, false, not, _&&_, _||_, or-comm}
@@ -10,7 +10,7 @@ use borrow.Author.Tests.{eq-eqb, ne-eqb}
 use lib.Dec.{eqb}
 use lib.Pow.{pow-add, pow-lt, shl-shr, shl-exact}
 use lib.Bits.{bitAnd, bitOr, bitXor, differ, and-shr, or-shr, xor-shr, and-step, or-step, xor-step}
-use Rattle.levels.specs.Levels.{has}
+use Rattle.scopes.specs.Levels.{has}
 
 -- ---- digits
 

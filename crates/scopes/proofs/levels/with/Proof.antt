@@ -1,8 +1,8 @@
--- `levels::with` meets its contract. Assumes nothing.
+-- `scopes::levels::with` meets its contract. Assumes nothing.
 use borrow.Author.Needs.{needs}
-use Rattle.levels.proofs.Laws.{with-is}
-use Rattle.levels.proofs.with.Statement.{statement}
-use Rattle.levels.proofs.with.Tie as tie
+use Rattle.scopes.proofs.Bits.{with-is}
+use Rattle.scopes.proofs.levels.with.Statement.{statement}
+use Rattle.scopes.proofs.levels.with.Tie as tie
 
 returns : tie.Need-returns
 returns c = rw (c .only .ensures) (with-is (c .before .args .levels) (c .before .args .k))

@@ -4,7 +4,7 @@ ghost use mathlib.Core.Path.{_≡_};
 ghost use mathlib.Core.Bool.{false, not, _&&_, _||_};
 ghost use Prim.Native.Nat.{ℕ, _<_, _^_};
 ghost use lib.Dec.{eqb};
-ghost use Rattle.levels.specs.Levels.{has};
+ghost use Rattle.scopes.specs.Levels.{has};
 
 // No level. Rules out: level 0; every level.
 pub fn empty() -> u64

@@ -1,8 +1,8 @@
--- `levels::without` meets its contract. Assumes nothing.
+-- `scopes::levels::without` meets its contract. Assumes nothing.
 use borrow.Author.Needs.{needs}
-use Rattle.levels.proofs.Laws.{without-is}
-use Rattle.levels.proofs.without.Statement.{statement}
-use Rattle.levels.proofs.without.Tie as tie
+use Rattle.scopes.proofs.Bits.{without-is}
+use Rattle.scopes.proofs.levels.without.Statement.{statement}
+use Rattle.scopes.proofs.levels.without.Tie as tie
 
 returns : tie.Need-returns
 returns c = rw (c .only .ensures) (without-is (c .before .args .levels) (c .before .args .k))

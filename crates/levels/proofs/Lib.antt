@@ -1,2 +1,0 @@
--- Laws of sets of levels. Assumes nothing.
-pub mod Laws

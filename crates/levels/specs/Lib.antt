@@ -1,2 +1,0 @@
--- What the contracts of levels cite. Assumes nothing.
-pub mod Levels
