@@ -2,14 +2,14 @@
 -- (`Rep`) and from the theorems on interning.
 -- In order: a node's scopes and arguments; no node stands for a use; counting; building, in words that agree.
 -- Assumes nothing.
-use Prim.Native.Nat.{ℕ, zero, suc, _+_, _-_, _*_, _<_, _≤_}
+use Prim.Native.Nat.{ℕ, zero, suc, _+_, _-_, _<_, _≤_}
 use mathlib.Core.Path.{_≡_, refl, sym, ap, _∙_, subst}
 use mathlib.Core.Logic.{inl, inr}
 use mathlib.Core.Option.{none}
 use mathlib.Core.List.{List, [], _∷_}
 use native.Mathlib.Omega.{arith}
 use lib.ListN.{length, take}
-use Rattle.regions.specs.Regions.{SLOTS, SCOPES}
+use Rattle.regions.specs.Regions.{SLOTS}
 use Rattle.model.specs.Answer.{good}
 use Rattle.model.specs.Tree.{Rec}
 use Rattle.model.specs.Shape.{shapes}
@@ -35,7 +35,6 @@ use Rattle.codec.proofs.Accepting.{accept-passed}
 use Rattle.key.specs.declared.Node.{Node}
 use Rattle.key.specs.declared.Node.the-variants.{Const, Unparsed, Arg, Lambda, Op}
 use Rattle.key.specs.Key.{partsOf, symbolAt}
-use Rattle.laws.specs.Frame.{Agree}
 use Rattle.symbols.specs.Symbols.{symsOf, symOf, recOf, nodeOf, kidsAt}
 use Rattle.symbols.proofs.Laws.{syms-length, sym-at, rec-at}
 use Rattle.scopes.specs.Scopes.{scopesOf}
@@ -44,8 +43,8 @@ use Rattle.interner.specs.declared.State.{State}
 use Rattle.tables.specs.Tables.{first}
 use Rattle.symbols.specs.Sourced.{Sourced}
 use Rattle.interner.specs.State.{absOf, Rep}
-use Rattle.gate.specs.Gate.{Countable}
-use Rattle.graph.proofs.Laws.{node-agree, arena-agree}
+use Rattle.gate.specs.Gate.{Countable, CountsOnly}
+use Rattle.graph.proofs.Laws.{Still, still-above, node-agree, arena-agree}
 use Rattle.planner.specs.Building.{Opens, NoUse, Buildable}
 
 -- ---- a node's scopes and arguments
@@ -152,25 +151,17 @@ module _ (bs ws : List ℕ) (st : State) (rep : Rep bs ws st) where
         no-use-node bs fin scs s (symbolAt ws s .node) (rec-at bs ws (st .symbols) s l)
         (subst (λ (y : Sym). NodeOk fin scs s (y .node)) (sym-at bs ws (st .symbols) s l) (ok .node-is))
 
-    -- in words that are the same below 8,456
-    module _ (ws′ : List ℕ) (long : length ws′ ≡ length ws) (same : Agree ws ws′ 0 8456) where
-      own : Agree ws ws′ 0 (5 * st .symbols)
-      own k a b = same k a (omega (arith, rep .arena .scoped .few))
-
-      slots : Agree ws ws′ (SLOTS .first) (SLOTS .first + SLOTS .size)
-      slots k a b = same k (omega arith) (omega arith)
-
-      scopes : Agree ws ws′ (SCOPES .first) (SCOPES .first + st .scopes)
-      scopes k a b = same k (omega arith) (omega (arith, rep .arena .scoped .few-scopes))
+    -- in words with the uses counted
+    module _ (ws′ : List ℕ) (counted : CountsOnly ws ws′) where
+      still : Still ws ws′ (SLOTS .size) (st .symbols) (st .scopes)
+      still = still-above counted (omega arith) (omega arith) (rep .arena .scoped)
 
       symbol-same : (s : ℕ) → s < st .symbols → symbolAt ws′ s ≡ symbolAt ws s
-      symbol-same = node-agree bs ws ws′ (SLOTS .size) (st .symbols) (st .scopes) long own slots scopes
+      symbol-same = node-agree still
 
       pub buildable : Buildable bs ws′ (st .symbols) (st .scopes)
       buildable = record {
-        arena =
-            arena-agree bs ws ws′ (SLOTS .size) (st .symbols) (st .scopes) long own slots scopes
-            (λ i l. rep .arena .sound i l .slots) (rep .arena);
+        arena = arena-agree still bs (λ i l. rep .arena .sound i l .slots) (rep .arena);
         sourced = λ s l. rw (symbol-same s l) (rep .sourced s l);
         opens = λ s l. rw (symbol-same s l) (opens-at s l);
         no-use = λ s l. rw (symbol-same s l) (no-use-at s l);

@@ -1,14 +1,14 @@
 -- From counting and planning to a planned tree. Assumes nothing.
-use Prim.Native.Nat.{ℕ, _+_, _≤_}
+use Prim.Native.Nat.{ℕ, _≤_}
 use mathlib.Core.Path.{_≡_, _∙_, subst}
 use mathlib.Core.List.{List}
 use native.Mathlib.Omega.{arith}
 use lib.ListN.{length}
+use Rattle.regions.specs.Regions.{SLOTS}
 use Rattle.model.specs.Tree.{Tree, rows}
 use Rattle.model.specs.Materialize.{materialize}
 use Rattle.model.specs.Call.{treeOf}
 use Rattle.laws.proofs.Rows.{size-rows}
-use Rattle.laws.specs.Frame.{Agree}
 use Rattle.symbols.specs.Symbols.{symsOf}
 use Rattle.symbols.proofs.Laws.{syms-agree}
 use Rattle.scopes.specs.Scopes.{scopesOf}
@@ -18,6 +18,7 @@ use Rattle.tables.specs.Tables.{first}
 use Rattle.interner.specs.State.{absOf, Rep}
 use Rattle.gate.specs.Gate.{Reached}
 use Rattle.graph.specs.declared.Graph.{Graph}
+use Rattle.graph.proofs.Laws.{Still, still-above}
 use Rattle.plan.specs.Plan.{planFrom, rowsFor}
 use Rattle.planner.specs.declared.Plan.{Plan}
 use Rattle.planner.specs.Grew.{Grown}
@@ -27,18 +28,14 @@ use Rattle.cse.specs.Call.{PlanOf, Planned}
 -- words ws₁ with the uses counted, and ws₂ with the tree planned too
 module _ (bs ws : List ℕ) (st : State) (rep : Rep bs ws st) (root : ℕ) (ws₁ : List ℕ)
     (reached : Reached ws ws₁ (st .symbols) root) where
-  counted-same : Agree ws ws₁ 0 8456
-  counted-same k l r = reached .kept .before k r
+  still : Still ws ws₁ (SLOTS .size) (st .symbols) (st .scopes)
+  still = still-above (reached .kept) (omega arith) (omega arith) (rep .arena .scoped)
 
   syms-same : symsOf bs ws₁ (st .symbols) ≡ symsOf bs ws (st .symbols)
-  syms-same =
-      syms-agree bs ws ws₁ 2560 (λ k a b. counted-same k (omega arith) (omega arith)) (st .symbols)
-      (λ k a b. counted-same k (omega arith) (omega (arith, rep .arena .scoped .few))) (rep .arena .sound)
+  syms-same = syms-agree bs ws ws₁ (SLOTS .size) (still .slots) (st .symbols) (still .own) (rep .arena .sound)
 
   scopes-same : scopesOf ws₁ (st .scopes) ≡ scopesOf ws (st .scopes)
-  scopes-same =
-      scopes-agree ws ws₁ (st .scopes)
-      (λ k l r. counted-same k (omega arith) (omega (arith, rep .arena .scoped .few-scopes)))
+  scopes-same = scopes-agree ws ws₁ (st .scopes) (still .scopes)
 
   -- how many symbols and scopes there are
   abbrev graph : Graph

@@ -9,13 +9,12 @@ use native.Mathlib.Omega.{arith}
 use lib.Dec.{eqb, ltb}
 use lib.ListN.{length, List·getD-eq-default}
 use borrow.Author.Tests.{ltb-true, ltb-false}
-use Rattle.regions.specs.Regions.{SLOTS, SCOPES}
+use Rattle.regions.specs.Regions.{SYMBOLS, SLOTS, SCOPES, end}
 use Rattle.model.specs.Intern.{Sym, noSym, symAt}
 use Rattle.model.specs.Gate.{symOf}
 use Rattle.model.specs.Schedule.{isArg, isOutside, relOf}
-use Rattle.laws.specs.Frame.{Agree}
+use Rattle.laws.specs.Frame.{Agree, Frame}
 use Rattle.laws.proofs.Falls.{Under}
-use Rattle.regions.specs.Regions.{SCOPES}
 use Rattle.key.specs.declared.Symbol.{Symbol}
 use Rattle.key.specs.declared.Parts.{Parts}
 use Rattle.key.specs.declared.Node.{Node}
@@ -64,29 +63,44 @@ pub within-sound : (bs ws : List ℕ) (used n : ℕ) → Within ws used n → Al
 within-sound bs ws used n within sound i lt =
     let s = sound i lt in record { from = s .from; slots = within i lt; lower = s .lower }
 
--- ---- the words that they hang on: the symbols' own, the slots in use, and the scopes'
+-- ---- the words that they hang on: the symbols' own, `used` slots, and the scopes'
 
-module _ (bs ws ws′ : List ℕ) (used n m : ℕ) (long : length ws′ ≡ length ws) (own : Agree ws ws′ 0 (5 * n))
-    (slots : Agree ws ws′ (SLOTS .first) (SLOTS .first + used))
-    (scopes : Agree ws ws′ (SCOPES .first) (SCOPES .first + m)) where
+pub record Still (ws ws′ : List ℕ) (used n m : ℕ) : Type 0 where
+  pub long : length ws′ ≡ length ws
+  pub own : Agree ws ws′ (SYMBOLS .first) (5 * n)
+  pub slots : Agree ws ws′ (SLOTS .first) (SLOTS .first + used)
+  pub scopes : Agree ws ws′ (SCOPES .first) (SCOPES .first + m)
+
+-- nothing is changed but after the scopes
+pub still-above : {lo hi used n m : ℕ} {ws ws′ : List ℕ} → Frame lo hi ws ws′ → end SCOPES ≤ lo → used ≤ SLOTS .size →
+    Scoped ws n m → Still ws ws′ used n m
+still-above f le u h = record {
+  long = f .long;
+  own = λ k l r. f .before k (omega (arith, h .few));
+  slots = λ k l r. f .before k (omega arith);
+  scopes = λ k l r. f .before k (omega (arith, h .few-scopes));
+}
+
+module _ {ws ws′ : List ℕ} {used n m : ℕ} (still : Still ws ws′ used n m) where
   pub node-agree : (s : ℕ) → s < n → symbolAt ws′ s ≡ symbolAt ws s
-  node-agree s lt = symbol-agree ws ws′ s (λ k l r. own k (omega arith) (omega arith))
+  node-agree s lt = symbol-agree ws ws′ s (λ k l r. still .own k (omega arith) (omega arith))
 
   scoped-agree : Scoped ws n m → Scoped ws′ n m
   scoped-agree h = record {
     few = h .few;
-    words = omega (arith, h .words);
+    words = omega (arith, still .long, h .words);
     some-scope = h .some-scope;
     few-scopes = h .few-scopes;
-    nested = nested-agree ws ws′ m (h .some-scope) scopes (h .nested);
+    nested = nested-agree ws ws′ m (h .some-scope) (still .scopes) (h .nested);
     placed = λ s lt. rw (node-agree s lt) (h .placed s lt);
   }
 
-  pub arena-agree : Within ws used n → Arena bs ws n m → Arena bs ws′ n m
-  arena-agree within h = record {
+  pub arena-agree : (bs : List ℕ) → Within ws used n → Arena bs ws n m → Arena bs ws′ n m
+  arena-agree bs within h = record {
     scoped = scoped-agree (h .scoped);
     sound = λ i lt.
-        let s = sounds-agree bs ws ws′ used slots n own (within-sound bs ws used n within (h .sound)) i lt in
+        let s = sounds-agree bs ws ws′ used (still .slots) n (still .own)
+        (within-sound bs ws used n within (h .sound)) i lt in
         record { from = s .from; slots = rw (node-agree i lt) (h .sound i lt .slots); lower = s .lower };
   }
 

@@ -8,7 +8,7 @@ use mathlib.Core.List.{List, [], _∷_, _++_}
 use native.Mathlib.Omega.{arith}
 use lib.ListN.{set, getD}
 use lib.Seq.{getD-set-same}
-use Rattle.regions.specs.Regions.{SYMBOLS, SCOPES, PENDING, BINDINGS, end}
+use Rattle.regions.specs.Regions.{SYMBOLS, SCOPES, MEMO, PENDING, BINDINGS, end}
 use Rattle.model.specs.Intern.{bindDef}
 use Rattle.laws.specs.Frame.{Frame}
 use Rattle.laws.proofs.Frame.{frame-none, frame-then, frame-wider, frame-store}
@@ -23,7 +23,7 @@ use Rattle.tables.specs.Tables.{Open}
 use Rattle.interner.specs.declared.State.{State}
 use Rattle.interner.specs.State.{absOf, Rep}
 use Rattle.interner.specs.Step.{Leaves}
-use Rattle.interner.proofs.Same.{same-later, rep-same, abs-same}
+use Rattle.interner.proofs.Same.{same-above, rep-same, abs-same}
 use Rattle.intern.specs.declared.Here.{Here}
 use Rattle.intern.specs.Words.{Words, Kept}
 
@@ -86,11 +86,14 @@ leaves-kept at {ws} {ws′} few h = record {
 
 module _ (bs ws ws′ : List ℕ) (st : State) (rep : Rep bs ws st) (lo hi : ℕ) (le : PENDING .first ≤ lo)
     (f : Frame lo hi ws ws′) where
+  room : MEMO .first + st .memo ≤ lo
+  room = omega (arith, le, rep .memo .few, rep .arena .scoped .few)
+
   pub later-rep : Rep bs ws′ st
-  later-rep = rep-same bs ws ws′ st rep (same-later bs ws ws′ st rep lo hi le f)
+  later-rep = rep-same bs ws ws′ st rep (same-above bs ws ws′ st rep lo hi room f)
 
   pub later-abs : (t : Tables) → Open t (st .entries) → absOf bs ws′ t st ≡ absOf bs ws t st
-  later-abs = abs-same bs ws ws′ st rep (same-later bs ws ws′ st rep lo hi le f)
+  later-abs = abs-same bs ws ws′ st rep (same-above bs ws ws′ st rep lo hi room f)
 
 -- bindings changed above `top`
 pub beside-words : (n held : ℕ) {top r : ℕ} {ws ws′ : List ℕ} → n ≤ 2049 → held ≤ PENDING .size → r ≤ 1200 →

@@ -1,4 +1,4 @@
--- Projections remembered. In order: what is recalled are symbols; numbers that stand once are few; one pair more, as
+-- Projections remembered. In order: what is recalled are symbols; how many there are; one pair more, as
 -- model's `remember` has it.
 -- Assumes nothing.
 use Prim.Native.Nat.{ℕ, zero, suc, _+_, _<_, _≤_}
@@ -15,6 +15,7 @@ use Rattle.regions.specs.Regions.{SYMBOLS, MEMO, PENDING, end}
 use Rattle.model.specs.Lists.{isIn, without}
 use Rattle.model.specs.Intern.{recall, remember}
 use Rattle.model.specs.Intern as intern
+use Rattle.laws.proofs.Short.{once-short}
 use Rattle.laws.proofs.Apart.{none-some, some-none}
 use Rattle.laws.specs.Frame.{Frame}
 use Rattle.laws.specs.Members.{In, Every, Once}
@@ -28,7 +29,7 @@ use Rattle.memo.proofs.Laws.{memo-remembered}
 use Rattle.interner.specs.declared.State.{State}
 use Rattle.interner.specs.State.{absOf, Rep}
 use Rattle.interner.specs.Step.{Leaves, withPair}
-use Rattle.interner.proofs.Same.{Same, abs-same, rep-same}
+use Rattle.interner.proofs.Same.{Same, same-above, abs-same, rep-same}
 
 -- ---- what is recalled are symbols
 
@@ -62,48 +63,7 @@ recall-new (m ∷ ms) p e (inr i) = go (eqb (m .0) p) (λ f. recall-new ms p f i
     go true rest e = some-none e
     go false rest e = rest e
 
--- ---- numbers below n that stand once are at most n
-
-without-out : (n : ℕ) (xs : List ℕ) → (In n xs → ⊥) → length xs ≤ length (without xs (n ∷ []))
-unfolding without
-without-out n [] h = omega arith
-without-out n (x ∷ xs) h = go (isIn x (n ∷ [])) refl (without-out n xs (λ i. h (inr i)))
-  where
-    go : (b : Bool) → isIn x (n ∷ []) ≡ b → length xs ≤ length (without xs (n ∷ [])) →
-        suc (length xs) ≤ length {A = ℕ} (elim b [ true ↦ without xs (n ∷ []) | false ↦ x ∷ without xs (n ∷ []) ])
-    go true e rest = absurd (h (inl (sym (in-one (isIn-true x (n ∷ []) e)))))
-    go false e rest = omega (arith, rest)
-
-without-one : (n : ℕ) (xs : List ℕ) → Once xs → length xs ≤ suc (length (without xs (n ∷ [])))
-unfolding without
-without-one n [] o = omega arith
-without-one n (x ∷ xs) o = go (isIn x (n ∷ [])) refl (without-one n xs (o .1))
-  where
-    go : (b : Bool) → isIn x (n ∷ []) ≡ b → length xs ≤ suc (length (without xs (n ∷ []))) →
-        suc (length xs) ≤ suc (length {A = ℕ} (elim b [ true ↦ without xs (n ∷ []) | false ↦ x ∷ without xs (n ∷ []) ]))
-    go true e rest =
-        let d : x ≡ n = in-one (isIn-true x (n ∷ []) e) in
-        omega (arith, without-out n xs (λ i. o .0 (rw d i)))
-    go false e rest = omega (arith, rest)
-
-without-once : (own xs : List ℕ) → Once xs → Once (without xs own)
-unfolding without
-without-once own [] o = tt
-without-once own (x ∷ xs) o = go (isIn x own) (without-once own xs (o .1))
-  where
-    go : (b : Bool) → Once (without xs own) → Once (elim b [ true ↦ without xs own | false ↦ x ∷ without xs own ])
-    go true rest = rest
-    go false rest = ((λ i. o .0 (without-cases x xs own i .0)), rest)
-
-once-few : (n : ℕ) (xs : List ℕ) → Once xs → Every (λ x. x < n) xs → length xs ≤ n
-once-few zero [] o h = omega arith
-once-few zero (x ∷ xs) o h = absurd (omega (arith, h x (inl refl)))
-once-few (suc n) xs o h =
-    let rest = once-few n (without xs (n ∷ [])) (without-once (n ∷ []) xs o)
-    (λ x i. let w = without-cases x xs (n ∷ []) i in
-    let ne : x ≡ n → ⊥ = λ e. w .1 (inl e) in
-    omega (arith, h x (w .0), ne)) in
-    omega (arith, rest, without-one n xs o)
+-- ---- how many there are
 
 keys-low : (n : ℕ) (ms : List (ℕ × ℕ × ℕ)) → MemoBelow n ms → Every (λ x. x < n) (keysIn ms)
 keys-low n [] h x i = absurd i
@@ -122,7 +82,7 @@ module _ (bs ws : List ℕ) (st : State) (p : ℕ) (rep : Rep bs ws st) (low : p
   pub memo-room : st .memo < st .symbols
   memo-room =
       let ms = memoOf ws (st .memo) in
-      let f = once-few (st .symbols) (p ∷ keysIn ms) (recall-new ms p new, rep .memo .once) (λ x i. each x i) in
+      let f = once-short (st .symbols) (p ∷ keysIn ms) (recall-new ms p new, rep .memo .once) (λ x i. each x i) in
       omega (arith, f, keys-length ws (st .memo))
     where
       each : (x : ℕ) → In x (p ∷ keysIn (memoOf ws (st .memo))) → x < st .symbols
@@ -138,14 +98,7 @@ module _ (bs ws : List ℕ) (st : State) (p : ℕ) (rep : Rep bs ws st) (low : p
         (omega (arith, memo-room, rep .arena .scoped .few))
 
     same : Same ws ws₁ st
-    same = record {
-      long = frame .long;
-      symbols = λ k l r. frame .before k (omega (arith, rep .arena .scoped .few));
-      slots = λ k l r. frame .before k (omega (arith, rep .slots .few));
-      scopes = λ k l r. frame .before k (omega (arith, rep .arena .scoped .few-scopes));
-      entries = λ k l r. frame .before k (omega (arith, rep .entries .few, rep .arena .scoped .few));
-      memo = λ k l r. frame .before k r;
-    }
+    same = same-above bs ws ws₁ st rep (MEMO .first + st .memo) (end MEMO) (omega arith) frame
 
     memo-is : memoOf ws₁ (st .memo + 1) ≡ (p, a, b) ∷ memoOf ws (st .memo)
     memo-is =
@@ -155,18 +108,13 @@ module _ (bs ws : List ℕ) (st : State) (p : ℕ) (rep : Rep bs ws st) (low : p
     pub abs-remembered : (t : Tables) → Open t (st .entries) →
         absOf bs ws₁ t (withPair st) ≡ remember p a b (absOf bs ws t st)
     abs-remembered t opened =
-        ap (λ (ms : List (ℕ × ℕ × ℕ)). withMemo (absOf bs ws₁ t st) ms) memo-is
-        ∙ ap (λ (s : intern.State). withMemo s ((p, a, b) ∷ memoOf ws (st .memo)))
-        (abs-same bs ws ws₁ st rep same t opened)
-      where
-        withMemo : intern.State → List (ℕ × ℕ × ℕ) → intern.State
-        withMemo s ms = record {
-          syms = s .syms;
-          tables = s .tables;
-          scopes = s .scopes;
-          memo = ms;
-          readings = s .readings;
-        }
+        let kept = abs-same bs ws ws₁ st rep same t opened in
+        rw (
+          memo-is,
+          ap (λ (z : intern.State). z .syms) kept,
+          ap (λ (z : intern.State). z .tables) kept,
+          ap (λ (z : intern.State). z .scopes) kept,
+        )
 
     pub rep-remembered : Rep bs ws₁ (withPair st)
     rep-remembered =

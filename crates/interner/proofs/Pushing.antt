@@ -113,10 +113,12 @@ module _ (bs ws : List ℕ) (st : State) (cur : ℕ) (node : Node) (held count l
 
     same : Same ws ws₁ st
     same = record {
-      long = frame .long;
-      symbols = made-before ws (st .symbols) held y few;
-      slots = λ k l r. made-between ws (st .symbols) held y k (omega arith) (omega arith);
-      scopes = λ k l r. frame .after k l;
+      still = record {
+        long = frame .long;
+        own = made-before ws (st .symbols) held y few;
+        slots = λ k l r. made-between ws (st .symbols) held y k (omega arith) (omega arith);
+        scopes = λ k l r. frame .after k l;
+      };
       entries = λ k l r. frame .after k (omega arith);
       memo = λ k l r. frame .after k (omega arith);
     }

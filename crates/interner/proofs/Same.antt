@@ -1,11 +1,10 @@
 -- The words that a state hangs on. In order: words kept (`Same`); what holds of the state, part by part; what it stands
--- for; words that are no state's.
+-- for; words after those in use.
 -- Assumes nothing.
 use Prim.Native.Nat.{ℕ, suc, _+_, _*_, _<_, _≤_}
 use mathlib.Core.Path.{_≡_, sym, ap, _∙_}
 use mathlib.Core.List.{List}
 use native.Mathlib.Omega.{arith}
-use lib.ListN.{length}
 use Rattle.regions.specs.Regions.{SYMBOLS, SLOTS, SCOPES, ENTRIES, MEMO, PENDING}
 use Rattle.model.specs.Intern.{Sym, symAt}
 use Rattle.laws.specs.Members.{In}
@@ -21,8 +20,7 @@ use Rattle.scopes.specs.Scopes.{scopeWord, levelOf, scopesOf}
 use Rattle.scopes.proofs.Open.{word-agree, scopes-agree}
 use Rattle.memo.specs.Memo.{memoOf}
 use Rattle.memo.proofs.Laws.{memo-agree}
-use Rattle.graph.specs.Graph.{Arena}
-use Rattle.graph.proofs.Laws.{within-sound, node-agree, arena-agree}
+use Rattle.graph.proofs.Laws.{within-sound, Still, still-above, node-agree, arena-agree}
 use Rattle.interner.specs.declared.State.{State}
 use Rattle.interner.specs.Levels.{depsAt, Levelled, AtLevel, ArgLevels, AllLevelled}
 use Rattle.interner.specs.State.{absOf, Slotted, Entered, Remembered, Rep}
@@ -35,10 +33,7 @@ used-sound bs ws st rep = within-sound bs ws (st .slots) (st .symbols) (rep .slo
 -- ---- words kept: those that are in use
 
 pub record Same (ws ws′ : List ℕ) (st : State) : Type 0 where
-  pub long : length ws′ ≡ length ws
-  pub symbols : Agree ws ws′ (SYMBOLS .first) (5 * st .symbols)
-  pub slots : Agree ws ws′ (SLOTS .first) (SLOTS .first + st .slots)
-  pub scopes : Agree ws ws′ (SCOPES .first) (SCOPES .first + st .scopes)
+  pub still : Still ws ws′ (st .slots) (st .symbols) (st .scopes)
   pub entries : Agree ws ws′ (ENTRIES .first) (ENTRIES .first + st .entries)
   pub memo : Agree ws ws′ (MEMO .first) (MEMO .first + st .memo)
 
@@ -46,21 +41,11 @@ module _ (bs ws ws′ : List ℕ) (st : State) (rep : Rep bs ws st) (same : Same
   -- ---- what holds of the state
 
   pub symbol-same : (i : ℕ) → i < st .symbols → symbolAt ws′ i ≡ symbolAt ws i
-  symbol-same =
-      node-agree bs ws ws′ (st .slots) (st .symbols) (st .scopes) (same .long) (same .symbols) (same .slots)
-      (same .scopes)
-
-  word-same : (c : ℕ) → c < st .scopes → scopeWord ws′ c ≡ scopeWord ws c
-  word-same = word-agree ws ws′ (st .scopes) (same .scopes)
-
-  arena-same : Arena bs ws′ (st .symbols) (st .scopes)
-  arena-same =
-      arena-agree bs ws ws′ (st .slots) (st .symbols) (st .scopes) (same .long) (same .symbols) (same .slots)
-      (same .scopes) (rep .slots .within) (rep .arena)
+  symbol-same = node-agree (same .still)
 
   syms-same : symsOf bs ws′ (st .symbols) ≡ symsOf bs ws (st .symbols)
   syms-same =
-      syms-agree bs ws ws′ (st .slots) (same .slots) (st .symbols) (same .symbols) (used-sound bs ws st rep)
+      syms-agree bs ws ws′ (st .slots) (same .still .slots) (st .symbols) (same .still .own) (used-sound bs ws st rep)
 
   slots-same : Slotted bs ws′ (st .slots) (st .symbols)
   slots-same = record {
@@ -75,7 +60,7 @@ module _ (bs ws ws′ : List ℕ) (st : State) (rep : Rep bs ws st) (same : Same
   deps-same : (s : ℕ) → s < st .symbols → depsAt bs ws′ s ≡ depsAt bs ws s
   deps-same s lt =
       ap (λ (l : List Sym). symAt l s .deps)
-      (syms-agree bs ws ws′ (st .slots) (same .slots) (suc s) (λ k l r. same .symbols k l (omega arith))
+      (syms-agree bs ws ws′ (st .slots) (same .still .slots) (suc s) (λ k l r. same .still .own k l (omega arith))
       (λ i l. used-sound bs ws st rep i (omega arith)))
 
   levelled-same : (s : ℕ) → s < st .symbols → Levelled bs ws′ s
@@ -90,7 +75,7 @@ module _ (bs ws ws′ : List ℕ) (st : State) (rep : Rep bs ws st) (same : Same
 
   args-same : ArgLevels ws′ (st .symbols) (st .scopes)
   args-same c lt xs e x i =
-      let w : scopeWord ws′ c ≡ scopeWord ws c = word-same c lt in
+      let w : scopeWord ws′ c ≡ scopeWord ws c = word-agree ws ws′ (st .scopes) (same .still .scopes) c lt in
       let h : AtLevel ws (st .symbols) (levelOf (scopeWord ws c)) x = rep .levels .arguments c lt xs (rw w at e) x i in
       record { low = h .low; one = λ j. rw (w, symbol-same x (h .low)) (h .one j) }
 
@@ -102,7 +87,7 @@ module _ (bs ws ws′ : List ℕ) (st : State) (rep : Rep bs ws st) (same : Same
     few = rep .entries .few;
     below = λ k lt. rw (same .entries (ENTRIES .first + k) (omega arith) (omega arith)) (rep .entries .below k lt);
     hinted = hinted-agree bs ws ws′ (st .slots) (st .symbols) (st .entries) (used-sound bs ws st rep)
-        (rep .entries .below) (same .symbols) (same .slots) (same .entries) (rep .entries .hinted);
+        (rep .entries .below) (same .still .own) (same .still .slots) (same .entries) (rep .entries .hinted);
   }
 
   memos-same : memoOf ws′ (st .memo) ≡ memoOf ws (st .memo)
@@ -117,7 +102,7 @@ module _ (bs ws ws′ : List ℕ) (st : State) (rep : Rep bs ws st) (same : Same
 
   pub rep-same : Rep bs ws′ st
   rep-same = record {
-    arena = arena-same;
+    arena = arena-agree (same .still) bs (rep .slots .within) (rep .arena);
     slots = slots-same;
     sourced = sourced-same;
     levels = levels-same;
@@ -133,19 +118,16 @@ module _ (bs ws ws′ : List ℕ) (st : State) (rep : Rep bs ws st) (same : Same
       rw (
         syms-same,
         tables-agree ws ws′ t (st .entries) opened (same .entries),
-        scopes-agree ws ws′ (st .scopes) (same .scopes),
+        scopes-agree ws ws′ (st .scopes) (same .still .scopes),
         memos-same,
       )
 
--- ---- words that are no state's: pending symbols and all later ones
+-- ---- words that come after those in use: pairs of projections to come, pending symbols and all later ones
 
-pub same-later : (bs ws ws′ : List ℕ) (st : State) → Rep bs ws st → (lo hi : ℕ) → PENDING .first ≤ lo →
+pub same-above : (bs ws ws′ : List ℕ) (st : State) → Rep bs ws st → (lo hi : ℕ) → MEMO .first + st .memo ≤ lo →
     Frame lo hi ws ws′ → Same ws ws′ st
-same-later bs ws ws′ st rep lo hi le f = record {
-  long = f .long;
-  symbols = λ k l r. f .before k (omega (arith, rep .arena .scoped .few));
-  slots = λ k l r. f .before k (omega (arith, rep .slots .few));
-  scopes = λ k l r. f .before k (omega (arith, rep .arena .scoped .few-scopes));
+same-above bs ws ws′ st rep lo hi le f = record {
+  still = still-above f (omega arith) (rep .slots .few) (rep .arena .scoped);
   entries = λ k l r. f .before k (omega (arith, rep .entries .few, rep .arena .scoped .few));
-  memo = λ k l r. f .before k (omega (arith, rep .memo .few, rep .arena .scoped .few));
+  memo = λ k l r. f .before k (omega arith);
 }

@@ -25,6 +25,7 @@ use Rattle.symbols.proofs.Same.{key-opcode}
 use Rattle.tables.specs.declared.Tables.{Tables}
 use Rattle.tables.specs.Tables.{hint, hintOf, tablesOf, Open}
 use Rattle.tables.proofs.Stack.{entered-tables, entered-below, entered-hinted}
+use Rattle.graph.proofs.Laws.{still-above}
 use Rattle.interner.specs.declared.State.{State}
 use Rattle.interner.specs.declared.Step.{Step}
 use Rattle.interner.specs.State.{absOf, Rep}
@@ -55,10 +56,7 @@ module _ (bs ws : List ℕ) (t : Tables) (st : State) (s m : ℕ) (rep : Rep bs 
 
   same-entered : Same ws ws₁ st
   same-entered = record {
-    long = frame .long;
-    symbols = λ k l r. frame .before k (omega (arith, rep .arena .scoped .few));
-    slots = λ k l r. frame .before k (omega (arith, rep .slots .few));
-    scopes = λ k l r. frame .before k (omega (arith, rep .arena .scoped .few-scopes));
+    still = still-above frame (omega arith) (rep .slots .few) (rep .arena .scoped);
     entries = λ k l r. frame .before k r;
     memo = λ k l r. frame .after k l;
   }

@@ -41,10 +41,12 @@ module _ (bs ws : List ℕ) (st : State) (rep : Rep bs ws st) (few : st .scopes 
 
   pub scope-same : Same ws ws₁ st
   scope-same = record {
-    long = scope-frame .long;
-    symbols = λ k l r. scope-frame .before k (omega (arith, rep .arena .scoped .few));
-    slots = λ k l r. scope-frame .before k (omega (arith, rep .slots .few));
-    scopes = λ k l r. scope-frame .before k r;
+    still = record {
+      long = scope-frame .long;
+      own = λ k l r. scope-frame .before k (omega (arith, rep .arena .scoped .few));
+      slots = λ k l r. scope-frame .before k (omega (arith, rep .slots .few));
+      scopes = λ k l r. scope-frame .before k r;
+    };
     entries = λ k l r. scope-frame .after k l;
     memo = λ k l r. scope-frame .after k (omega arith);
   }
@@ -52,25 +54,14 @@ module _ (bs ws : List ℕ) (st : State) (rep : Rep bs ws st) (few : st .scopes 
   module _ (t t′ : Tables) (is : Open t (st .entries)) where
     -- ---- what the state stands for
 
-    abbrev withBoth : intern.State → List (List ℕ) → List Scope → intern.State
-    withBoth s ts scs = record {
-      syms = s .syms;
-      tables = ts;
-      scopes = scs;
-      memo = s .memo;
-      readings = s .readings;
-    }
-
     pub scope-abs : (cur : ℕ) (args : Option (List ℕ)) (ts : List (List ℕ)) → tablesOf ws₁ t′ (st .entries) ≡ ts →
         scopesOf ws₁ (st .scopes + 1)
         ≡ scopesOf ws (st .scopes)
         ++ (record { around = outward (scopesOf ws (st .scopes)) cur; args = args } ∷ []) →
         absOf bs ws₁ t′ (withScope st) ≡ openScope cur args ts (absOf bs ws t st)
     scope-abs cur args ts e f =
-        ap (λ (s : intern.State). withBoth s (tablesOf ws₁ t′ (st .entries)) (scopesOf ws₁ (st .scopes + 1)))
-        (abs-same bs ws ws₁ st rep scope-same t is)
-        ∙ (ap (λ (z : List (List ℕ)). withBoth (absOf bs ws t st) z (scopesOf ws₁ (st .scopes + 1))) e
-        ∙ ap (withBoth (absOf bs ws t st) ts) f)
+        let kept = abs-same bs ws ws₁ st rep scope-same t is in
+        rw (e, f, ap (λ (z : intern.State). z .syms) kept, ap (λ (z : intern.State). z .memo) kept)
 
   -- ---- what holds of it
 

@@ -1,52 +1,43 @@
 -- What planning keeps: symbols, scopes and counts stand outside the plan's words. In order: the symbols; what is asked
 -- of the words; the graph.
 -- Assumes nothing.
-use Prim.Native.Nat.{ℕ, _+_, _*_, _<_}
+use Prim.Native.Nat.{ℕ, _+_, _<_}
 use mathlib.Core.Path.{_≡_, sym, ap, _∙_, subst}
 use mathlib.Core.List.{List}
 use native.Mathlib.Omega.{arith}
 use Rattle.model.specs.Gate.{Graph}
 use Rattle.key.specs.declared.Symbol.{Symbol}
 use Rattle.key.specs.Key.{symbolAt}
-use Rattle.laws.specs.Frame.{Agree}
-use Rattle.laws.proofs.Frame.{frame-below}
-use Rattle.regions.specs.Regions.{SLOTS, SCOPES, USES}
+use Rattle.regions.specs.Regions.{SLOTS, USES}
 use Rattle.symbols.specs.Words.{slotsFrom}
 use Rattle.symbols.specs.Symbols.{kidsAt}
 use Rattle.symbols.proofs.Laws.{syms-agree, kids-agree}
 use Rattle.scopes.proofs.Open.{scopes-agree}
 use Rattle.symbols.specs.Sourced.{Sourced}
 use Rattle.graph.specs.Graph.{Arena}
-use Rattle.graph.proofs.Laws.{node-agree, arena-agree}
+use Rattle.graph.proofs.Laws.{Still, still-above, node-agree, arena-agree}
 use Rattle.planner.specs.Grew.{PlanOnly}
 use Rattle.planner.specs.Building.{Opens, NoUse, Buildable, GraphIn}
 
 module _ {bs ws ws′ : List ℕ} {n m : ℕ} (k : PlanOnly ws ws′) (a : Arena bs ws n m) where
-  own-kept : Agree ws ws′ 0 (5 * n)
-  own-kept i l r = k .before i (omega (arith, a .scoped .few))
-
-  slots-kept : Agree ws ws′ (SLOTS .first) (SLOTS .first + SLOTS .size)
-  slots-kept = frame-below _ _ _ _ _ _ k (omega arith)
-
-  scopes-kept : Agree ws ws′ (SCOPES .first) (SCOPES .first + m)
-  scopes-kept i l r = k .before i (omega (arith, a .scoped .few-scopes))
+  still : Still ws ws′ (SLOTS .size) n m
+  still = still-above k (omega arith) (omega arith) (a .scoped)
 
   pub symbol-kept : (s : ℕ) → s < n → symbolAt ws′ s ≡ symbolAt ws s
-  symbol-kept = node-agree bs ws ws′ (SLOTS .size) n m (k .long) own-kept slots-kept scopes-kept
+  symbol-kept = node-agree still
 
   pub kids-kept : (s : ℕ) → s < n → kidsAt ws′ s ≡ kidsAt ws s
   kids-kept s lt =
       ap (λ (y : Symbol). slotsFrom ws′ (y .kids) (y .count)) (symbol-kept s lt)
-      ∙ kids-agree bs ws ws′ (SLOTS .size) slots-kept s (a .sound s lt)
+      ∙ kids-agree bs ws ws′ (SLOTS .size) (still .slots) s (a .sound s lt)
 
   arena-kept : Arena bs ws′ n m
-  arena-kept =
-      arena-agree bs ws ws′ (SLOTS .size) n m (k .long) own-kept slots-kept scopes-kept (λ i lt. a .sound i lt .slots) a
+  arena-kept = arena-agree still bs (λ i lt. a .sound i lt .slots) a
 
   graph-same : {gr : Graph} → GraphIn bs ws n m gr → GraphIn bs ws′ n m gr
   graph-same st = record {
-    syms = st .syms ∙ sym (syms-agree bs ws ws′ (SLOTS .size) slots-kept n own-kept (a .sound));
-    scopes = st .scopes ∙ sym (scopes-agree ws ws′ m scopes-kept);
+    syms = st .syms ∙ sym (syms-agree bs ws ws′ (SLOTS .size) (still .slots) n (still .own) (a .sound));
+    scopes = st .scopes ∙ sym (scopes-agree ws ws′ m (still .scopes));
     uses = λ s lt. k .after (USES .first + s) (omega arith) ∙ st .uses s lt;
   }
 

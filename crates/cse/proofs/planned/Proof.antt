@@ -34,8 +34,7 @@ materialize-requires c κs =
     let reached = u .reach-and-count .ensures in (
       accept-passed bs (treesOf bs) (b .pre .0) .shaped .sound .laid,
       (
-        buildable bs ws st rep root (b .pre .0) (b .pre .1 .1) counted (u .reach-and-count .kept .0)
-            (λ k l r. reached .kept .before k r),
+        buildable bs ws st rep root (b .pre .0) (b .pre .1 .1) counted (reached .kept),
         (root-low bs ws st rep root (b .pre .0) (b .pre .1 .1), uses-counted bs ws st rep root counted reached),
       ),
     )
