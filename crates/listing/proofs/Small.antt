@@ -13,16 +13,15 @@ use Rattle.model.specs.Tree.{Trees, sizes}
 use Rattle.model.specs.Forest.{treesOf}
 use Rattle.model.specs.Accept.{accept}
 use Rattle.model.specs.Intern.{State, Out}
-use Rattle.model.specs.Call.{Call, interned, check13, check14, treeChecks, writtenOf, measured, written, run}
+use Rattle.model.specs.Call.{Call, interned, treeChecks, writtenOf, measured, written, run}
 use Rattle.model.specs.Conditions.{interning, order}
 use Rattle.laws.proofs.Apart.{refused-parts}
-use Rattle.laws.proofs.Checks.{Says, _next_, first-says, refused-first}
+use Rattle.laws.proofs.Checks.{Check, Says, _next_, first-says, refused-first}
 use Rattle.laws.proofs.Header.{header-of, row-count}
 use Rattle.laws.specs.Members.{In}
 use Rattle.laws.proofs.Rows.{sizes-rows, closed-trees}
 use Rattle.theory.proofs.Promise.Refusals.{Limited}
-use Rattle.theory.proofs.Demand3.Places.{at-0}
-use Rattle.theory.proofs.Demand3.Order.{root-limited, applies-in}
+use Rattle.theory.proofs.Demand3.Order.{check-13, check-14, applies-in, root-limited}
 use Rattle.theory.proofs.Demand3.Exactly.{refused-applies}
 use Rattle.codec.proofs.Accepting.{accept-passed}
 use Rattle.cse.proofs.Places.{place-small}
@@ -46,14 +45,15 @@ records-most bs e =
 
 -- the checks of the tree have no place of their own
 places-0 : (room : ℕ) (o : ℕ × State) → Says (λ n p. p ≡ 0) (map (λ c. (c .0, c .1 o)) (treeChecks room))
-unfolding treeChecks check13 check14
-places-0 room o = (λ p e. at-0 _ p .0 e .0) next (λ p e. at-0 _ p .0 e .0) next tt
+unfolding treeChecks
+places-0 room o = (λ p e. check-13 room o p .0 e .0) next (λ p e. check-14 o p .0 e .0) next tt
 
 module _ (n p : ℕ) where
   tree-place : (room : ℕ) (o : ℕ × State) → measured room o ≡ refused n p → p ≡ 0
   unfolding measured
   tree-place room o e =
-      first-says (λ n p. p ≡ 0) _ (places-0 room o) n p (refused-first n p _ (writtenOf o) e)
+      let cs : List Check = map (λ c. (c .0, c .1 o)) (treeChecks room) in
+      first-says (λ n p. p ≡ 0) cs (places-0 room o) n p (refused-first n p cs (writtenOf o) e)
 
   -- interning refuses at a record
   made-place : (room end : ℕ) (m : Out) → end ≤ 256 → Limited end m → m >>= measured room ≡ refused n p → p ≤ 256

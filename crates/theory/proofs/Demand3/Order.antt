@@ -86,9 +86,9 @@ of-tree : (check : ℕ × State → Option ℕ) (m : Out) (p : ℕ) →
 of-tree check (refused n q) p = (λ e. none-some e, λ h. refused-good (h .1))
 of-tree check (good o) p = (λ e. (o, refl, e), λ h. let z : o ≡ h .0 = good-inj (h .1) in rw z (h .2))
 
-large : (room : ℕ) (o : ℕ × State) (p : ℕ) → (check13 room o ≡ some p) ↔ ((p ≡ 0) × TooLarge room o)
+pub check-13 : (room : ℕ) (o : ℕ × State) (p : ℕ) → (check13 room o ≡ some p) ↔ ((p ≡ 0) × TooLarge room o)
 unfolding check13
-large room o p =
+check-13 room o p =
     (λ e. let w = at-0 _ p .0 e in (w .0, to (or-true _ _ .0 (w .1))), λ h. at-0 _ p .1 (h .0, back (h .1)))
   where
     to2 : (ltb 256 (size (treeOf o)) ≡ true) ⊎ (ltb 65535 (length (bytesOf o)) ≡ true) → TooLarge room o
@@ -109,9 +109,9 @@ large room o p =
     back (inr (inr h)) =
         or-true (ltb 256 (size (treeOf o)) || ltb 65535 (length (bytesOf o))) _ .1 (inr (less _ _ .1 h))
 
-deep : (o : ℕ × State) (p : ℕ) → (check14 o ≡ some p) ↔ ((p ≡ 0) × (64 < depth (treeOf o)))
+pub check-14 : (o : ℕ × State) (p : ℕ) → (check14 o ≡ some p) ↔ ((p ≡ 0) × (64 < depth (treeOf o)))
 unfolding check14
-deep o p = (
+check-14 o p = (
   λ e. let w = at-0 _ p .0 e in (w .0, less _ _ .0 (w .1)),
   λ h. at-0 _ p .1 (h .0, less _ _ .1 (h .1)),
 )
@@ -235,8 +235,8 @@ module _ (c : Call) where
   late-exact =
       (λ p. (λ e. at-11 p (refused-at 11 made p .0 e), λ h. refused-at 11 made p .1 (only-11 p h))) next
       (λ p. (λ e. at-12 p (refused-at 12 made p .0 e), λ h. refused-at 12 made p .1 (only-12 p h))) next
-      at-tree (check13 (c .room)) (TooLarge (c .room)) 13 (large (c .room)) at-13 only-13 next
-      at-tree check14 (λ o. 64 < depth (treeOf o)) 14 deep at-14 only-14 next
+      at-tree (check13 (c .room)) (TooLarge (c .room)) 13 (check-13 (c .room)) at-13 only-13 next
+      at-tree check14 (λ o. 64 < depth (treeOf o)) 14 check-14 at-14 only-14 next
       tt
 
   pub call-exact : Exact (Applies c) (callChecks c)
