@@ -47,7 +47,7 @@ returns c =
     let rep = b .pre .1 .0 in
     planned-tree (now (b .args .forest)) (now (b .args .work)) (b .args .st) rep (b .args .root)
     (u .reach-and-count .last .0) (u .reach-and-count .ensures) (m .materialize .last .1 .0) (m .materialize .result)
-    (omega (arith, rep .words, u .reach-and-count .kept .0, m .materialize .kept .1 .0)) (m .materialize .ensures)
+    (omega (arith, rep .arena .scoped .words, u .reach-and-count .kept .0, m .materialize .kept .1 .0)) (m .materialize .ensures)
 
 pub planned-spec : {M : Type 1} → statement M
 planned-spec =
