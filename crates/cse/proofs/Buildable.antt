@@ -22,13 +22,13 @@ use Rattle.laws.specs.Range.{range}
 use Rattle.laws.proofs.Holds.{holds-good}
 use Rattle.laws.proofs.Members.{clash}
 use Rattle.laws.proofs.ArgLists.{args-length, withOpts-syms}
-use Rattle.laws.proofs.Falls.{Under}
+use Rattle.laws.specs.Members.{Under}
 use Rattle.laws.proofs.Ranges.{range-length, in-range}
 use Rattle.theory.proofs.Acceptance.Records.{fits-at}
-use Rattle.theory.proofs.Interning.Good.{isPlain, Plain, NodeOk}
+use Rattle.theory.specs.Good.{isPlain, Plain, NodeOk}
 use Rattle.theory.proofs.Interning.Interned.{Ready, interned-ready}
-use Rattle.theory.proofs.Bounds.Sound.{NodeSound, SymSound}
-use Rattle.theory.proofs.Bounds.Limits.{Any, Leaves, forest-sound}
+use Rattle.theory.specs.Sound.{NodeSound, SymSound, Any}
+use Rattle.theory.proofs.Bounds.Limits.{Leaves, forest-sound}
 use Rattle.record.specs.Record.{rowAt}
 use Rattle.walk.proofs.Bridge.{row-fits}
 use Rattle.codec.proofs.Accepting.{accept-passed}

@@ -13,7 +13,7 @@ use Rattle.gate.specs.Gate.{usesAt, cleared, tallied, Countable, CountsO
 use Rattle.laws.proofs.Frame.{frame-none, frame-then}
 use Rattle.regions.specs.Regions.{WORDS}
 use Rattle.laws.proofs.Once.{count-append}
-use Rattle.laws.proofs.Falls.{Under}
+use Rattle.laws.specs.Members.{Under}
 use Rattle.gate.proofs.Words.{cleared-frame}
 use Rattle.gate.proofs.Words.{cleared-zero, allNoted-frame, allNoted-uses}
 use Rattle.gate.proofs.Run.{kids-under, kids-kept, countable-kept}

@@ -12,10 +12,9 @@ use borrow.Author.Tests.{eq-eqb, ne-eqb}
 use Rattle.model.specs.Lists.{isIn, count, union}
 use Rattle.model.specs.Intern.{Sym, symAt}
 use Rattle.model.specs.Gate.{reach, slotsOf}
-use Rattle.laws.specs.Members.{In, Once}
+use Rattle.laws.specs.Members.{In, Once, Under}
 use Rattle.laws.proofs.Members.{isIn-false, not-in-isIn, union-left, union-cases}
 use Rattle.laws.proofs.Once.{reach-once, count-append}
-use Rattle.laws.proofs.Falls.{Under}
 
 -- ---- what `reach` adds
 

@@ -17,7 +17,7 @@ use Rattle.symbols.specs.Symbols.{kidsAt}
 use Rattle.symbols.proofs.Words.{words-length, words-under, words-more, words-agree}
 use Rattle.gate.specs.Gate.{usesAt, noted, allNoted, Lower, Countable, Small, Notable, CountsOnly}
 use Rattle.laws.proofs.Once.{count-short}
-use Rattle.laws.proofs.Falls.{Under}
+use Rattle.laws.specs.Members.{Under}
 use Rattle.gate.proofs.Words.{allNoted-more, allNoted-frame, allNoted-uses}
 
 -- ---- one word more

@@ -11,7 +11,7 @@ use Rattle.regions.specs.Regions.{SLOTS, WORDS}
 use Rattle.symbols.specs.Symbols.{kidsAt}
 use Rattle.gate.specs.Gate.{usesAt, allNoted, visited, visitedDown, tallied, Lower, Countable, Small, CountsOnly}
 use Rattle.laws.proofs.Frame.{frame-none, frame-then}
-use Rattle.laws.proofs.Falls.{Under}
+use Rattle.laws.specs.Members.{Under}
 use Rattle.gate.proofs.Words.{allNoted-frame, allNoted-uses}
 use Rattle.gate.proofs.Run.{kids-under, kids-short, kids-kept, countable-kept}
 use Rattle.gate.proofs.Visits.{visited-frame, visited-bound, visited-agree}

@@ -19,7 +19,7 @@ use Rattle.laws.proofs.Members.{isIn-true, in-isIn, union-left}
 use Rattle.symbols.specs.Symbols.{kidsAt, symsOf}
 use Rattle.symbols.proofs.Laws.{kids-at}
 use Rattle.gate.specs.Gate.{usesAt, reachedAt, cleared, allNoted, visited, visitedDown, Countable, CountsOnly, Reached}
-use Rattle.laws.proofs.Falls.{Under}
+use Rattle.laws.specs.Members.{Under}
 use Rattle.gate.proofs.Words.{cleared-frame, cleared-zero}
 use Rattle.gate.proofs.Words.{allNoted-frame, allNoted-uses, allNoted-reached}
 use Rattle.gate.proofs.Reach.{reach-keeps, reach-misses, total, slots-total}

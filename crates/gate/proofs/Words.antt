@@ -16,7 +16,7 @@ use Rattle.model.specs.Lists.{isIn, count, add, union}
 use Rattle.laws.proofs.Frame.{frame-none, frame-then, frame-store}
 use Rattle.regions.specs.Regions.{USES, REACHED, WORDS}
 use Rattle.laws.proofs.Members.{in-isIn, in-right, isIn-last}
-use Rattle.laws.proofs.Falls.{Under}
+use Rattle.laws.specs.Members.{Under}
 use Rattle.gate.specs.Gate.{usesAt, reachedAt, cleared, noted, allNoted, CountsOnly}
 
 -- ---- members of a list with one more, and counts

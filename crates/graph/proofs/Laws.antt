@@ -14,7 +14,7 @@ use Rattle.model.specs.Intern.{Sym, noSym, symAt}
 use Rattle.model.specs.Gate.{symOf}
 use Rattle.model.specs.Schedule.{isArg, isOutside, relOf}
 use Rattle.laws.specs.Frame.{Agree, Frame}
-use Rattle.laws.proofs.Falls.{Under}
+use Rattle.laws.specs.Members.{Under}
 use Rattle.key.specs.declared.Symbol.{Symbol}
 use Rattle.key.specs.declared.Parts.{Parts}
 use Rattle.key.specs.declared.Node.{Node}

@@ -20,7 +20,8 @@ use Rattle.model.specs.Intern as intern
 use Rattle.model.specs.Call.{interned}
 use Rattle.laws.specs.Frame.{Frame}
 use Rattle.laws.proofs.Frame.{frame-then, frame-wider}
-use Rattle.laws.proofs.Clear.{Clear, clear-left, clear-right, first-clear}
+use Rattle.laws.specs.Clear.{Clear}
+use Rattle.laws.proofs.Clear.{clear-left, clear-right, first-clear}
 use Rattle.laws.proofs.Header.{header-of}
 use Rattle.laws.specs.Stack.{stackOf}
 use Rattle.walk.specs.Walk.{Sound}

@@ -9,35 +9,21 @@
 use mathlib.Core.Path.{_≡_, refl, ap, sym, _∙_}
 use mathlib.Core.Bool.{Bool, true, false, _&&_}
 use mathlib.Core.Option.{Option, none, some}
-use mathlib.Core.List.{List, [], _∷_, _++_, map}
+use mathlib.Core.List.{List, [], _∷_, _++_}
 use Prim.Native.Nat.{ℕ, zero, suc, _+_, _-_, _≤_}
 use native.Mathlib.Omega.{arith}
 use lib.Dec.{eqb, leb, ltb}
 use lib.ListN.{length, drop, take, length-append, length-take, length-map, take-append-drop}
 use lib.Seq.{drop-at, take-append-seam, drop-append-seam, drop-drop}
 use borrow.Author.Tests.{leb-true, le-leb}
-use Rattle.model.specs.Tree.{Rec}
 use Rattle.model.specs.Shape.{Reader, aId, aType, aOpt, _then_, times, whole}
 use Rattle.model.specs.Binding.{optOf, argsOf}
 use Rattle.model.specs.Intern.{withOpts}
+use Rattle.laws.specs.ArgLists.{ArgList, symsIn, optsIn, IsOpt, AllOpts}
 use Rattle.laws.proofs.Apart.{none-some, false-true}
 use Rattle.laws.proofs.Members.{and-both}
 
 -- ---- the list and its parts
-
--- an id or a symbol, and an opt
-abbrev pub ArgList : Type 0
-ArgList = List (ℕ × List ℕ)
-
-abbrev pub symsIn : ArgList → List ℕ
-symsIn xs = map (λ x. x .0) xs
-
-abbrev pub optsIn : ArgList → List (List ℕ)
-optsIn xs = map (λ x. x .1) xs
-
--- those that a lambda's record binds
-abbrev pub boundBy : Rec → ArgList
-boundBy r = argsOf (r .aux) (r .lit)
 
 pub args-length : (n : ℕ) (bs : List ℕ) → length (argsOf n bs) ≡ n
 unfolding argsOf
@@ -62,14 +48,6 @@ pub withOpts-length : (xs : ArgList) (ss : List ℕ) → length ss ≡ length xs
 withOpts-length xs ss e = sym (length-map (withOpts xs ss) (λ x. x .0)) ∙ (ap length (withOpts-syms xs ss e) ∙ e)
 
 -- ---- opts
-
--- an opt reads as itself, whatever follows
-abbrev pub IsOpt : List ℕ → Type 0
-IsOpt o = (rest : List ℕ) → aOpt (o ++ rest) ≡ some rest
-
-abbrev pub AllOpts : List (List ℕ) → Type 0
-AllOpts [] = Unit {0}
-AllOpts (o ∷ os) = IsOpt o × AllOpts os
 
 -- what a reader took off a list: a part that it reads as itself, whatever follows
 abbrev Taken : Reader → List ℕ → List ℕ → Type 0

@@ -25,8 +25,9 @@ use Rattle.laws.specs.Defining.{defsOf, idsFrom, membersIn}
 use Rattle.laws.proofs.Apart.{false-true}
 use Rattle.laws.proofs.Down.{down-step, under-low}
 use Rattle.laws.proofs.Members.{and-both}
-use Rattle.laws.proofs.ArgLists.{ArgList}
-use Rattle.laws.proofs.Falls.{Under, under-at, schedule-low}
+use Rattle.laws.specs.ArgLists.{ArgList}
+use Rattle.laws.specs.Members.{Under}
+use Rattle.laws.proofs.Falls.{under-at, schedule-low}
 use Rattle.laws.specs.Members.{Once}
 use Rattle.laws.proofs.Symbols.{every-sym}
 use Rattle.laws.proofs.Defining.{defs-member, defs-other, along, process-is, members-fixed}

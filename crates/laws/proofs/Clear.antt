@@ -8,14 +8,10 @@ use mathlib.Core.Option.{Option, none, some}
 use mathlib.Core.List.{List, [], _∷_, _++_}
 use Prim.Native.Nat.{ℕ, suc}
 use Rattle.model.specs.Lists.{first}
+use Rattle.laws.specs.Clear.{Clear}
 use Rattle.laws.proofs.Apart.{some-none}
 
 -- ---- `Clear`, and lists joined
-
--- no test of a list is true
-abbrev pub Clear : List Bool → Type 0
-Clear [] = Unit {0}
-Clear (b ∷ bs) = (b ≡ false) × Clear bs
 
 pub clear-left : (bs cs : List Bool) → Clear (bs ++ cs) → Clear bs
 clear-left [] cs h = tt

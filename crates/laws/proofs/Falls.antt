@@ -16,14 +16,11 @@ use Rattle.model.specs.Schedule.{isArg, relOf, visit, bodyOnly, bodyNeighbours,
 use Rattle.model.specs.Schedule.{schedule}
 use Rattle.laws.proofs.Induction.{strong}
 use Rattle.laws.proofs.Down.{down-step}
-use Rattle.laws.specs.Members.{Every}
+use Rattle.laws.specs.Members.{Under}
 use Rattle.laws.proofs.Walks.{under-holds, every-none, every-if, every-rel, visit-every, body-every}
 use Rattle.laws.proofs.Walks.{collect-every, order-every}
 
 -- ---- lists of lower numbers
-
-abbrev pub Under : ℕ → List ℕ → Type 0
-Under n xs = Every (λ x. x < n) xs
 
 -- member j
 pub under-at : (n : ℕ) (xs : List ℕ) → Under n xs → (j : ℕ) → j < length xs → getD xs j 0 < n

@@ -16,7 +16,8 @@ use Rattle.model.specs.Bytes.{put32}
 use Rattle.model.specs.Intern.{withOpts, Env}
 use Rattle.model.specs.Materialize.{idGiven, argLit, argEnv}
 use Rattle.laws.specs.Range.{range}
-use Rattle.laws.proofs.ArgLists.{ArgList, withOpts-length}
+use Rattle.laws.specs.ArgLists.{ArgList}
+use Rattle.laws.proofs.ArgLists.{withOpts-length}
 use Rattle.laws.proofs.Ranges.{range-length}
 
 -- ---- an id given

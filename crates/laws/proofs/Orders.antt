@@ -21,9 +21,9 @@ use Rattle.model.specs.Schedule.{operands, localDepOrder, bodyOnly, bodyNeighbo
 use Rattle.model.specs.Schedule.{freeVars}
 use Rattle.laws.proofs.Induction.{strong}
 use Rattle.laws.proofs.Down.{under-low, under-same, down-step}
-use Rattle.laws.specs.Members.{In, Every}
+use Rattle.laws.specs.Members.{In, Every, Under}
 use Rattle.laws.proofs.Members.{not-in-isIn, isIn-false}
-use Rattle.laws.proofs.Falls.{Under, or-below, visit-low, body-falls, free-falls}
+use Rattle.laws.proofs.Falls.{or-below, visit-low, body-falls, free-falls}
 
 -- ---- a step for each of a list
 

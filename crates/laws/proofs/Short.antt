@@ -16,10 +16,10 @@ use Rattle.model.specs.Down.{under, downFuel, down}
 use Rattle.model.specs.Gate.{Graph, symOf}
 use Rattle.model.specs.Schedule.{isArg, isOutside, relOf, each, visitStep, visit, bodyNeighbours, outsiders, collect}
 use Rattle.model.specs.Schedule.{freeStep, freeVars, neighbours, schedule}
-use Rattle.laws.specs.Members.{In, Once}
+use Rattle.laws.specs.Members.{In, Once, Under}
 use Rattle.laws.proofs.Members.{isIn-false, in-either}
 use Rattle.laws.proofs.Once.{snoc-once, add-once}
-use Rattle.laws.proofs.Falls.{Under, or-below, Falls, visit-low, body-falls, free-falls, neighbours-fall}
+use Rattle.laws.proofs.Falls.{or-below, Falls, visit-low, body-falls, free-falls, neighbours-fall}
 
 -- ---- each number once
 

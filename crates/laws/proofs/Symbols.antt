@@ -12,7 +12,7 @@ use lib.Dec.{ltb}
 use lib.ListN.{length, List·getD-eq-default}
 use borrow.Author.Tests.{ltb-true, ltb-false}
 use Rattle.model.specs.Intern.{Sym, noSym, symAt}
-use Rattle.laws.proofs.Falls.{Under}
+use Rattle.laws.specs.Members.{Under}
 
 pub every-sym : (P : ℕ → Sym → Type 0) (ss : List Sym) → ((s : ℕ) → s < length ss → P s (symAt ss s)) →
     ((s : ℕ) → P s noSym) → (s : ℕ) → P s (symAt ss s)

@@ -12,7 +12,8 @@ use Rattle.model.specs.Intern.{Env, withOpts}
 use Rattle.model.specs.Gate as model
 use Rattle.model.specs.Materialize.{argLit, argEnv, buildNode, buildValue, processScope}
 use Rattle.laws.specs.Range.{range}
-use Rattle.laws.proofs.ArgLists.{ArgList, args-length}
+use Rattle.laws.specs.ArgLists.{ArgList}
+use Rattle.laws.proofs.ArgLists.{args-length}
 use Rattle.laws.proofs.Trees.{one-rows, one-depth}
 use Rattle.laws.proofs.Numbering.{withRange-length, withRange-lit}
 use Rattle.laws.proofs.Frame.{frame-then}

@@ -14,10 +14,9 @@ use Rattle.model.specs.Intern.{Sym, func}
 use Rattle.model.specs.Intern as intern
 use Rattle.model.specs.Gate.{Graph, symOf}
 use Rattle.model.specs.Schedule.{isArg, schedule}
-use Rattle.laws.specs.Members.{Once}
+use Rattle.laws.specs.Members.{Once, Under}
 use Rattle.laws.proofs.Apart.{false-true}
-use Rattle.laws.proofs.ArgLists.{ArgList}
-use Rattle.laws.proofs.Falls.{Under}
+use Rattle.laws.specs.ArgLists.{ArgList}
 use Rattle.laws.proofs.Short.{schedule-once}
 use Rattle.laws.proofs.Building.{BodyLow, body-low, NoUses, no-uses}
 use Rattle.regions.specs.Regions.{SLOTS}

@@ -15,7 +15,7 @@ use borrow.Author.Tests.{eqb-true, eqb-false, ltb-true, ltb-false}
 use Rattle.model.specs.Intern.{Env, withOpts}
 use Rattle.model.specs.Materialize.{idGiven, argEnv}
 use Rattle.laws.specs.Range.{range}
-use Rattle.laws.proofs.ArgLists.{ArgList}
+use Rattle.laws.specs.ArgLists.{ArgList}
 use Rattle.laws.proofs.Ranges.{range-length, range-more, range-at}
 use Rattle.laws.proofs.Numbering.{given-new, given-before, given-after}
 use Rattle.laws.proofs.Runs.{sets-run, sets-before, sets-after, sets-more}

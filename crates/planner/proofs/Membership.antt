@@ -20,9 +20,8 @@ use Rattle.model.specs.Materialize.{idGiven, member}
 use Rattle.laws.specs.Defining.{membersIn}
 use Rattle.laws.specs.Range.{range}
 use Rattle.laws.proofs.Defining.{members-append, members-member, members-other}
-use Rattle.laws.specs.Members.{In}
+use Rattle.laws.specs.Members.{In, Under}
 use Rattle.laws.proofs.Ranges.{range-more, in-range}
-use Rattle.laws.proofs.Falls.{Under}
 use Rattle.regions.specs.Regions.{USES}
 use Rattle.key.specs.declared.Symbol.{Symbol}
 use Rattle.key.specs.Key.{symbolAt}

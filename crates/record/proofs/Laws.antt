@@ -18,7 +18,8 @@ use Rattle.model.specs.Shape.{Pairs}
 use Rattle.model.specs.Forest.{recordCount, pairsAt, pairsOf, rowOf, rowsAt, rowsIn, bodyStart}
 use Rattle.model.specs.Forest.{badPairs, check3}
 use Rattle.laws.proofs.Apart.{some-none}
-use Rattle.laws.proofs.Clear.{Clear, first-clear}
+use Rattle.laws.specs.Clear.{Clear}
+use Rattle.laws.proofs.Clear.{first-clear}
 use Rattle.laws.proofs.Header.{pairs-length}
 use Rattle.laws.proofs.Members.{or-neither}
 use Rattle.record.specs.Record.{Laid, Lies, startOf, sizeOf, noRow, rowAt}

@@ -14,7 +14,8 @@ use Rattle.model.specs.Lists.{isIn}
 use Rattle.model.specs.Gate.{Graph, symOf}
 use Rattle.model.specs.Schedule.{Rel, local, deeper, outside, relOf, each, visit, bodyNeighbours, localDepOrder}
 use Rattle.model.specs.Schedule.{outsiders, collect, freeStep, freeVars}
-use Rattle.laws.proofs.Falls.{Under, visit-low, body-falls, free-falls}
+use Rattle.laws.specs.Members.{Under}
+use Rattle.laws.proofs.Falls.{visit-low, body-falls, free-falls}
 use Rattle.laws.proofs.Orders.{own-local, collect-last, free-opens}
 use Rattle.key.specs.declared.Symbol.{Symbol}
 use Rattle.key.specs.Key.{symbolAt}

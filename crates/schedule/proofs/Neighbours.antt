@@ -10,9 +10,9 @@ use Rattle.model.specs.Lists.{isIn}
 use Rattle.model.specs.Gate.{Graph, symOf}
 use Rattle.model.specs.Schedule.{isArg, Rel, local, deeper, outside, isOutside, relOf, each, visit, bodyOnly}
 use Rattle.model.specs.Schedule.{bodyNeighbours, freeVars, neighbours}
-use Rattle.laws.specs.Members.{In}
+use Rattle.laws.specs.Members.{In, Under}
 use Rattle.laws.proofs.Walks.{every-none, every-if, every-rel}
-use Rattle.laws.proofs.Falls.{Under, body-falls, free-falls, neighbours-fall}
+use Rattle.laws.proofs.Falls.{body-falls, free-falls, neighbours-fall}
 use Rattle.laws.proofs.Short.{visit-adds}
 use Rattle.laws.proofs.Orders.{each-same, unless, each-body, visited, visit-opens, Adds, each-fresh, own-local}
 use Rattle.scopes.specs.declared.Rel as code

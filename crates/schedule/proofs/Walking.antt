@@ -11,7 +11,8 @@ use lib.Seq.{take-suc}
 use Rattle.model.specs.Lists.{isIn}
 use Rattle.model.specs.Gate.{Graph, symOf}
 use Rattle.model.specs.Schedule.{Rel, local, deeper, outside, relOf, each, freeVars, schedule}
-use Rattle.laws.proofs.Falls.{Under, schedule-low}
+use Rattle.laws.specs.Members.{Under}
+use Rattle.laws.proofs.Falls.{schedule-low}
 use Rattle.laws.proofs.Orders.{each-last}
 use Rattle.regions.specs.Regions.{SLOTS}
 use Rattle.key.specs.declared.Symbol.{Symbol}

@@ -17,20 +17,22 @@ use Rattle.model.specs.Accept.{accept}
 use Rattle.model.specs.Intern.{State, Env, start, read, allocArgs, bindArgs, openScope, openThunk, thunked}
 use Rattle.laws.proofs.Holds.{holds-good}
 use Rattle.laws.proofs.Members.{clash}
-use Rattle.laws.proofs.ArgLists.{boundBy}
-use Rattle.theory.proofs.Acceptance.Checked.{CheckedIn, checked-head, checked-kids}
+use Rattle.laws.specs.ArgLists.{boundBy}
+use Rattle.theory.specs.Checked.{CheckedIn}
+use Rattle.theory.proofs.Acceptance.Checked.{checked-head, checked-kids}
 use Rattle.theory.proofs.Acceptance.Records.{kind-shape, lam-child, field-child, op-lambda}
 use Rattle.theory.proofs.Acceptance.Accept.{accepted}
-use Rattle.theory.proofs.Interning.Good.{scopeCount}
-use Rattle.theory.proofs.Interning.Inv.{keys}
+use Rattle.theory.specs.Good.{scopeCount}
+use Rattle.theory.specs.Inv.{keys}
 use Rattle.theory.proofs.Interning.Fresh.{bindArgs-keys}
 use Rattle.theory.proofs.Interning.Body.{ArgsDone, args-done, opened}
 use Rattle.theory.proofs.Interning.Walk.{isBlock-is}
-use Rattle.theory.proofs.Bounds.Sound.{Sound, room-less, KeepsArgs}
+use Rattle.theory.specs.Sound.{Sound, Any}
+use Rattle.theory.proofs.Bounds.Sound.{room-less, KeepsArgs}
 use Rattle.theory.proofs.Bounds.Steps.{allocArgs-keeps, open-sound, open-room, read-room}
 use Rattle.theory.proofs.Bounds.Kinds.{inside-of, lambda-plain}
 use Rattle.theory.proofs.Bounds.Trees.{start-room}
-use Rattle.theory.proofs.Bounds.Limits.{Any, any-tree}
+use Rattle.theory.proofs.Bounds.Limits.{any-tree}
 use Rattle.standing.specs.Standing.{Standing, Well, WellAll}
 use Rattle.standing.proofs.Moves.{start-stands, read-stands, thunk-stands, body-stands}
 

@@ -16,8 +16,8 @@ use Rattle.model.specs.Intern.{Scope, State, rootScope, scopeAt, unionDeps, ope
 use Rattle.laws.proofs.Apart.{none-some}
 use Rattle.laws.specs.Members.{In, Every}
 use Rattle.interner.specs.Levels.{Bound, InForce}
-use Rattle.theory.proofs.Interning.Good.{scopeCount}
-use Rattle.theory.proofs.Interning.Inv.{Grow}
+use Rattle.theory.specs.Good.{scopeCount}
+use Rattle.theory.specs.Inv.{Grow}
 use Rattle.theory.proofs.Interning.Push.{unionDeps-from}
 use Rattle.theory.proofs.Interning.Scopes.{open-grows}
 use Rattle.standing.specs.Standing.{Result}

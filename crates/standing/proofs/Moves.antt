@@ -11,12 +11,13 @@ use Prim.Native.Nat.{ℕ, _<_}
 use native.Mathlib.Omega.{arith}
 use Rattle.model.specs.Tree.{Rec}
 use Rattle.model.specs.Intern.{Sym, Scope, State, Env, start, read, openThunk}
-use Rattle.laws.proofs.ArgLists.{boundBy}
+use Rattle.laws.specs.ArgLists.{boundBy}
 use Rattle.laws.specs.Members.{In}
 use Rattle.interner.specs.Levels.{Bound}
-use Rattle.theory.proofs.Interning.Good.{symCount, scopeCount}
-use Rattle.theory.proofs.Interning.Inv.{HasArg, has-arg, arg-in, keys, EnvOk, env-later, Fits, fits-back}
-use Rattle.theory.proofs.Interning.Inv.{Grow, grow-same}
+use Rattle.theory.specs.Good.{symCount, scopeCount}
+use Rattle.theory.specs.Inv.{HasArg, keys, EnvOk, Fits, Grow}
+use Rattle.theory.proofs.Interning.Inv.{has-arg, arg-in, env-later, fits-back}
+use Rattle.theory.proofs.Interning.Inv.{grow-same}
 use Rattle.theory.proofs.Interning.Finish.{Step}
 use Rattle.theory.proofs.Interning.Finish as finish
 use Rattle.theory.proofs.Interning.Fresh.{bindArgs-cases}
@@ -27,11 +28,10 @@ use Rattle.theory.proofs.Interning.Body.{ArgsDone, opened, opened-inv, opened-e
 use Rattle.theory.proofs.Interning.Operands.{thunk-opens}
 use Rattle.theory.proofs.Interning.Walk.{read-inv}
 use Rattle.theory.proofs.Interning.Interned.{start-inv}
-use Rattle.theory.proofs.Bounds.Sound.{Sound}
+use Rattle.theory.specs.Sound.{Sound, Any}
 use Rattle.theory.proofs.Bounds.Steps.{read-sound, open-more}
 use Rattle.theory.proofs.Bounds.Kinds.{EnvLow}
 use Rattle.theory.proofs.Bounds.Trees.{start-sound, thunk-sound}
-use Rattle.theory.proofs.Bounds.Limits.{Any}
 use Rattle.standing.specs.Standing.{Standing, Result}
 use Rattle.standing.proofs.Forced.{bound-later, bound-inside, bound-own}
 

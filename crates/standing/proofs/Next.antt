@@ -15,9 +15,10 @@ use Rattle.model.specs.Tree.{Tree, Trees, cons, many, isNil}
 use Rattle.model.specs.Unfold.{unfoldAt}
 use Rattle.model.specs.Intern.{State, Env, bindDef, thunked, internScoped, intern, internAll}
 use Rattle.laws.proofs.Holds.{holds-good}
-use Rattle.theory.proofs.Acceptance.Checked.{Checked, checked-head, checked-tail}
-use Rattle.theory.proofs.Interning.Good.{symCount, scopeCount}
-use Rattle.theory.proofs.Interning.Inv.{keys}
+use Rattle.theory.specs.Checked.{Checked}
+use Rattle.theory.proofs.Acceptance.Checked.{checked-head, checked-tail}
+use Rattle.theory.specs.Good.{symCount, scopeCount}
+use Rattle.theory.specs.Inv.{keys}
 use Rattle.theory.proofs.Interning.Keep.{KeptAll, last-in}
 use Rattle.theory.proofs.Interning.Operands.{KeptIn, bindDef-keys, bindDef-env}
 use Rattle.theory.proofs.Interning.Walk.{internAll-keeps}
@@ -25,11 +26,12 @@ use Rattle.theory.proofs.Interning.Walk as walk
 use Rattle.theory.proofs.Interning.Reread.{sound-tabled, bound-fits, reread-more, reread-all}
 use Rattle.theory.proofs.Interning.Reread.Later.{withReadings}
 use Rattle.theory.proofs.Interning.Reread.Kinds.{EnvFits}
-use Rattle.theory.proofs.Bounds.Sound.{thunks, room-less, KeepsAll}
+use Rattle.theory.specs.Sound.{thunks, Any}
+use Rattle.theory.proofs.Bounds.Sound.{room-less, KeepsAll}
 use Rattle.theory.proofs.Bounds.Kinds.{plainKids}
 use Rattle.theory.proofs.Bounds.Trees.{scopeFree, Scoped, free-more, all-keep}
 use Rattle.theory.proofs.Bounds.Trees as trees
-use Rattle.theory.proofs.Bounds.Limits.{Any, any-tree, any-trees}
+use Rattle.theory.proofs.Bounds.Limits.{any-tree, any-trees}
 use Rattle.standing.specs.Standing.{WellAll, Result, AllRead}
 use Rattle.standing.proofs.Moves.{env-ok, env-low, step-stands, step-gives, result-of}
 

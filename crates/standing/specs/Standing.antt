@@ -12,13 +12,11 @@ use Rattle.model.specs.Tree.{Tree, Trees, many}
 use Rattle.model.specs.Intern.{Sym, Scope, State, Env, symAt}
 use Rattle.laws.specs.Members.{In, Every}
 use Rattle.interner.specs.Levels.{Bound, InForce}
-use Rattle.theory.proofs.Acceptance.Checked.{Checked, CheckedIn}
-use Rattle.theory.proofs.Interning.Good.{symCount, scopeCount}
-use Rattle.theory.proofs.Interning.Inv.{Args, argSyms, keys, Inv, EnvOk, Fits, Grow}
+use Rattle.theory.specs.Checked.{Checked, CheckedIn}
+use Rattle.theory.specs.Good.{symCount, scopeCount}
+use Rattle.theory.specs.Inv.{Args, argSyms, keys, Inv, EnvOk, Fits, Grow}
 use Rattle.laws.specs.Slots.{slotsIn}
-use Rattle.theory.proofs.Bounds.Sound.{Sound, Room}
-use Rattle.theory.proofs.Bounds.Kinds.{Pays}
-use Rattle.theory.proofs.Bounds.Limits.{Any}
+use Rattle.theory.specs.Sound.{Sound, Room, Pays, Any}
 
 -- ---- a state, seen from scope `cur` with ids bound
 

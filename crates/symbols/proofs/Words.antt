@@ -9,7 +9,7 @@ use native.Mathlib.Numerals.{add-one}
 use lib.ListN.{length, getD, set}
 use lib.Seq.{sets, ext-getD}
 use Rattle.laws.specs.Frame.{Agree}
-use Rattle.laws.proofs.Falls.{Under}
+use Rattle.laws.specs.Members.{Under}
 use Rattle.laws.proofs.Runs.{sets-run, sets-after, sets-more}
 use Rattle.symbols.specs.Words.{wordsFrom}
 

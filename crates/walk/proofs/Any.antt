@@ -9,7 +9,8 @@ use lib.Dec.{eqb}
 use Rattle.model.specs.Lists.{first}
 use Rattle.model.specs.Tree.{Rec, Tree, Trees, node, nil, cons}
 use Rattle.laws.proofs.Apart.{true-false}
-use Rattle.laws.proofs.Clear.{Clear, clear-left, clear-right, clear-join, first-clear, clear-first}
+use Rattle.laws.specs.Clear.{Clear}
+use Rattle.laws.proofs.Clear.{clear-left, clear-right, clear-join, first-clear, clear-first}
 use Rattle.walk.specs.Faults.{Ctx, start, inner, here, later, faults, faultsIn}
 use Rattle.walk.specs.Faults.{deepAt, misplacedAt, reboundAt, unboundAt, anyAt, test}
 

@@ -17,7 +17,8 @@ use Rattle.model.specs.Shape.{fits}
 use Rattle.model.specs.Forest.{treeCount, recordCount, rowsIn, treesOf, unclosed, check4}
 use Rattle.model.specs.Forest.{check6}
 use Rattle.laws.proofs.Apart.{some-none}
-use Rattle.laws.proofs.Clear.{Clear, first-clear}
+use Rattle.laws.specs.Clear.{Clear}
+use Rattle.laws.proofs.Clear.{first-clear}
 use Rattle.shape.specs.Args.{Left}
 use Rattle.shape.proofs.Fitting.{fits-use, fits-def, fits-func}
 use Rattle.record.specs.Record.{noRow, rowAt}

@@ -18,11 +18,12 @@ use Rattle.model.specs.Shape.{fits, agrees}
 use Rattle.model.specs.Forest.{treeCount, rowsIn, treesOf, check4, check5}
 use Rattle.model.specs.Binding.{misplacedIn, reboundIn, unboundIn, check8, check9, check10}
 use Rattle.model.specs.Accept.{checks, accept}
-use Rattle.laws.proofs.Clear.{Clear, first-clear}
+use Rattle.laws.specs.Clear.{Clear}
+use Rattle.laws.proofs.Clear.{first-clear}
 use Rattle.laws.proofs.Checks.{Passes, checked-good}
 use Rattle.laws.proofs.Header.{header-of}
 use Rattle.laws.proofs.Rows.{closed-trees}
-use Rattle.theory.proofs.Acceptance.Checked.{Fine, Fines, CheckedIn}
+use Rattle.theory.specs.Checked.{Fine, Fines, CheckedIn}
 
 -- ---- checks 4 and 5, of rows and of trees
 

@@ -22,14 +22,16 @@ use Rattle.model.specs.Forest.{treeCount, recordCount, pairsAt, pairsOf, rowOf,
 use Rattle.model.specs.Forest.{check2, badPairs, check3, check4, check5, unclosed, check6, deep, deeps, check7}
 use Rattle.model.specs.Binding.{misplacedIn, reboundIn, unboundIn, check8, check9, check10}
 use Rattle.model.specs.Accept.{checks, accept}
-use Rattle.laws.proofs.Clear.{Clear, clear-first, clear-join}
+use Rattle.laws.specs.Clear.{Clear}
+use Rattle.laws.proofs.Clear.{clear-first, clear-join}
 use Rattle.laws.proofs.Checks.{Passes, passes-checked, _also_}
 use Rattle.laws.proofs.Members.{neither-or, both-and}
 use Rattle.laws.specs.Rows.{total}
 use Rattle.laws.proofs.Trees.{size-some}
 use Rattle.laws.proofs.Rows.{sizes-rows, grow-rows}
 use Rattle.laws.proofs.Lengths.{row-length, directory-length, forest-length}
-use Rattle.theory.proofs.Acceptance.Checked.{Checked, CheckedIn, checked-join}
+use Rattle.theory.specs.Checked.{Checked, CheckedIn}
+use Rattle.theory.proofs.Acceptance.Checked.{checked-join}
 use Rattle.theory.proofs.Acceptance.Accept.{AllFine, fines-rows, fine-fits, fine-agrees}
 
 -- ---- records

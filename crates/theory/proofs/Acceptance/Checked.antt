@@ -1,7 +1,6 @@
--- What checks 4, 5, 8, 9 and 10 say of a tree, piece by piece. `Checked t b ids` is what they leave of a tree: b says
--- whether a definition has to stand there, and `ids` are in force. `CheckedIn` is the same of a record's children.
+-- What checks 4, 5, 8, 9 and 10 say of a tree, piece by piece (`Checked`, `CheckedIn`).
 --
--- In order: the two records; the first child and the rest (`checked-head`, `checked-tail`, `checked-join`); a record
+-- In order: the first child and the rest (`checked-head`, `checked-tail`, `checked-join`); a record
 -- and its children (`checked-kids`), and what the checks say of the record itself.
 -- Interning takes a checked forest apart, record by record; Building puts the written tree's checks together.
 -- Assumes nothing.
@@ -11,39 +10,11 @@ use mathlib.Core.List.{List, [], _++_}
 use Prim.Native.Nat.{ℕ}
 use lib.Dec.{eqb}
 use Rattle.model.specs.Lists.{isIn, anyIn, twice}
-use Rattle.model.specs.Tree.{Rec, Tree, Trees, node, nil, cons, many, isNil}
-use Rattle.model.specs.Shape.{fits, agrees}
+use Rattle.model.specs.Tree.{Rec, Tree, Trees, node, nil, cons, isNil}
 use Rattle.model.specs.Binding.{isBlock, idOf, inside, after, misplaced, misplacedIn, rebound, reboundIn, unbound}
 use Rattle.model.specs.Binding.{unboundIn}
-use Rattle.laws.proofs.Clear.{Clear, clear-left, clear-right, clear-join}
-
--- ---- trees that are checked
-
--- check 4 of a record with so many children
-abbrev pub FitsWith : Rec → ℕ → Type 0
-FitsWith r n = fits (record { rec = r; kids = n }) ≡ true
-
--- checks 4 and 5, for each record of a tree
-abbrev mutual
-  pub Fine : Tree → Type 0
-  Fine (node r ts) = FitsWith r (many ts) × (agrees r ≡ true) × Fines ts
-
-  pub Fines : Trees → Type 0
-  Fines nil = Unit {0}
-  Fines (cons t ts) = Fine t × Fines ts
-
-pub record Checked (t : Tree) (b : Bool) (ids : List ℕ) : Type 0 where
-  pub fine : Fine t
-  pub placed : Clear (misplaced t b)
-  pub fresh : Clear (rebound t ids)
-  pub known : Clear (unbound t ids)
-
--- here b says that these are a block's children
-pub record CheckedIn (ts : Trees) (b : Bool) (ids : List ℕ) : Type 0 where
-  pub fine : Fines ts
-  pub placed : Clear (misplacedIn ts b)
-  pub fresh : Clear (reboundIn ts ids)
-  pub known : Clear (unboundIn ts ids)
+use Rattle.theory.specs.Checked.{Checked, CheckedIn}
+use Rattle.laws.proofs.Clear.{clear-left, clear-right, clear-join}
 
 -- ---- the first child and the rest
 

@@ -22,8 +22,9 @@ use Rattle.model.specs.Binding.{Kind, kind, valUse, valDef, block, lambda, fiel
 use Rattle.laws.proofs.Apart.{none-some, false-true}
 use Rattle.laws.specs.Members.{In}
 use Rattle.laws.proofs.Members.{clash, and-both, in-one}
-use Rattle.laws.proofs.ArgLists.{optsIn, boundBy, AllOpts, args-length, args-opts}
-use Rattle.theory.proofs.Acceptance.Checked.{FitsWith}
+use Rattle.laws.specs.ArgLists.{optsIn, boundBy, AllOpts}
+use Rattle.laws.proofs.ArgLists.{args-length, args-opts}
+use Rattle.theory.specs.Checked.{FitsWith}
 
 -- ---- kinds and shapes
 

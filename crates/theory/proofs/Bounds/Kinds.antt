@@ -21,19 +21,20 @@ use Rattle.model.specs.Binding.{argIds, inside, after, unbound}
 use Rattle.model.specs.Intern.{Node, constant, unparsed, func, operation, State, Out, Outs, Env, Kids, symAt, resolve}
 use Rattle.model.specs.Intern.{finish, bindArgs, withOpts, bindDef, openScope, allocArgs, pairProjection, thunked}
 use Rattle.model.specs.Intern.{nodeOf, internLast, internGeneral, internField, internFunc, internKind}
-use Rattle.laws.proofs.Clear.{Clear}
+use Rattle.laws.specs.Clear.{Clear}
 use Rattle.laws.proofs.Holds.{Holds, holds-bind, holds-map}
-use Rattle.laws.specs.Members.{In, Every}
+use Rattle.laws.specs.Members.{In, Every, Under}
 use Rattle.laws.proofs.Members.{clash, isIn-true}
-use Rattle.laws.proofs.Falls.{Under}
-use Rattle.laws.proofs.ArgLists.{args-length, symsIn, optsIn, boundBy, withOpts-syms, withOpts-opts, withOpts-length}
-use Rattle.theory.proofs.Acceptance.Checked.{Fine}
+use Rattle.laws.specs.ArgLists.{symsIn, optsIn, boundBy}
+use Rattle.laws.proofs.ArgLists.{args-length, withOpts-syms, withOpts-opts, withOpts-length}
+use Rattle.theory.specs.Checked.{Fine}
 use Rattle.theory.proofs.Acceptance.Records.{kind-shape, def-child, fits-at, field-child, lam-child, op-field}
 use Rattle.theory.proofs.Acceptance.Records.{op-lambda, lam-rec}
-use Rattle.theory.proofs.Interning.Good.{symCount, scopeCount}
-use Rattle.theory.proofs.Interning.Inv.{keys}
-use Rattle.theory.proofs.Bounds.Sound.{every-take, every-drop, RecHas, OptsHave, NodeSound, Sound, Room}
-use Rattle.theory.proofs.Bounds.Sound.{room-less, under-more, thunks, Keeps, keeps-none, keeps-then, keeps-less}
+use Rattle.theory.specs.Good.{symCount, scopeCount}
+use Rattle.theory.specs.Inv.{keys}
+use Rattle.theory.specs.Sound.{RecHas, OptsHave, NodeSound, Sound, Room, thunks, Pays}
+use Rattle.theory.proofs.Bounds.Sound.{every-take, every-drop}
+use Rattle.theory.proofs.Bounds.Sound.{room-less, under-more, Keeps, keeps-none, keeps-then, keeps-less}
 use Rattle.theory.proofs.Bounds.Sound.{KeepsOne, KeepsArgs, KeepsAll}
 use Rattle.theory.proofs.Bounds.Steps.{finish-keeps, allocArgs-keeps, projections-keep, field-thunks, open-sound}
 use Rattle.theory.proofs.Bounds.Steps.{open-room, open-more}
@@ -85,10 +86,6 @@ abbrev pub plainKids : ℕ → ℕ → Trees → ℕ
 plainKids op j nil = 0
 plainKids op j (cons t ts) =
     elim (thunked op j) [ true ↦ plainKids op (suc j) ts | false ↦ suc (plainKids op (suc j) ts) ]
-
--- a scope is paid for wherever a thunk opens
-abbrev pub Pays : ℕ → ℕ → Type 0
-Pays op c = (j : ℕ) → thunked op j ≡ true → 1 ≤ c
 
 abbrev pub KidsKeep : (ℕ → Type 0) → List ℕ → ℕ → Trees → Kids → Type 0
 KidsKeep B ids op ts kids =

@@ -17,8 +17,9 @@ use Rattle.laws.proofs.Apart.{good-inj, refused-good}
 use Rattle.laws.proofs.Holds.{Holds}
 use Rattle.laws.specs.Members.{In}
 use Rattle.theory.proofs.Acceptance.Accept.{accepted}
-use Rattle.theory.proofs.Interning.Good.{symCount, scopeCount, kidsAt}
-use Rattle.theory.proofs.Bounds.Sound.{TreeHas, TreesHave, Sound, Room, room-less, KeepsAll}
+use Rattle.theory.specs.Good.{symCount, scopeCount, kidsAt}
+use Rattle.theory.specs.Sound.{TreeHas, TreesHave, Sound, Room, Any}
+use Rattle.theory.proofs.Bounds.Sound.{room-less, KeepsAll}
 use Rattle.theory.proofs.Bounds.Sound.{slots-limit, scopes-limit}
 use Rattle.theory.proofs.Bounds.Kinds.{plainKids, last-under}
 use Rattle.theory.proofs.Bounds.Trees.{forest-keeps}
@@ -67,10 +68,6 @@ forest-leaves B b0 b1 b2 forest ts e has o is =
       room = room-less (os .2) (many ts) (plainKids 0 0 ts) 0 0 (omega arith) (omega arith) (h .keeps .room);
       root-low = last-under (symCount (os .2)) (os .0) (omega (arith, h .count, some-tree)) (h .low);
     })
-
--- without a property of the numbers
-abbrev pub Any : ℕ → Type 0
-Any n = Unit {0}
 
 mutual
   pub any-tree : (t : Tree) → TreeHas Any t

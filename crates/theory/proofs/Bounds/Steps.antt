@@ -20,14 +20,14 @@ use Rattle.model.specs.Intern.{placement, unionDeps, enter, push, alloc, lookup
 use Rattle.model.specs.Intern.{remember, pick, newProjections, pairProjection, thunked, read}
 use Rattle.laws.proofs.Slots.{slots-more}
 use Rattle.laws.proofs.Holds.{Holds, holds-guard, holds-bind, holds-map}
-use Rattle.laws.specs.Members.{Every}
+use Rattle.laws.specs.Members.{Every, Under}
 use Rattle.laws.proofs.Members.{without-cases}
-use Rattle.laws.proofs.Falls.{Under}
-use Rattle.theory.proofs.Interning.Good.{argsIn, symCount, scopeCount}
-use Rattle.theory.proofs.Interning.Inv.{InAny, lt-or}
+use Rattle.theory.specs.Good.{argsIn, symCount, scopeCount}
+use Rattle.theory.specs.Inv.{InAny}
+use Rattle.theory.proofs.Interning.Inv.{lt-or}
 use Rattle.theory.proofs.Interning.Push.{unionDeps-from, one-more}
 use Rattle.theory.proofs.Interning.Finish.{lookup-found}
-use Rattle.theory.proofs.Bounds.Sound.{RecHas, thunks, NodeSound, SymSound, scopeOf, Sound, Room}
+use Rattle.theory.specs.Sound.{RecHas, thunks, NodeSound, SymSound, scopeOf, Sound, Room}
 use Rattle.theory.proofs.Bounds.Sound.{room-less, keeps-none, keeps-then, keeps-less, KeepsOne, KeepsArgs}
 use Rattle.theory.proofs.Bounds.Sound.{sym-more}
 

@@ -18,17 +18,19 @@ use Rattle.model.specs.Binding.{kind, inside, after, unbound, unboundIn}
 use Rattle.model.specs.Intern.{State, Out, Env, start, read, bindDef, openThunk, closeThunk, dropFirst, recall, thunked}
 use Rattle.model.specs.Intern.{branch, internScoped, internKind, intern, internAll, internForest}
 use Rattle.laws.proofs.Apart.{none-some}
-use Rattle.laws.proofs.Clear.{Clear, clear-left, clear-right}
+use Rattle.laws.specs.Clear.{Clear}
+use Rattle.laws.proofs.Clear.{clear-left, clear-right}
 use Rattle.laws.proofs.Holds.{Holds, holds-bind, holds-guard, holds-map}
 use Rattle.laws.proofs.Members.{clash}
-use Rattle.laws.proofs.Falls.{Under}
-use Rattle.theory.proofs.Acceptance.Checked.{Fine, Fines, CheckedIn}
-use Rattle.theory.proofs.Interning.Good.{argsIn, symCount, scopeCount}
+use Rattle.laws.specs.Members.{Under}
+use Rattle.theory.specs.Checked.{Fine, Fines, CheckedIn}
+use Rattle.theory.specs.Good.{argsIn, symCount, scopeCount}
 use Rattle.theory.proofs.Interning.Inv.{any-opened, any-closed}
-use Rattle.theory.proofs.Bounds.Sound.{TreeHas, TreesHave, scopeOf, Sound, Room, room-less, keeps-none}
-use Rattle.theory.proofs.Bounds.Sound.{keeps-then, keeps-less, KeepsOne, KeepsAll, thunks}
+use Rattle.theory.specs.Sound.{TreeHas, TreesHave, scopeOf, Sound, Room, thunks, Pays}
+use Rattle.theory.proofs.Bounds.Sound.{room-less, keeps-none}
+use Rattle.theory.proofs.Bounds.Sound.{keeps-then, keeps-less, KeepsOne, KeepsAll}
 use Rattle.theory.proofs.Bounds.Steps.{open-sound, open-room, open-more, read-sound, read-room}
-use Rattle.theory.proofs.Bounds.Kinds.{EnvLow, env-more, env-def, plainKids, Pays, kind-keeps}
+use Rattle.theory.proofs.Bounds.Kinds.{EnvLow, env-more, env-def, plainKids, kind-keeps}
 
 -- ---- thunks
 

@@ -23,9 +23,9 @@ use Rattle.model.specs.Materialize.{processScope, buildOp, argLit, argEnv, buil
 use Rattle.laws.proofs.Apart.{none-some}
 use Rattle.laws.specs.Members.{Every}
 use Rattle.laws.proofs.Walks.{every-join}
-use Rattle.laws.proofs.ArgLists.{optsIn}
+use Rattle.laws.specs.ArgLists.{optsIn}
 use Rattle.laws.proofs.Trees.{sizes-snoc, def-size}
-use Rattle.theory.proofs.Bounds.Sound.{RecHas, TreeHas, TreesHave, OptsHave}
+use Rattle.theory.specs.Sound.{RecHas, TreeHas, TreesHave, OptsHave}
 
 abbrev pub Byte : ℕ → Type 0
 Byte b = b < 256

@@ -22,7 +22,8 @@ use Rattle.model.specs.Materialize.{valDefOf, renames, wrapBlock}
 use Rattle.laws.proofs.Members.{and-both}
 use Rattle.laws.proofs.Rows.{many-sizes}
 use Rattle.laws.proofs.Trees.{size-some, many-snoc, sizes-snoc, def-size}
-use Rattle.theory.proofs.Acceptance.Checked.{FitsWith, Checked, CheckedIn, checked-join, nil-checked}
+use Rattle.theory.specs.Checked.{FitsWith, Checked, CheckedIn}
+use Rattle.theory.proofs.Acceptance.Checked.{checked-join, nil-checked}
 use Rattle.theory.proofs.Building.Written.{def-unfold, def-value}
 
 -- ---- definitions, one after the other

@@ -28,12 +28,13 @@ use Rattle.laws.proofs.Induction.{strong}
 use Rattle.laws.proofs.Down.{down-step, under-low}
 use Rattle.laws.specs.Members.{In}
 use Rattle.laws.proofs.Members.{neither-or, apart-anyIn}
-use Rattle.laws.proofs.ArgLists.{ArgList, symsIn, optsIn}
+use Rattle.laws.specs.ArgLists.{ArgList, symsIn, optsIn}
 use Rattle.theory.proofs.Meaning.Mean.{Val, bindSyms, meanAll, mean}
 use Rattle.theory.proofs.Meaning.Coincide.{mean-lam, mean-plain}
-use Rattle.theory.proofs.Acceptance.Checked.{FitsWith, Checked, CheckedIn, plain-join, nil-checked}
-use Rattle.theory.proofs.Interning.Good.{noArg, argsAt, out, PairOk, PairsOk, Plain, Lam, NodeOk, Goods, lam-of}
-use Rattle.theory.proofs.Interning.Good.{depsAt, kidsAt, nodeAt, recAt, scopeAt}
+use Rattle.theory.specs.Checked.{FitsWith, Checked, CheckedIn}
+use Rattle.theory.proofs.Acceptance.Checked.{plain-join, nil-checked}
+use Rattle.theory.specs.Good.{noArg, argsAt, out, PairOk, PairsOk, Plain, Lam, NodeOk, Goods, depsAt, kidsAt, nodeAt, recAt, scopeAt}
+use Rattle.theory.proofs.Interning.Good.{lam-of}
 use Rattle.theory.proofs.Building.Written.{use-unfold, use-checked, plain-unfold, plain-checked, lam-unfold}
 use Rattle.theory.proofs.Building.Written.{lam-checked}
 use Rattle.theory.proofs.Building.Numbered.{numbered, numbered-opts, numbered-high, numbered-once, args-read}

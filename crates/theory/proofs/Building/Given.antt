@@ -23,11 +23,12 @@ use Rattle.model.specs.Materialize.{Builder, idGiven, argEnv}
 use Rattle.laws.proofs.Apart.{none-some}
 use Rattle.laws.specs.Members.{In}
 use Rattle.laws.proofs.Members.{clash, in-left, in-right, in-either}
-use Rattle.laws.proofs.ArgLists.{ArgList, symsIn}
+use Rattle.laws.specs.ArgLists.{ArgList, symsIn}
 use Rattle.theory.proofs.Meaning.Mean.{Val, bindSyms, mean}
 use Rattle.theory.proofs.Meaning.Coincide.{mean-arg, coincide, bindSyms-other}
-use Rattle.theory.proofs.Acceptance.Checked.{Checked}
-use Rattle.theory.proofs.Interning.Good.{noArg, Lam, Goods, lam-of, arg-of, depsAt, nodeAt}
+use Rattle.theory.specs.Checked.{Checked}
+use Rattle.theory.specs.Good.{noArg, Lam, Goods, depsAt, nodeAt}
+use Rattle.theory.proofs.Interning.Good.{lam-of, arg-of}
 use Rattle.theory.proofs.Building.Numbered.{numbered, numbered-high, ArgAt, arg-sym, arg-id, meaning-at}
 use Rattle.theory.proofs.Building.Numbered.{meaning-old, value-at}
 

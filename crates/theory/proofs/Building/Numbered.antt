@@ -24,9 +24,10 @@ use Rattle.model.specs.Unfold.{arg, Meaning, meaning, bindFrom}
 use Rattle.model.specs.Materialize.{argLit}
 use Rattle.laws.specs.Members.{In, Once}
 use Rattle.laws.proofs.Members.{not-in-isIn, neither-or, both-and}
-use Rattle.laws.proofs.ArgLists.{ArgList, symsIn, optsIn, AllOpts, next-arg}
+use Rattle.laws.specs.ArgLists.{ArgList, symsIn, optsIn, AllOpts}
+use Rattle.laws.proofs.ArgLists.{next-arg}
 use Rattle.theory.proofs.Meaning.Mean.{Val, bindSyms}
-use Rattle.theory.proofs.Acceptance.Checked.{FitsWith}
+use Rattle.theory.specs.Checked.{FitsWith}
 use Rattle.theory.proofs.Building.Written.{read-id}
 
 -- ---- the numbered list

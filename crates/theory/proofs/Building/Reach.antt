@@ -19,8 +19,9 @@ use Rattle.laws.proofs.Down.{down-step}
 use Rattle.laws.specs.Members.{In, Every}
 use Rattle.laws.proofs.Walks.{under-holds, every-none, every-if, every-rel, visit-every, body-every, collect-every}
 use Rattle.laws.proofs.Walks.{order-every}
-use Rattle.laws.proofs.ArgLists.{ArgList, symsIn}
-use Rattle.theory.proofs.Interning.Good.{NodeOk, Goods, lam-cover, depsAt, kidsAt, nodeAt}
+use Rattle.laws.specs.ArgLists.{ArgList, symsIn}
+use Rattle.theory.specs.Good.{NodeOk, Goods, depsAt, kidsAt, nodeAt}
+use Rattle.theory.proofs.Interning.Good.{lam-cover}
 
 -- ---- reached by children
 

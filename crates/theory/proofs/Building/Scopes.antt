@@ -23,10 +23,11 @@ use Rattle.model.specs.Schedule.{isArg, schedule}
 use Rattle.model.specs.Materialize.{Builder, valDefOf, idGiven, member, define, processScope}
 use Rattle.laws.specs.Members.{In, Every}
 use Rattle.laws.proofs.Members.{and-both}
-use Rattle.laws.proofs.ArgLists.{ArgList}
+use Rattle.laws.specs.ArgLists.{ArgList}
 use Rattle.laws.proofs.Trees.{def-size}
 use Rattle.theory.proofs.Meaning.Mean.{Val}
-use Rattle.theory.proofs.Interning.Good.{noArg, argsAt, out, PairOk, Goods, lam-of, depsAt, nodeAt, scopeAt}
+use Rattle.theory.specs.Good.{noArg, argsAt, out, PairOk, Goods, depsAt, nodeAt, scopeAt}
+use Rattle.theory.proofs.Interning.Good.{lam-of}
 use Rattle.theory.proofs.Building.Reach.{Below, schedule-below, BoundUpTo, below-low, below-deps}
 use Rattle.theory.proofs.Building.Written.{def-id, def-unfold, def-after, def-checked}
 use Rattle.theory.proofs.Building.Blocks.{AllDefs, bindDefs, idsAfter, CheckedDefs, SmallDefs, defs-snoc}

@@ -22,10 +22,11 @@ use Rattle.model.specs.Materialize.{valUseOf, valDefOf}
 use Rattle.laws.proofs.Apart.{false-true}
 use Rattle.laws.specs.Members.{In}
 use Rattle.laws.proofs.Members.{clash, in-isIn, not-in-isIn, neither-or}
-use Rattle.laws.proofs.ArgLists.{symsIn, optsIn}
-use Rattle.theory.proofs.Acceptance.Checked.{FitsWith, Checked, CheckedIn, checked-head, checked-kids}
+use Rattle.laws.specs.ArgLists.{symsIn, optsIn}
+use Rattle.theory.specs.Checked.{FitsWith, Checked, CheckedIn}
+use Rattle.theory.proofs.Acceptance.Checked.{checked-head, checked-kids}
 use Rattle.theory.proofs.Acceptance.Checked.{plain-join, nil-checked}
-use Rattle.theory.proofs.Interning.Good.{isPlain}
+use Rattle.theory.specs.Good.{isPlain}
 
 -- a number that was written is read back
 pub read-id : (n : ℕ) (rest : List ℕ) → u32 (put32 n ++ rest) ≡ n

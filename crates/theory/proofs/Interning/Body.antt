@@ -22,12 +22,15 @@ use Rattle.model.specs.Intern.{func, Sym, Scope, State, Env, Kids, resolve, ope
 use Rattle.laws.proofs.Holds.{Holds, holds-bind, holds-map}
 use Rattle.laws.specs.Members.{In}
 use Rattle.laws.proofs.Members.{clash}
-use Rattle.laws.proofs.ArgLists.{symsIn, optsIn, boundBy, withOpts-syms}
+use Rattle.laws.specs.ArgLists.{symsIn, optsIn, boundBy}
+use Rattle.laws.proofs.ArgLists.{withOpts-syms}
 use Rattle.theory.proofs.Meaning.Mean.{Val, bindSyms, meanAll, mean}
 use Rattle.theory.proofs.Meaning.Coincide.{coincide, bindSyms-other}
 use Rattle.theory.proofs.Acceptance.Records.{LamRec}
-use Rattle.theory.proofs.Interning.Good.{noArg, argsAt, arg-of, depsAt, nodeAt, scopeCount, symCount}
-use Rattle.theory.proofs.Interning.Inv.{Args, has-arg, keys, Inv, EnvOk, env-later, Fits, grow-then, fits-back}
+use Rattle.theory.specs.Good.{noArg, argsAt, depsAt, nodeAt, scopeCount, symCount}
+use Rattle.theory.proofs.Interning.Good.{arg-of}
+use Rattle.theory.specs.Inv.{Args, keys, Inv, EnvOk, Fits}
+use Rattle.theory.proofs.Interning.Inv.{has-arg, env-later, grow-then, fits-back}
 use Rattle.theory.proofs.Interning.Finish.{Step}
 use Rattle.theory.proofs.Interning.Fresh.{ArgsMade, allocArgs-keeps, bindArgs-keys}
 use Rattle.theory.proofs.Interning.Fresh.{bindArgs-cases, env-bind, EnvSem, Binds, bindSyms-binds, sem-bind}

@@ -24,8 +24,10 @@ use Rattle.laws.proofs.Holds.{Holds, holds-bind, holds-map}
 use Rattle.laws.specs.Members.{In}
 use Rattle.laws.proofs.Members.{in-one}
 use Rattle.theory.proofs.Acceptance.Records.{field-fits}
-use Rattle.theory.proofs.Interning.Good.{plain-of, depsAt, recAt, symCount, PairsOk, Plain, SymOk}
-use Rattle.theory.proofs.Interning.Inv.{Args, argSyms, FieldOk, Inv, env-later, grow-none, grow-same}
+use Rattle.theory.specs.Good.{depsAt, recAt, symCount, PairsOk, Plain, SymOk}
+use Rattle.theory.proofs.Interning.Good.{plain-of}
+use Rattle.theory.specs.Inv.{Args, argSyms, FieldOk, Inv}
+use Rattle.theory.proofs.Interning.Inv.{env-later, grow-none, grow-same}
 use Rattle.theory.proofs.Interning.Finish.{Result, Made, Step, finish-plain, step-then, result-later}
 use Rattle.theory.proofs.Interning.Keep.{Symbols, Kept, KeptAll, PlainRec, madeOf, one-last, last-in}
 use Rattle.theory.proofs.Interning.Keep.{made-stands, finish-keeps, internGeneral-keeps}

@@ -24,9 +24,10 @@ use Rattle.laws.proofs.Apart.{none-some}
 use Rattle.laws.proofs.Holds.{Holds, holds-guard}
 use Rattle.laws.specs.Members.{In}
 use Rattle.laws.proofs.Members.{and-both, same-true, sameRec-true, without-keeps, without-cases}
-use Rattle.theory.proofs.Interning.Good.{recAt, kidsAt, depsAt, nodeAt, symCount, isPlain, noArg, PairsOk, Plain}
-use Rattle.theory.proofs.Interning.Good.{NodeOk, SymOk, plain-of}
-use Rattle.theory.proofs.Interning.Inv.{Args, argSyms, InAny, Inv, Fits, Grow, grow-none, grow-then, fits-back}
+use Rattle.theory.specs.Good.{recAt, kidsAt, depsAt, nodeAt, symCount, isPlain, noArg, PairsOk, Plain, NodeOk, SymOk}
+use Rattle.theory.proofs.Interning.Good.{plain-of}
+use Rattle.theory.specs.Inv.{Args, argSyms, InAny, Inv, Fits, Grow}
+use Rattle.theory.proofs.Interning.Inv.{grow-none, grow-then, fits-back}
 use Rattle.theory.proofs.Interning.Push.{newSym, push-grows, push-more, PartsAt, push-parts, push-inv}
 use Rattle.theory.proofs.Interning.Push.{unionDeps-covers, unionDeps-from}
 

@@ -21,12 +21,13 @@ use Rattle.model.specs.Intern.{resolve}
 use Rattle.laws.proofs.Apart.{false-true}
 use Rattle.laws.proofs.Holds.{Holds, holds-bind, holds-guard}
 use Rattle.laws.specs.Members.{In, Once}
-use Rattle.laws.proofs.ArgLists.{ArgList, symsIn}
+use Rattle.laws.specs.ArgLists.{ArgList, symsIn}
 use Rattle.theory.proofs.Meaning.Mean.{Val, bindSyms, mean}
 use Rattle.theory.proofs.Meaning.Coincide.{mean-arg}
-use Rattle.theory.proofs.Interning.Good.{depsAt, nodeAt, symCount, scopeCount, SymOk}
-use Rattle.theory.proofs.Interning.Inv.{Args, HasArg, argSyms, keys, LamApart, Inv, EnvOk, lt-or, grow-none}
-use Rattle.theory.proofs.Interning.Inv.{grow-then, Fits, fits-back}
+use Rattle.theory.specs.Good.{depsAt, nodeAt, symCount, scopeCount, SymOk}
+use Rattle.theory.specs.Inv.{Args, HasArg, argSyms, keys, LamApart, Inv, EnvOk, Fits}
+use Rattle.theory.proofs.Interning.Inv.{lt-or, grow-none}
+use Rattle.theory.proofs.Interning.Inv.{grow-then, fits-back}
 use Rattle.theory.proofs.Interning.Push.{newSym, push-count, push-grows, PartsAt, push-parts, push-inv}
 use Rattle.theory.proofs.Interning.Finish.{Step}
 

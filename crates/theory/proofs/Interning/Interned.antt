@@ -21,10 +21,10 @@ use Rattle.model.specs.Call.{interned}
 use Rattle.laws.proofs.Holds.{Holds, holds-map}
 use Rattle.laws.specs.Members.{In}
 use Rattle.theory.proofs.Meaning.Mean.{Val, meanAll, mean}
-use Rattle.theory.proofs.Acceptance.Checked.{CheckedIn}
+use Rattle.theory.specs.Checked.{CheckedIn}
 use Rattle.theory.proofs.Acceptance.Accept.{accepted}
-use Rattle.theory.proofs.Interning.Good.{argsIn, PairOk, depsAt, symCount}
-use Rattle.theory.proofs.Interning.Inv.{Inv, EnvOk, Fits}
+use Rattle.theory.specs.Good.{argsIn, PairOk, depsAt, symCount}
+use Rattle.theory.specs.Inv.{Inv, EnvOk, Fits}
 use Rattle.theory.proofs.Interning.Finish.{Result}
 use Rattle.theory.proofs.Interning.Scopes.{pair-of}
 use Rattle.theory.proofs.Interning.Keep.{Symbols, AllStand, KeptAll, last-in}

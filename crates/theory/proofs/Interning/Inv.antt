@@ -1,7 +1,6 @@
--- The invariant of interning (`Inv`), at a scope with arguments in force, and how states grow.
+-- Laws of the invariant of interning (`Inv`), and of states that grow.
 --
--- In order: arguments in force (`Args`); tables, scopes and remembered projections; the invariant; what an environment
--- gives (`EnvOk`); states that grow (`Grow`, `Fits`); the scopes around a scope have lower numbers (`out-low`);
+-- In order: arguments in force (`Args`); tables; environments; states that grow (`Grow`, `Fits`); the scopes around a scope have lower numbers (`out-low`);
 -- placement stays within each scope whose arguments are depended on (`climb-stays`).
 --
 -- A state is judged from the symbols and scopes at the end, of which it has the first (`Fits`): so no fact on symbols
@@ -17,28 +16,14 @@ use native.Mathlib.Omega.{arith}
 use native.Mathlib.Nat.{eq-or-lt-of-le, le-of-suc-le-suc}
 use lib.ListN.{length, getD}
 use Rattle.model.specs.Lists.{anyIn}
-use Rattle.model.specs.Tree.{rec}
-use Rattle.model.specs.Binding.{argIds}
-use Rattle.model.specs.Intern.{func, Sym, Scope, State, Env, symAt, rootScope, climb, dropFirst, recall, resolve}
+use Rattle.model.specs.Intern.{Sym, Scope, State, Env, rootScope, climb, dropFirst}
+use Rattle.theory.specs.Inv.{Args, HasArg, argSyms, InAny, Chain, EnvOk, Grow, Fits}
 use Rattle.laws.proofs.Induction.{strong}
 use Rattle.laws.specs.Members.{In}
 use Rattle.laws.proofs.Members.{anyIn-false}
-use Rattle.laws.proofs.ArgLists.{ArgList, symsIn}
-use Rattle.theory.proofs.Interning.Good.{recAt, kidsAt, depsAt, scopeAt, nodeAt, symCount, scopeCount, noArg}
-use Rattle.theory.proofs.Interning.Good.{argsAt, aroundAt, out, Goods}
+use Rattle.theory.specs.Good.{argsAt, aroundAt, out}
 
 -- ---- arguments in force: an id and its symbol
-
-abbrev pub Args : Type 0
-Args = List (ℕ × ℕ)
-
-abbrev pub HasArg : ℕ → ℕ → Args → Type 0
-HasArg i a [] = ⊥
-HasArg i a (p ∷ A) = ((i ≡ p .0) × (a ≡ p .1)) ⊎ HasArg i a A
-
-abbrev pub argSyms : Args → List ℕ
-argSyms [] = []
-argSyms (p ∷ A) = p .1 ∷ argSyms A
 
 pub has-arg : (a : ℕ) (A : Args) → In a (argSyms A) → (i : ℕ) × HasArg i a A
 has-arg a [] h = absurd h
@@ -50,11 +35,7 @@ arg-in i a [] h = h
 arg-in i a (p ∷ A) (inl e) = inl (e .1)
 arg-in i a (p ∷ A) (inr h) = inr (arg-in i a A h)
 
--- ---- tables, scopes, projections
-
-abbrev pub InAny : ℕ → List (List ℕ) → Type 0
-InAny i [] = ⊥
-InAny i (t ∷ ts) = In i t ⊎ InAny i ts
+-- ---- tables
 
 -- a table opened, and one closed
 pub any-opened : (i : ℕ) (ts : List (List ℕ)) → InAny i ([] ∷ ts) → InAny i ts
@@ -65,59 +46,7 @@ pub any-closed : (i : ℕ) (ts : List (List ℕ)) → InAny i (dropFirst ts) →
 any-closed i [] h = h
 any-closed i (t ∷ ts) h = inr h
 
--- around a scope is nothing, or a lower scope and what is around that
-abbrev pub Chain : List Scope → ℕ → Type 0
-Chain scs b = (aroundAt scs b ≡ []) ⊎ ((p : ℕ) × (p < b) × (aroundAt scs b ≡ out scs p))
-
--- a is field j of p
-pub record FieldOk (fin : List Sym) (n p j a : ℕ) : Type 0 where
-  pub low : a < n
-  pub rec-is : recAt fin a ≡ rec 17 0x8C 0 (j ∷ [])
-  pub kids-is : kidsAt fin a ≡ p ∷ []
-  pub made-is : noArg (nodeAt fin a) ≡ true
-
--- ---- the invariant
-
--- of a lambda x that is made, where scope cur and arguments A are in force and there are m scopes: its body is closed,
--- its arguments are not in force, and no argument in force on which its body depends has an id that it binds
-pub record LamApart (fin : List Sym) (scs : List Scope) (m : ℕ) (A : Args) (cur x : ℕ) (xs : ArgList) (b : ℕ) :
-    Type 0 where
-  pub scope-low : b < m
-  pub closed : In b (out scs cur) → ⊥
-  pub apart : (i a : ℕ) → HasArg i a A → In a (symsIn xs) → ⊥
-  pub ids-apart : (i a k : ℕ) → HasArg i a A → In k (kidsAt fin x) → In a (depsAt fin k) →
-      In i (argIds (recAt fin x)) → ⊥
-
-pub record Inv (fin : List Sym) (scs : List Scope) (st : State) (A : Args) (cur : ℕ) : Type 0 where
-  pub good : Goods fin scs (symCount st)
-  pub cur-low : cur < scopeCount st
-  pub chain : (b : ℕ) → b < scopeCount st → Chain scs b
-  -- tables hold symbols, and no arguments
-  pub tables-ok : (i : ℕ) → InAny i (st .tables) → (i < symCount st) × (noArg (nodeAt fin i) ≡ true)
-  -- what is remembered are fields 1 and 2
-  pub memo-ok : (p a b : ℕ) → recall (st .memo) p ≡ some (a, b) →
-      FieldOk fin (symCount st) p 1 a × FieldOk fin (symCount st) p 2 b
-  pub args-low : (b a : ℕ) → b < scopeCount st → In a (argsAt scs b) → a < symCount st
-  pub arg-low : (i a : ℕ) → HasArg i a A → a < symCount st
-  pub lam-ok : (x : ℕ) → x < symCount st → (xs : ArgList) (b : ℕ) → nodeAt fin x ≡ func xs b →
-      LamApart fin scs (scopeCount st) A cur x xs b
-  -- each scope that has an argument in force is cur or around it
-  pub arg-scope : (i a b : ℕ) → HasArg i a A → b < scopeCount st → In a (argsAt scs b) → In b (out scs cur)
-  -- each scope that has an argument which a symbol depends on is the symbol's or around it
-  pub place-ok : (s a b : ℕ) → s < symCount st → noArg (nodeAt fin s) ≡ true → In a (depsAt fin s) →
-      b < scopeCount st → In a (argsAt scs b) → In b (out scs (scopeAt fin s))
-
 -- ---- environments
-
-abbrev pub keys : Env → List ℕ
-keys [] = []
-keys (b ∷ env) = b .0 ∷ keys env
-
--- an environment gives symbols that depend on arguments in force only, and has each argument's id
-pub record EnvOk (fin : List Sym) (n : ℕ) (env : Env) (A : Args) : Type 0 where
-  pub low : (i : ℕ) → In i (keys env) → resolve env i < n
-  pub deps-in : (i a : ℕ) → In i (keys env) → In a (depsAt fin (resolve env i)) → In a (argSyms A)
-  pub ids : (i a : ℕ) → HasArg i a A → In i (keys env)
 
 pub env-later : (fin : List Sym) (n m : ℕ) (env : Env) (A : Args) → n ≤ m → EnvOk fin n env A → EnvOk fin m env A
 env-later fin n m env A l h = record { low = λ i k. omega (arith, h .low i k); deps-in = h .deps-in; ids = h .ids }
@@ -127,13 +56,6 @@ env-later fin n m env A l h = record { low = λ i k. omega (arith, h .low i k); 
 -- what is there after one more is old or new
 pub lt-or : (i n : ℕ) → i < suc n → (i < n) ⊎ (i ≡ n)
 lt-or i n l = elim (eq-or-lt-of-le (le-of-suc-le-suc l)) [ inl e ↦ inr e | inr k ↦ inl k ]
-
--- the second state has what the first has, and maybe more
-pub record Grow (st st' : State) : Type 0 where
-  pub more-syms : symCount st ≤ symCount st'
-  pub more-scopes : scopeCount st ≤ scopeCount st'
-  pub same-syms : (i : ℕ) → i < symCount st → symAt (st .syms) i ≡ symAt (st' .syms) i
-  pub same-scopes : (b : ℕ) → b < scopeCount st → getD (st .scopes) b rootScope ≡ getD (st' .scopes) b rootScope
 
 pub grow-none : (st : State) → Grow st st
 grow-none st = record {
@@ -159,11 +81,6 @@ grow-then a b c g h = record {
   same-syms = λ i l. g .same-syms i l ∙ h .same-syms i (omega arith);
   same-scopes = λ i l. g .same-scopes i l ∙ h .same-scopes i (omega arith);
 }
-
--- a state has the first of the symbols and scopes at the end
-pub record Fits (fin : List Sym) (scs : List Scope) (st : State) : Type 0 where
-  pub syms-fit : (i : ℕ) → i < symCount st → symAt (st .syms) i ≡ symAt fin i
-  pub scopes-fit : (b : ℕ) → b < scopeCount st → getD (st .scopes) b rootScope ≡ getD scs b rootScope
 
 pub fits-back : (fin : List Sym) (scs : List Scope) (a b : State) → Grow a b → Fits fin scs b → Fits fin scs a
 fits-back fin scs a b g f = record {

@@ -26,10 +26,10 @@ use Rattle.laws.proofs.Holds.{Holds, holds-bind, holds-map}
 use Rattle.laws.specs.Members.{In}
 use Rattle.theory.proofs.Meaning.Mean.{Val, meanAll, mean}
 use Rattle.theory.proofs.Meaning.Coincide.{mean-plain}
-use Rattle.theory.proofs.Acceptance.Checked.{CheckedIn}
+use Rattle.theory.specs.Checked.{CheckedIn}
 use Rattle.theory.proofs.Acceptance.Records.{const-child, unparsed-child}
-use Rattle.theory.proofs.Interning.Good.{isPlain, PairsOk, SymOk, symCount}
-use Rattle.theory.proofs.Interning.Inv.{Args, keys, EnvOk}
+use Rattle.theory.specs.Good.{isPlain, PairsOk, SymOk, symCount}
+use Rattle.theory.specs.Inv.{Args, keys, EnvOk}
 use Rattle.theory.proofs.Interning.Finish.{Result, Results, Made, PlainNode, Step, finish-plain, step-gives}
 use Rattle.theory.proofs.Interning.Finish.{step-then}
 use Rattle.theory.proofs.Interning.Fresh.{EnvSem}

@@ -28,13 +28,16 @@ use Rattle.model.specs.Intern.{lookup, unionDeps, push, placement, alloc, finis
 use Rattle.laws.proofs.Holds.{Holds, holds-guard}
 use Rattle.laws.specs.Members.{In}
 use Rattle.laws.proofs.Members.{clash, without-keeps, without-cases, in-or-not, in-one}
-use Rattle.laws.proofs.ArgLists.{symsIn, optsIn, boundBy, withOpts-syms, withOpts-opts, withOpts-length}
+use Rattle.laws.specs.ArgLists.{symsIn, optsIn, boundBy}
+use Rattle.laws.proofs.ArgLists.{withOpts-syms, withOpts-opts, withOpts-length}
 use Rattle.theory.proofs.Meaning.Mean.{Val, bindSyms, meanAll, mean}
 use Rattle.theory.proofs.Meaning.Coincide.{mean-lam, coincide, bindSyms-other, AgreeOn}
 use Rattle.theory.proofs.Acceptance.Records.{LamRec}
-use Rattle.theory.proofs.Interning.Good.{lambda-not-plain, isPlain, noArg, argsIn, out, depsAt, kidsAt, nodeAt}
-use Rattle.theory.proofs.Interning.Good.{recAt, scopeCount, symCount, Plain, Lam, NodeOk, SymOk, lam-of}
-use Rattle.theory.proofs.Interning.Inv.{Args, HasArg, argSyms, has-arg, arg-in, LamApart, Inv, Fits, Grow}
+use Rattle.theory.specs.Good.{isPlain, noArg, argsIn, out, depsAt, kidsAt, nodeAt, recAt, scopeCount, symCount, Plain, Lam, NodeOk, SymOk}
+use Rattle.theory.proofs.Interning.Good.{lambda-not-plain}
+use Rattle.theory.proofs.Interning.Good.{lam-of}
+use Rattle.theory.specs.Inv.{Args, HasArg, argSyms, LamApart, Inv, Fits, Grow}
+use Rattle.theory.proofs.Interning.Inv.{has-arg, arg-in}
 use Rattle.theory.proofs.Interning.Inv.{grow-none, fits-back, out-low}
 use Rattle.theory.proofs.Interning.Push.{push-grows, push-is, push-more, push-inv, unionDeps-covers}
 use Rattle.theory.proofs.Interning.Push.{unionDeps-from}

@@ -24,10 +24,12 @@ use Rattle.laws.proofs.Holds.{Holds, holds-bind, holds-map}
 use Rattle.laws.specs.Members.{In}
 use Rattle.laws.proofs.Members.{clash}
 use Rattle.theory.proofs.Meaning.Mean.{meanAll}
-use Rattle.theory.proofs.Acceptance.Checked.{Checked, CheckedIn, checked-head, checked-place}
-use Rattle.theory.proofs.Interning.Good.{PairOk, PairsOk, out, depsAt, scopeCount, symCount}
-use Rattle.theory.proofs.Interning.Inv.{Args, argSyms, any-opened, any-closed, keys, Inv, EnvOk, env-later, grow-same}
-use Rattle.theory.proofs.Interning.Inv.{Fits, fits-back, Grow, grow-none, grow-then}
+use Rattle.theory.specs.Checked.{Checked, CheckedIn}
+use Rattle.theory.proofs.Acceptance.Checked.{checked-head, checked-place}
+use Rattle.theory.specs.Good.{PairOk, PairsOk, out, depsAt, scopeCount, symCount}
+use Rattle.theory.specs.Inv.{Args, argSyms, keys, Inv, EnvOk, Fits, Grow}
+use Rattle.theory.proofs.Interning.Inv.{any-opened, any-closed, env-later, grow-same}
+use Rattle.theory.proofs.Interning.Inv.{fits-back, grow-none, grow-then}
 use Rattle.theory.proofs.Interning.Finish.{Result, Results, Step, step-gives, step-then, result-later}
 use Rattle.theory.proofs.Interning.Fresh.{sem-one}
 use Rattle.theory.proofs.Interning.Scopes.{open-grows, open-is, open-inv, leave-inv, pair-of}

@@ -16,10 +16,10 @@ use Rattle.model.specs.Tree.{Rec}
 use Rattle.model.specs.Intern.{Node, func, Sym, Scope, State, symAt, noSym, climb, placement, unionDeps, enter, push}
 use Rattle.laws.specs.Members.{In}
 use Rattle.laws.proofs.Members.{union-left, union-right, union-cases}
-use Rattle.laws.proofs.ArgLists.{ArgList}
-use Rattle.theory.proofs.Interning.Good.{recAt, kidsAt, depsAt, scopeAt, nodeAt, symCount, scopeCount, noArg}
-use Rattle.theory.proofs.Interning.Good.{argsAt, out, SymOk}
-use Rattle.theory.proofs.Interning.Inv.{Args, argSyms, has-arg, InAny, FieldOk, LamApart, Inv, Fits, Grow, lt-or}
+use Rattle.laws.specs.ArgLists.{ArgList}
+use Rattle.theory.specs.Good.{recAt, kidsAt, depsAt, scopeAt, nodeAt, symCount, scopeCount, noArg, argsAt, out, SymOk}
+use Rattle.theory.specs.Inv.{Args, argSyms, InAny, FieldOk, LamApart, Inv, Fits, Grow}
+use Rattle.theory.proofs.Interning.Inv.{has-arg, lt-or}
 use Rattle.theory.proofs.Interning.Inv.{out-low, climb-stays, climb-same}
 
 -- ---- the state with one more symbol

@@ -27,9 +27,9 @@ use Rattle.model.specs.Intern.{State, Env, resolve, internAll}
 use Rattle.laws.proofs.Holds.{holds-good}
 use Rattle.laws.specs.Members.{In}
 use Rattle.laws.proofs.Members.{in-or-not}
-use Rattle.theory.proofs.Interning.Good.{symCount}
-use Rattle.theory.proofs.Interning.Inv.{keys}
-use Rattle.theory.proofs.Bounds.Sound.{Sound}
+use Rattle.theory.specs.Good.{symCount}
+use Rattle.theory.specs.Inv.{keys}
+use Rattle.theory.specs.Sound.{Sound}
 use Rattle.theory.proofs.Interning.Reread.Later.{withReadings, Tabled, Low, later-none, Calm}
 use Rattle.theory.proofs.Interning.Reread.Kinds.{EnvFits, CalmAll, RereadsAll}
 use Rattle.theory.proofs.Interning.Reread.Walk.{internAll-rereads}

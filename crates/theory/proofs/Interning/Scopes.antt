@@ -16,10 +16,11 @@ use lib.Seq.{getD-append-seam}
 use Rattle.model.specs.Binding.{argIds}
 use Rattle.model.specs.Intern.{func, Sym, Scope, State, rootScope, openScope}
 use Rattle.laws.specs.Members.{In}
-use Rattle.laws.proofs.ArgLists.{ArgList, symsIn}
-use Rattle.theory.proofs.Interning.Good.{recAt, kidsAt, depsAt, scopeAt, nodeAt, symCount, scopeCount, noArg}
-use Rattle.theory.proofs.Interning.Good.{argsIn, argsAt, aroundAt, out, PairOk, lam-of}
-use Rattle.theory.proofs.Interning.Inv.{Args, HasArg, InAny, Chain, LamApart, Inv, Fits, Grow, fits-back, lt-or}
+use Rattle.laws.specs.ArgLists.{ArgList, symsIn}
+use Rattle.theory.specs.Good.{recAt, kidsAt, depsAt, scopeAt, nodeAt, symCount, scopeCount, noArg, argsIn, argsAt, aroundAt, out, PairOk}
+use Rattle.theory.proofs.Interning.Good.{lam-of}
+use Rattle.theory.specs.Inv.{Args, HasArg, InAny, Chain, LamApart, Inv, Fits, Grow}
+use Rattle.theory.proofs.Interning.Inv.{fits-back, lt-or}
 use Rattle.theory.proofs.Interning.Push.{one-more}
 
 -- ---- the state with one more scope

@@ -22,12 +22,14 @@ use Rattle.model.specs.Intern.{internScoped, internAll}
 use Rattle.laws.proofs.Holds.{Holds, holds-bind, holds-guard, holds-map}
 use Rattle.laws.specs.Members.{In}
 use Rattle.laws.proofs.Members.{clash, isIn-true, in-right, or-neither, anyIn-false}
-use Rattle.theory.proofs.Acceptance.Checked.{Checked, CheckedIn, checked-head, checked-tail, checked-kids}
+use Rattle.theory.specs.Checked.{Checked, CheckedIn}
+use Rattle.theory.proofs.Acceptance.Checked.{checked-head, checked-tail, checked-kids}
 use Rattle.theory.proofs.Acceptance.Checked.{checked-own, checked-use}
 use Rattle.theory.proofs.Acceptance.Records.{kind-shape, fits-at, def-child, field-child, field-rec, lam-child}
 use Rattle.theory.proofs.Acceptance.Records.{lam-rec}
-use Rattle.theory.proofs.Interning.Good.{isPlain}
-use Rattle.theory.proofs.Interning.Inv.{Args, keys, Inv, grow-none, grow-then, grow-same}
+use Rattle.theory.specs.Good.{isPlain}
+use Rattle.theory.specs.Inv.{Args, keys, Inv}
+use Rattle.theory.proofs.Interning.Inv.{grow-none, grow-then, grow-same}
 use Rattle.theory.proofs.Interning.Keep.{Unfolding, Kept, KeptAll, KidsKeep, PlainRec, madeOf, internLast-keeps}
 use Rattle.theory.proofs.Interning.Keep.{internGeneral-keeps}
 use Rattle.theory.proofs.Interning.Fields.{internField-keeps}

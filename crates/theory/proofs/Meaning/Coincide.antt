@@ -24,10 +24,10 @@ use Rattle.laws.proofs.Induction.{strong}
 use Rattle.laws.proofs.Down.{down-step, under-low}
 use Rattle.laws.specs.Members.{In}
 use Rattle.laws.proofs.Members.{clash}
-use Rattle.laws.proofs.ArgLists.{ArgList, symsIn, optsIn}
+use Rattle.laws.specs.ArgLists.{ArgList, symsIn, optsIn}
 use Rattle.theory.proofs.Meaning.Mean.{Val, Mean, bindSyms, meanAll, meanNode, meanStep, mean}
-use Rattle.theory.proofs.Interning.Good.{recAt, kidsAt, depsAt, nodeAt, isPlain, noArg, Plain, NodeOk, SymOk}
-use Rattle.theory.proofs.Interning.Good.{Goods, lam-cover, lambda-not-plain}
+use Rattle.theory.specs.Good.{recAt, kidsAt, depsAt, nodeAt, isPlain, noArg, Plain, NodeOk, SymOk, Goods}
+use Rattle.theory.proofs.Interning.Good.{lam-cover, lambda-not-plain}
 
 -- ---- a symbol by its node
 

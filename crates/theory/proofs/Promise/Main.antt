@@ -22,9 +22,9 @@ use Rattle.model.specs.Call.{interned, treeOf, bytesOf}
 use Rattle.laws.proofs.Checks.{Passes, passes-checked}
 use Rattle.laws.proofs.Holds.{Holds}
 use Rattle.laws.specs.Members.{In}
-use Rattle.theory.proofs.Acceptance.Checked.{Checked}
+use Rattle.theory.specs.Checked.{Checked}
 use Rattle.theory.proofs.Acceptance.Bytes.{accept-serialised}
-use Rattle.theory.proofs.Interning.Good.{symCount}
+use Rattle.theory.specs.Good.{symCount}
 use Rattle.theory.proofs.Interning.Interned.{Ready, interned-ready}
 use Rattle.theory.proofs.Building.Given.{Built, none-given}
 use Rattle.theory.proofs.Building.Built.{root-built}

@@ -20,10 +20,10 @@ use Rattle.model.specs.Gate.{Graph}
 use Rattle.model.specs.Materialize.{Builder, processScope, buildOp}
 use Rattle.model.specs.Call.{interned}
 use Rattle.laws.proofs.Holds.{Holds}
-use Rattle.theory.proofs.Interning.Good.{NodeOk, symCount, scopeCount, recAt, kidsAt, nodeAt}
+use Rattle.theory.specs.Good.{NodeOk, symCount, scopeCount, recAt, kidsAt, nodeAt}
 use Rattle.theory.proofs.Interning.Interned.{Ready, interned-ready}
-use Rattle.theory.proofs.Bounds.Sound.{thunks, NodeSound, Sound}
-use Rattle.theory.proofs.Bounds.Limits.{Any, forest-sound}
+use Rattle.theory.specs.Sound.{thunks, NodeSound, Sound, Any}
+use Rattle.theory.proofs.Bounds.Limits.{forest-sound}
 
 -- an operation is built with as many children as it has child symbols
 pub rebuilt-count : (g : Graph) (f : Builder) (sc : ℕ) (env : Env) (last op j : ℕ) (ks brs : List ℕ) →

@@ -13,7 +13,8 @@ use Rattle.model.specs.Lists.{isIn, twice}
 use Rattle.model.specs.Tree.{Tree, Trees, node, nil, cons}
 use Rattle.model.specs.Binding.{idOf, inside, after, rebound, reboundIn, unbound, unboundIn}
 use Rattle.model.specs.Demand3.{NoUse, NoUses}
-use Rattle.laws.proofs.Clear.{Clear, clear-left, clear-right}
+use Rattle.laws.specs.Clear.{Clear}
+use Rattle.laws.proofs.Clear.{clear-left, clear-right}
 use Rattle.laws.specs.Members.{In}
 use Rattle.laws.proofs.Members.{clash, isIn-true, in-left, in-right, in-either, or-neither, anyIn-false}
 

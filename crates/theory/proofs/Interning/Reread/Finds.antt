@@ -21,9 +21,9 @@ use Rattle.laws.proofs.Apart.{none-some}
 use Rattle.laws.proofs.Holds.{Holds, holds-guard}
 use Rattle.laws.specs.Members.{In}
 use Rattle.laws.proofs.Members.{both-and, same-refl}
-use Rattle.theory.proofs.Interning.Good.{symCount}
+use Rattle.theory.specs.Good.{symCount}
 use Rattle.theory.proofs.Bounds.Steps.{enter-low, enter-length}
-use Rattle.theory.proofs.Interning.Inv.{InAny}
+use Rattle.theory.specs.Inv.{InAny}
 use Rattle.theory.proofs.Interning.Push.{newSym, one-more}
 use Rattle.theory.proofs.Interning.Finish.{lookup-found, isKey-true}
 use Rattle.theory.proofs.Interning.Reread.Later.{Tabled, Later, later-none, Calm, calm-still}

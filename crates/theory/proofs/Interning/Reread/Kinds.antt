@@ -22,7 +22,7 @@ use Rattle.model.specs.Intern.{nodeOf, internLast, internGeneral, internField, 
 use Rattle.laws.proofs.Apart.{false-true}
 use Rattle.laws.proofs.Holds.{Holds, holds-bind, holds-guard, holds-map}
 use Rattle.theory.proofs.Acceptance.Records.{kind-shape}
-use Rattle.theory.proofs.Interning.Good.{symCount, scopeCount}
+use Rattle.theory.specs.Good.{symCount, scopeCount}
 use Rattle.theory.proofs.Bounds.Steps.{open-more}
 use Rattle.theory.proofs.Interning.Reread.Later.{Tabled, Low, later-none, Calm, calm-still, calm-as}
 use Rattle.theory.proofs.Interning.Reread.Later.{calm-then, calm-map}

@@ -12,8 +12,8 @@ use lib.ListN.{length}
 use Rattle.model.specs.Answer.{Answer, good, _>>=_}
 use Rattle.model.specs.Tree.{Rec}
 use Rattle.model.specs.Intern.{State, symAt, lookup, recall}
-use Rattle.theory.proofs.Interning.Good.{symCount}
-use Rattle.theory.proofs.Interning.Inv.{InAny}
+use Rattle.theory.specs.Good.{symCount}
+use Rattle.theory.specs.Inv.{InAny}
 
 -- ---- readings
 

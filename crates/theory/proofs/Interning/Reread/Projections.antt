@@ -17,7 +17,7 @@ use Rattle.model.specs.Intern.{pairProjection}
 use Rattle.laws.proofs.Apart.{none-some}
 use Rattle.laws.proofs.Holds.{Holds, holds-bind}
 use Rattle.theory.proofs.Bounds.Steps.{pick-low}
-use Rattle.theory.proofs.Interning.Good.{symCount}
+use Rattle.theory.specs.Good.{symCount}
 use Rattle.theory.proofs.Interning.Finish.{lookup-found, isKey-true}
 use Rattle.theory.proofs.Interning.Reread.Later.{Tabled, Low, Later, later-none, later-then, Calm, calm-still}
 use Rattle.theory.proofs.Interning.Reread.Finds.{Found, finish-found, found-low}

@@ -18,7 +18,7 @@ use Rattle.model.specs.Binding.{kind}
 use Rattle.model.specs.Intern.{State, Out, Outs, Env, Kids, bindDef, openThunk, thunked, internScoped}
 use Rattle.model.specs.Intern.{branch, read, internKind, intern, internAll}
 use Rattle.laws.proofs.Holds.{Holds, holds-bind, holds-guard, holds-map}
-use Rattle.theory.proofs.Interning.Good.{symCount, scopeCount}
+use Rattle.theory.specs.Good.{symCount, scopeCount}
 use Rattle.theory.proofs.Bounds.Steps.{open-more}
 use Rattle.theory.proofs.Interning.Reread.Later.{withReadings, tabled-with, Low, later-none}
 use Rattle.theory.proofs.Interning.Reread.Later.{later-with, calm-still, calm-then, calm-map}
