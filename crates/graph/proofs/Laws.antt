@@ -26,7 +26,7 @@ use Rattle.symbols.specs.Symbols as symbols
 use Rattle.symbols.proofs.Words.{words-under}
 use Rattle.symbols.proofs.Laws.{syms-length, sym-at, kids-at, sounds-agree}
 use Rattle.scopes.specs.declared.Rel.{Rel}
-use Rattle.scopes.specs.Scopes.{Nested, scopeWord}
+use Rattle.scopes.specs.Scopes.{Nested}
 use Rattle.scopes.specs.Relation.{relIn, Classified}
 use Rattle.scopes.proofs.Open.{nested-agree}
 use Rattle.graph.specs.Graph.{Within, Scoped, Arena, graphOf, Related, Tests, isOutsider}

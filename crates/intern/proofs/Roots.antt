@@ -8,7 +8,7 @@ use mathlib.Core.Option.{none}
 use mathlib.Core.List.{List, []}
 use native.Mathlib.Omega.{arith}
 use borrow.Author.Tests.{ltb-false}
-use lib.ListN.{length, getD}
+use lib.ListN.{length}
 use Rattle.regions.specs.Regions.{SYMBOLS, PENDING, BINDINGS, WORDS, end}
 use Rattle.model.specs.Answer.{refused, good, _>>=_}
 use Rattle.model.specs.Lists.{last}

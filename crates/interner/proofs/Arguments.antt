@@ -20,7 +20,6 @@ use Rattle.model.specs.Tree.{Rec}
 use Rattle.model.specs.Forest.{recordCount}
 use Rattle.model.specs.Intern.{Scope, scopeAt, argument, Outs, push, alloc, allocArgs}
 use Rattle.model.specs.Intern as intern
-use Rattle.laws.specs.Members.{In}
 use Rattle.laws.proofs.Members.{in-one, apart-anyIn}
 use Rattle.laws.proofs.Ranges.{range-in}
 use Rattle.record.specs.Record.{rowAt}

@@ -12,7 +12,7 @@ use lib.Dec.{eqb}
 use lib.ListN.{getD}
 use Rattle.regions.specs.Regions.{PENDING}
 use Rattle.model.specs.Lists.{union}
-use Rattle.model.specs.Answer.{refused, good, _>>=_}
+use Rattle.model.specs.Answer.{good, _>>=_}
 use Rattle.model.specs.Tree.{Rec}
 use Rattle.model.specs.Intern.{Sym, Scope, symAt, Out, operation, unionDeps, finish, recall, remember, pick}
 use Rattle.model.specs.Intern.{newProjections, pairProjection}

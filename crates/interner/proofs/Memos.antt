@@ -1,7 +1,7 @@
 -- Projections remembered. In order: what is recalled are symbols; how many there are; one pair more, as
 -- model's `remember` has it.
 -- Assumes nothing.
-use Prim.Native.Nat.{ℕ, zero, suc, _+_, _<_, _≤_}
+use Prim.Native.Nat.{ℕ, zero, suc, _+_, _<_}
 use mathlib.Core.Path.{_≡_, refl, sym, ap, _∙_}
 use mathlib.Core.Logic.{inl, inr}
 use mathlib.Core.Bool.{Bool, true, false}
@@ -12,15 +12,13 @@ use borrow.Author.Tests.{eq-eqb}
 use lib.Dec.{eqb}
 use lib.ListN.{length}
 use Rattle.regions.specs.Regions.{SYMBOLS, MEMO, PENDING, end}
-use Rattle.model.specs.Lists.{isIn, without}
 use Rattle.model.specs.Intern.{recall, remember}
 use Rattle.model.specs.Intern as intern
 use Rattle.laws.proofs.Short.{once-short}
 use Rattle.laws.proofs.Apart.{none-some, some-none}
 use Rattle.laws.specs.Frame.{Frame}
-use Rattle.laws.specs.Members.{In, Every, Once}
+use Rattle.laws.specs.Members.{In, Every}
 use Rattle.laws.proofs.Frame.{frame-wider, frame-store}
-use Rattle.laws.proofs.Members.{isIn-true, in-one, without-cases}
 use Rattle.laws.specs.Stack.{stackOf}
 use Rattle.tables.specs.declared.Tables.{Tables}
 use Rattle.tables.specs.Tables.{Open}

@@ -1,11 +1,11 @@
 -- The words that a state hangs on. In order: words kept (`Same`); what holds of the state, part by part; what it stands
 -- for; words after those in use.
 -- Assumes nothing.
-use Prim.Native.Nat.{ℕ, suc, _+_, _*_, _<_, _≤_}
+use Prim.Native.Nat.{ℕ, suc, _+_, _<_, _≤_}
 use mathlib.Core.Path.{_≡_, sym, ap, _∙_}
 use mathlib.Core.List.{List}
 use native.Mathlib.Omega.{arith}
-use Rattle.regions.specs.Regions.{SYMBOLS, SLOTS, SCOPES, ENTRIES, MEMO, PENDING}
+use Rattle.regions.specs.Regions.{ENTRIES, MEMO}
 use Rattle.model.specs.Intern.{Sym, symAt}
 use Rattle.laws.specs.Members.{In}
 use Rattle.laws.specs.Frame.{Agree, Frame}
@@ -16,7 +16,7 @@ use Rattle.symbols.proofs.Laws.{syms-agree}
 use Rattle.tables.specs.declared.Tables.{Tables}
 use Rattle.tables.specs.Tables.{Open}
 use Rattle.tables.proofs.Stack.{tables-agree, hinted-agree}
-use Rattle.scopes.specs.Scopes.{scopeWord, levelOf, scopesOf}
+use Rattle.scopes.specs.Scopes.{scopeWord, levelOf}
 use Rattle.scopes.proofs.Open.{word-agree, scopes-agree}
 use Rattle.memo.specs.Memo.{memoOf}
 use Rattle.memo.proofs.Laws.{memo-agree}

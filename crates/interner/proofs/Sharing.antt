@@ -1,16 +1,16 @@
--- A new symbol in the newest table, and the answers of model's `alloc`. In order: entering; the step to a symbol;
+-- A new symbol in the newest table, and the answers of model's `alloc`. In order: what steps leave; the step to a symbol;
 -- answers; the steps of `alloc`.
 -- Assumes nothing.
 use Prim.Native.Nat.{ℕ, _+_, _*_, _<_, _≤_}
 use mathlib.Core.Path.{_≡_, refl, sym, ap, _∙_, subst}
-use mathlib.Core.Bool.{Bool, true, false}
+use mathlib.Core.Bool.{Bool, true}
 use mathlib.Core.List.{List}
 use native.Mathlib.Omega.{arith}
 use borrow.Author.Tests.{lt-ltb, le-ltb, eq-eqb, ne-eqb}
 use lib.ListN.{length, set}
 use Rattle.regions.specs.Regions.{SYMBOLS, ENTRIES, PENDING, end}
 use Rattle.model.specs.Answer.{refused, good, guard}
-use Rattle.model.specs.Intern.{push, alloc, enter}
+use Rattle.model.specs.Intern.{push, alloc}
 use Rattle.model.specs.Intern as intern
 use Rattle.laws.specs.Frame.{Frame}
 use Rattle.laws.proofs.Frame.{frame-none, frame-then, frame-wider, frame-store}
@@ -23,7 +23,7 @@ use Rattle.symbols.specs.Symbols.{recOf, nodeOf}
 use Rattle.symbols.proofs.Laws.{syms-length}
 use Rattle.symbols.proofs.Same.{key-opcode}
 use Rattle.tables.specs.declared.Tables.{Tables}
-use Rattle.tables.specs.Tables.{hint, hintOf, tablesOf, Open}
+use Rattle.tables.specs.Tables.{hint, hintOf, Open}
 use Rattle.tables.proofs.Stack.{entered-tables, entered-below, entered-hinted}
 use Rattle.graph.proofs.Laws.{still-above}
 use Rattle.interner.specs.declared.State.{State}
@@ -34,75 +34,7 @@ use Rattle.interner.specs.Step.{Pushed, allocOf, Answers}
 use Rattle.interner.proofs.Same.{used-sound, Same, abs-same, rep-same}
 use Rattle.interner.proofs.Pushing.{pushed-entries, pushed-symbols}
 
--- ---- entering
-
-abbrev withTables : intern.State → List (List ℕ) → intern.State
-withTables s ts = record {
-  syms = s .syms;
-  tables = ts;
-  scopes = s .scopes;
-  memo = s .memo;
-  readings = s .readings;
-}
-
-module _ (bs ws : List ℕ) (t : Tables) (st : State) (s m : ℕ) (rep : Rep bs ws st) (opened : Open t (st .entries))
-    (few : st .entries < 512) (low : s < st .symbols) where
-  abbrev ws₁ : List ℕ
-  ws₁ = set ws (ENTRIES .first + st .entries) (s + 512 * m)
-
-  frame : Frame (ENTRIES .first + st .entries) (end ENTRIES) ws ws₁
-  frame = frame-store (ENTRIES .first + st .entries) (end ENTRIES) (ENTRIES .first + st .entries) (s + 512 * m) ws
-      (omega arith) (omega arith)
-
-  same-entered : Same ws ws₁ st
-  same-entered = record {
-    still = still-above frame (omega arith) (rep .slots .few) (rep .arena .scoped);
-    entries = λ k l r. frame .before k r;
-    memo = λ k l r. frame .after k l;
-  }
-
-  small : s < 512
-  small = omega (arith, rep .arena .scoped .few)
-
-  room : ENTRIES .first + st .entries < length ws
-  room = omega (arith, rep .arena .scoped .words)
-
-  abs-entered : absOf bs ws₁ t (entered st) ≡ withTables (absOf bs ws t st) (enter s (tablesOf ws t (st .entries)))
-  abs-entered =
-      ap (λ (z : List (List ℕ)). withTables (absOf bs ws₁ t st) z)
-      (entered-tables t (st .entries) opened ws s m small room)
-      ∙ ap (λ (z : intern.State). withTables z (enter s (tablesOf ws t (st .entries))))
-      (abs-same bs ws ws₁ st rep same-entered t opened)
-
-  rep-entered : st .entries < st .symbols → m ≡ hintOf bs ws s → Rep bs ws₁ (entered st)
-  rep-entered more own =
-      let old = rep-same bs ws ws₁ st rep same-entered in
-      record {
-        arena = old .arena;
-        slots = old .slots;
-        sourced = old .sourced;
-        levels = old .levels;
-        entries = record {
-          few = omega arith;
-          below = entered-below t (st .entries) opened ws s m small room (st .symbols) (rep .entries .below) low;
-          hinted = entered-hinted t (st .entries) opened ws s m small room bs (st .slots) (st .symbols)
-              (used-sound bs ws st rep) (rep .slots .few) (rep .arena .scoped .few) (rep .entries .below) low
-              (rep .entries .hinted) own;
-        };
-        memo = old .memo;
-        few-readings = rep .few-readings;
-      }
-
-  leaves-entered : Leaves ws ws₁ st (entered st)
-  leaves-entered = record {
-    frame = frame-wider (ENTRIES .first + st .entries) (end ENTRIES) (SYMBOLS .first) (PENDING .first) ws ws₁ frame
-        (omega arith) (omega arith);
-    scope-words = λ k l r. frame .before k (omega arith);
-    scopes = refl;
-    entries = omega arith;
-    readings = refl;
-    more = omega arith;
-  }
+-- ---- what steps leave
 
 pub leaves-then : (us ws xs : List ℕ) (a b c : State) → Leaves us ws a b → Leaves ws xs b c → Leaves us xs a c
 leaves-then us ws xs a b c g h = record {
@@ -190,33 +122,75 @@ module _ (bs ws : List ℕ) (t : Tables) (st : State) (cur : ℕ) (node : Node) 
 
   module _ (ws₁ : List ℕ) (st₁ : State) (levels m : ℕ) (few : st .symbols < 512) (rep : Rep bs ws st)
       (opened : Open t (st .entries)) (done : Pushed bs ws st cur node held count levels ws₁ st₁) where
-    push-shared : pushOf true ≡ withTables (pushOf false) (enter (st .symbols) (tablesOf ws t (st .entries)))
-    unfolding push
-    push-shared = rw (syms-length bs ws (st .symbols))
-
-    tables-kept : tablesOf ws₁ t (st₁ .entries) ≡ tablesOf ws t (st .entries)
-    unfolding push
-    tables-kept = ap (λ (z : intern.State). z .tables) (done .is t opened)
-
-    room-entry : st₁ .entries < 512
-    room-entry = omega (arith, pushed-entries done, rep .entries .few)
-
-    still-open : Open t (st₁ .entries)
-    still-open = subst (Open t) (sym (pushed-entries done)) opened
-
     abbrev ws₂ : List ℕ
     ws₂ = set ws₁ (ENTRIES .first + st₁ .entries) (st .symbols + 512 * m)
 
     newest : st .symbols < st₁ .symbols
     newest = omega (arith, pushed-symbols done)
 
+    still-open : Open t (st₁ .entries)
+    still-open = subst (Open t) (sym (pushed-entries done)) opened
+
+    frame : Frame (ENTRIES .first + st₁ .entries) (end ENTRIES) ws₁ ws₂
+    frame = frame-store (ENTRIES .first + st₁ .entries) (end ENTRIES) (ENTRIES .first + st₁ .entries)
+        (st .symbols + 512 * m) ws₁ (omega arith) (omega (arith, pushed-entries done, rep .entries .few))
+
+    same : Same ws₁ ws₂ st₁
+    same = record {
+      still = still-above frame (omega arith) (done .rep .slots .few) (done .rep .arena .scoped);
+      entries = λ k l r. frame .before k r;
+      memo = λ k l r. frame .after k l;
+    }
+
+    room : ENTRIES .first + st₁ .entries < length ws₁
+    room = omega (arith, pushed-entries done, rep .entries .few, done .rep .arena .scoped .words)
+
     abs-shared : absOf bs ws₂ t (entered st₁) ≡ pushOf true
+    unfolding push
     abs-shared =
-        abs-entered bs ws₁ t st₁ (st .symbols) m (done .rep) still-open room-entry newest
-        ∙ ap (λ (z : List (List ℕ)). withTables (absOf bs ws₁ t st₁) (enter (st .symbols) z)) tables-kept
-        ∙ ap (λ (z : intern.State). withTables z (enter (st .symbols) (tablesOf ws t (st .entries))))
-        (done .is t opened)
-        ∙ sym push-shared
+        let made = done .is t opened in
+        let kept = abs-same bs ws₁ ws₂ st₁ (done .rep) same t still-open ∙ made in
+        rw (
+          entered-tables t (st₁ .entries) still-open ws₁ (st .symbols) m few room,
+          ap (λ (z : intern.State). z .tables) made,
+          ap (λ (z : intern.State). z .syms) kept,
+          ap (λ (z : intern.State). z .scopes) kept,
+          ap (λ (z : intern.State). z .memo) kept,
+          ap (λ (z : intern.State). z .readings) kept,
+          syms-length bs ws (st .symbols),
+        )
+
+    rep-shared : m ≡ hintOf bs ws₁ (st .symbols) → Rep bs ws₂ (entered st₁)
+    rep-shared own =
+        let new = done .rep in
+        let old = rep-same bs ws₁ ws₂ st₁ new same in
+        record {
+          arena = old .arena;
+          slots = old .slots;
+          sourced = old .sourced;
+          levels = old .levels;
+          entries = record {
+            few = omega (arith, pushed-symbols done, pushed-entries done, rep .entries .few);
+            below = entered-below t (st₁ .entries) still-open ws₁ (st .symbols) m few room (st₁ .symbols)
+                (new .entries .below) newest;
+            hinted = entered-hinted t (st₁ .entries) still-open ws₁ (st .symbols) m few room bs (st₁ .slots)
+                (st₁ .symbols) (used-sound bs ws₁ st₁ new) (new .slots .few) (new .arena .scoped .few)
+                (new .entries .below) newest (new .entries .hinted) own;
+          };
+          memo = old .memo;
+          few-readings = old .few-readings;
+        }
+
+    leaves-entered : Leaves ws₁ ws₂ st₁ (entered st₁)
+    leaves-entered = record {
+      frame = frame-wider (ENTRIES .first + st₁ .entries) (end ENTRIES) (SYMBOLS .first) (PENDING .first) ws₁ ws₂ frame
+          (omega arith) (omega arith);
+      scope-words = λ k l r. frame .before k (omega arith);
+      scopes = refl;
+      entries = omega arith;
+      readings = refl;
+      more = omega arith;
+    }
 
     own-hint : (p : Parts) → p ≡ partsOf node →
         m ≡ hint (rowAt bs (p .source) .rec .opcode) (pendingFrom ws held count) → m ≡ hintOf bs ws₁ (st .symbols)
@@ -240,10 +214,8 @@ module _ (bs ws : List ℕ) (t : Tables) (st : State) (cur : ℕ) (node : Node) 
         subst (λ (z : List ℕ). Answers bs ws t st (allocOf bs ws t st cur node held count true) z
         (stepTo st node count (st .symbols))) (sym d)
         (subst (Answers bs ws t st (allocOf bs ws t st cur node held count true) ws₂) (sym step-shared) (record {
-          rep = rep-entered bs ws₁ t st₁ (st .symbols) m (done .rep) still-open room-entry newest
-              (omega (arith, pushed-symbols done, pushed-entries done, rep .entries .few)) (own-hint p is h);
-          leaves = leaves-then ws ws₁ ws₂ st st₁ (entered st₁) (done .leaves)
-              (leaves-entered bs ws₁ t st₁ (st .symbols) m (done .rep) still-open room-entry newest);
+          rep = rep-shared (own-hint p is h);
+          leaves = leaves-then ws ws₁ ws₂ st st₁ (entered st₁) (done .leaves) leaves-entered;
           low = omega (arith, pushed-symbols done);
           is = out-given bs ws₂ t (entered st₁) (st .symbols)
               ∙ ap (λ (z : intern.State). good (st .symbols, z)) abs-shared

@@ -11,7 +11,7 @@ use native.Mathlib.Nat.{eq-or-lt-of-le}
 use lib.ListN.{set}
 use lib.Seq.{getD-set-same}
 use Rattle.regions.specs.Regions.{SCOPES, end}
-use Rattle.model.specs.Intern.{Scope, openScope}
+use Rattle.model.specs.Intern.{openScope}
 use Rattle.model.specs.Intern as intern
 use Rattle.laws.specs.Frame.{Frame}
 use Rattle.laws.specs.Members.{Every}
