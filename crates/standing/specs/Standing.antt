@@ -8,6 +8,7 @@ use mathlib.Core.Bool.{Bool}
 use mathlib.Core.List.{List}
 use Prim.Native.Nat.{ℕ, _+_, _≤_, _<_}
 use lib.ListN.{length}
+use Rattle.regions.specs.Regions.{SLOTS}
 use Rattle.model.specs.Tree.{Tree, Trees, many}
 use Rattle.model.specs.Intern.{Sym, Scope, State, Env, symAt}
 use Rattle.laws.specs.Members.{In, Every}
@@ -61,6 +62,6 @@ pub record AllRead (ts : Trees) (cur : ℕ) (st : State) (k : ℕ) (os : List �
   pub later : Grow st (os .2)
   pub count : length (os .0) ≡ many ts
   pub results : Every (Result (os .2) cur) (os .0)
-  pub slots : slotsIn (os .2 .syms) + (k + many ts) ≤ 2560
+  pub slots : slotsIn (os .2 .syms) + (k + many ts) ≤ SLOTS .size
   pub branches : Every (λ b. b < scopeCount (os .2)) (os .1)
   pub few : length (os .1) ≤ 2
