@@ -44,6 +44,7 @@ use Rattle.tables.specs.Tables.{first}
 use Rattle.symbols.specs.Sourced.{Sourced}
 use Rattle.interner.specs.State.{absOf, Rep}
 use Rattle.gate.specs.Gate.{Countable, CountsOnly}
+use Rattle.graph.specs.Graph.{Arena}
 use Rattle.graph.proofs.Laws.{Still, still-above, node-agree, arena-agree}
 use Rattle.planner.specs.Building.{Opens, NoUse, Buildable}
 
@@ -107,16 +108,16 @@ module _ (bs : List ℕ) (fin : List Sym) (scs : List Scope) (s : ℕ) where
 
 -- ---- counting
 
+pub arena-countable : {bs ws : List ℕ} {n m : ℕ} → Arena bs ws n m → Countable ws n
+arena-countable a = record {
+  few = a .scoped .few;
+  words = a .scoped .words;
+  kids = λ i l. let s = a .sound i l in record { slots = s .slots; lower = s .lower };
+}
+
+-- ---- building
+
 module _ (bs ws : List ℕ) (st : State) (rep : Rep bs ws st) where
-  pub symbols-stored : Countable ws (st .symbols)
-  symbols-stored = record {
-    few = rep .arena .scoped .few;
-    words = omega (arith, rep .arena .scoped .words);
-    kids = λ i l. let s = rep .arena .sound i l in record { slots = s .slots; lower = s .lower };
-  }
-
-  -- ---- building
-
   module _ (root : ℕ) (accepted : accept bs ≡ good (treesOf bs))
       (is : interned bs ≡ good (root, absOf bs ws first st)) where
     leaves : Leaves Any (root, absOf bs ws first st)

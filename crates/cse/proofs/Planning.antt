@@ -1,13 +1,17 @@
--- From counting and planning to a planned tree. Assumes nothing.
-use Prim.Native.Nat.{ℕ, _≤_}
-use mathlib.Core.Path.{_≡_, _∙_, subst}
+-- From counting and planning to a planned tree, and to symbols that are held. Assumes nothing.
+use Prim.Native.Nat.{ℕ, _+_, _≤_}
+use mathlib.Core.Path.{_≡_, sym, _∙_, subst}
 use mathlib.Core.List.{List}
 use native.Mathlib.Omega.{arith}
 use lib.ListN.{length}
-use Rattle.regions.specs.Regions.{SLOTS}
+use Rattle.regions.specs.Regions.{SYMBOLS, SLOTS, USES, WORDS}
 use Rattle.model.specs.Tree.{Tree, rows}
 use Rattle.model.specs.Materialize.{materialize}
-use Rattle.model.specs.Call.{treeOf}
+use Rattle.model.specs.Answer.{good}
+use Rattle.model.specs.Forest.{treesOf}
+use Rattle.model.specs.Accept.{accept}
+use Rattle.model.specs.Call.{treeOf, interned}
+use Rattle.laws.proofs.Frame.{frame-then, frame-wider}
 use Rattle.laws.proofs.Rows.{size-rows}
 use Rattle.symbols.specs.Symbols.{symsOf}
 use Rattle.symbols.proofs.Laws.{syms-agree}
@@ -18,12 +22,15 @@ use Rattle.tables.specs.Tables.{first}
 use Rattle.interner.specs.State.{absOf, Rep}
 use Rattle.gate.specs.Gate.{Reached}
 use Rattle.graph.specs.declared.Graph.{Graph}
-use Rattle.graph.proofs.Laws.{Still, still-above}
+use Rattle.graph.specs.Graph.{Arena}
+use Rattle.graph.proofs.Laws.{Still, still-above, arena-agree}
 use Rattle.plan.specs.Plan.{planFrom, rowsFor}
 use Rattle.planner.specs.declared.Plan.{Plan}
 use Rattle.planner.specs.Grew.{Grown}
 use Rattle.materialize.specs.Materialize.{Counted, Materialized}
-use Rattle.cse.specs.Call.{PlanOf, Planned}
+use Rattle.cse.specs.declared.Answer.{Answer}
+use Rattle.cse.specs.declared.Answer.the-variants.{Written, Refused}
+use Rattle.cse.specs.Call.{PlanOf, Planned, Held, Counts, Holds}
 
 -- words ws₁ with the uses counted, and ws₂ with the tree planned too
 module _ (bs ws : List ℕ) (st : State) (rep : Rep bs ws st) (root : ℕ) (ws₁ : List ℕ)
@@ -44,7 +51,7 @@ module _ (bs ws : List ℕ) (st : State) (rep : Rep bs ws st) (root : ℕ) (ws�
   pub uses-counted : Counted bs ws₁ graph root
   uses-counted s l = rw syms-same (reached .uses bs (scopesOf ws₁ (st .scopes)) s l)
 
-  module _ (ws₂ : List ℕ) (r : Plan) (long : 7944 ≤ length ws₂)
+  module _ (ws₂ : List ℕ) (r : Plan) (long : WORDS ≤ length ws₂)
       (grown : Materialized bs ws₁ graph root ws₂ r) where
     tree-same : materialize (symsOf bs ws₁ (st .symbols)) (scopesOf ws₁ (st .scopes)) root
         ≡ treeOf (root, absOf bs ws first st)
@@ -65,5 +72,30 @@ module _ (bs ws : List ℕ) (st : State) (rep : Rep bs ws st) (root : ℕ) (ws�
       tree = tree-planned (treeOf (root, absOf bs ws first st))
           (subst (λ (t : Tree). Grown bs ws₁ (record { rows = 0; deepest = 0 }) 0 t ws₂ r) tree-same grown);
       ready = record { words = long; writable = λ l. grown .writable l tt };
-      unused = λ k l. grown .kept .after k (omega arith) ∙ reached .kept .after k (omega arith);
+      kept = frame-then (SYMBOLS .first) WORDS ws ws₁ ws₂
+          (frame-wider _ _ _ _ ws ws₁ (reached .kept) (omega arith) (omega arith))
+          (frame-wider _ _ _ _ ws₁ ws₂ (grown .kept) (omega arith) (omega arith));
     }
+
+    -- planning leaves symbols, scopes and uses as they are
+    pub held : accept bs ≡ good (treesOf bs) → interned bs ≡ good (root, absOf bs ws first st) →
+        Held bs ws₂ (st .symbols)
+    held accepted interns =
+        let a : Arena bs ws₁ (st .symbols) (st .scopes) =
+        arena-agree still bs (λ i l. rep .arena .sound i l .slots) (rep .arena) in
+        let still₂ : Still ws₁ ws₂ (SLOTS .size) (st .symbols) (st .scopes) =
+        still-above (grown .kept) (omega arith) (omega arith) (a .scoped) in
+        record {
+          made = (root, absOf bs ws first st);
+          accepted = accepted;
+          interns = interns;
+          scopes = st .scopes;
+          arena = arena-agree still₂ bs (λ i l. a .sound i l .slots) a;
+          syms = syms-agree bs ws₁ ws₂ (SLOTS .size) (still₂ .slots) (st .symbols) (still₂ .own) (a .sound) ∙ syms-same;
+          uses = λ s l.
+              grown .kept .after (USES .first + s) (omega arith) ∙ reached .uses bs (scopesOf ws (st .scopes)) s l;
+        }
+
+pub held-by : {bs ws : List ℕ} (n : ℕ) (r : Answer) → Counts n r → Held bs ws n → Holds bs ws r
+held-by {bs} {ws} n (Written len symbols readings) e h = subst (Held bs ws) (sym e) h
+held-by n (Refused m p) e h = tt

@@ -19,6 +19,7 @@ use Rattle.model.specs.Intern.{State}
 use Rattle.model.specs.Call.{Call, check1, lentChecks, interned, treeOf, bytesOf, check13, check14, treeChecks}
 use Rattle.model.specs.Call.{writtenOf, measured, written, run, numbersOf, outWith}
 use Rattle.model.specs.Call as call
+use Rattle.regions.specs.Regions.{PLAN, WORDS}
 use Rattle.output.specs.Output.{over}
 use Rattle.serialise.specs.Serialise.{plannedBytes}
 use Rattle.planner.specs.declared.Plan.{Plan}
@@ -112,8 +113,8 @@ module _ (bs ws : List ℕ) (o : ℕ × State) (p : Plan) (h : PlanOf bs ws (tre
   pub tells-many : 256 < p .rows → Tells (measured (length out) o) out (variants.Refused 13 0) out
   tells-many l = tells-refused _ out 13 0 (measured-many (length out) o (omega (arith, h .count)))
 
-  module _ (size : ℕ) (few : p .rows ≤ 256) (long : size ≡ length (plannedBytes bs ws 7176 (p .rows))) where
-    bytes-are : bytesOf o ≡ plannedBytes bs ws 7176 (p .rows)
+  module _ (size : ℕ) (few : p .rows ≤ 256) (long : size ≡ length (plannedBytes bs ws (PLAN .first) (p .rows))) where
+    bytes-are : bytesOf o ≡ plannedBytes bs ws (PLAN .first) (p .rows)
     unfolding bytesOf serialise many rowsOf
     bytes-are = ap (forestOf 1) (append-nil (rows (treeOf o)) ∙ sym (h .plan few))
 
@@ -134,7 +135,7 @@ module _ (bs ws : List ℕ) (o : ℕ × State) (p : Plan) (h : PlanOf bs ws (tre
           (omega (arith, h .deepest few)))
 
       pub tells-good : (symbols readings : ℕ) (out′ : List ℕ) → p .deepest ≤ 64 → length (o .1 .syms) ≡ symbols →
-          o .1 .readings ≡ readings → out′ ≡ over out 0 (plannedBytes bs ws 7176 (p .rows)) →
+          o .1 .readings ≡ readings → out′ ≡ over out 0 (plannedBytes bs ws (PLAN .first) (p .rows)) →
           Tells (measured (length out) o) out (variants.Written size symbols readings) out′
       unfolding writtenOf
       tells-good symbols readings out′ l s r e =
@@ -177,10 +178,10 @@ module _ (c : Call) where
   unfolding written _>>=_
   written-measured o e = rw e
 
-  pub run-few : c .words < 16384 → run c ≡ refused 1 0
+  pub run-few : c .words < WORDS → run c ≡ refused 1 0
   unfolding run lentChecks check1 checked unless _>>=_
-  run-few h = rw (lt-ltb (c .words) 16384 h)
+  run-few h = rw (lt-ltb (c .words) WORDS h)
 
-  pub run-enough : 16384 ≤ c .words → run c ≡ written c
+  pub run-enough : WORDS ≤ c .words → run c ≡ written c
   unfolding run lentChecks check1 checked unless _>>=_
-  run-enough h = rw (le-ltb (c .words) 16384 h)
+  run-enough h = rw (le-ltb (c .words) WORDS h)

@@ -1,11 +1,12 @@
 // The main call (mod.rs): checks, interning, planning and writing, in their order; and the work memory cleared.
-// In order: the words cleared; a planned tree written; a tree planned; an accepted forest; any forest; the call; the
-// call as other programs make it.
+// In order: the words cleared; a planned tree written; a tree planned; an accepted forest; any forest, which is the stage
+// that the call and the lister have in common; the call; the call as other programs make it.
 use codec::Verdict;
 use graph::Graph;
 use interner::State;
 use planner::Plan;
 use regions::PLAN;
+use regions::WORDS;
 ghost use mathlib.Core.Path.{_≡_};
 ghost use Prim.Native.Nat.{ℕ, _≤_};
 ghost use lib.ListN.{length};
@@ -19,7 +20,8 @@ ghost use Rattle.record.specs.Record.{Laid};
 ghost use Rattle.regions.specs.Regions.{WORDS};
 ghost use Rattle.tables.specs.Tables.{first};
 ghost use Rattle.interner.specs.State.{absOf, Rep};
-ghost use Rattle.cse.specs.Call.{five, numbersIn, Tells, cleared, Unused, PlanOf, Ready, Planned};
+ghost use Rattle.cse.specs.Call.{five, numbersIn, Tells, cleared, LentOnly, PlanOf, Ready, Planned};
+ghost use Rattle.cse.specs.Call.{Held, Counts, Holds};
 
 // What the call gives: how many bytes were written, how many symbols and readings there were; or the number and the
 // place of a refusal.
@@ -28,13 +30,10 @@ pub enum Answer {
     Refused(u32, u32),
 }
 
-// The words that the call is lent at least.
-const WORDS: usize = 16384;
-
 // The first 16,384 words set to 0. Rules out: the last of them left; a later word touched.
 fn clear(work: &mut [u32])
-    requires { ⌜ 16384 ≤ length (now work) ⌝ }
-    ensures { λ _. ⌜ now (work .exit) ≡ cleared 16384 (now (work .entry)) ⌝ }
+    requires { ⌜ WORDS ≤ length (now work) ⌝ }
+    ensures { λ _. ⌜ now (work .exit) ≡ cleared WORDS (now (work .entry)) ⌝ }
 {
     let mut k = 0;
     while k < WORDS {
@@ -58,6 +57,7 @@ fn write(
     ensures { λ r. ⌜ ((o : ℕ × intern.State) → PlanOf (now (forest .entry)) (now (work .entry)) (treeOf o) p
         → length (o .1 .syms) ≡ symbols → o .1 .readings ≡ readings
         → Tells (measured (length (now (out .entry))) o) (now (out .entry)) r (now (out .exit))) ⌝ }
+    ensures { λ r. ⌜ Counts symbols r ⌝ }
 {
     let rows = p.rows;
     if 256 < rows {
@@ -85,6 +85,7 @@ fn planned(forest: &[u8], work: &mut [u32], st: State, root: usize) -> Plan
     requires { ⌜ interned (now forest) ≡ good (root, absOf (now forest) (now work) first st) ⌝ }
     ensures { λ r. ⌜ Planned (now (forest .entry)) (now (work .entry)) (now (work .exit))
         (root, absOf (now (forest .entry)) (now (work .entry)) first st) r ⌝ }
+    ensures { λ r. ⌜ Held (now (forest .entry)) (now (work .exit)) (st .symbols) ⌝ }
 {
     let symbols = st.symbols as usize;
     gate::reach_and_count(work, symbols, root);
@@ -102,7 +103,8 @@ fn accepted(forest: &[u8], out: &mut [u8], work: &mut [u32]) -> Answer
     requires { ⌜ WORDS ≤ length (now work) ⌝ }
     ensures { λ r. ⌜ Tells (written (callOf (now (forest .entry)) (now (out .entry)) (now (work .entry))))
         (now (out .entry)) r (now (out .exit)) ⌝ }
-    ensures { λ r. ⌜ Unused (now (work .entry)) (now (work .exit)) ⌝ }
+    ensures { λ r. ⌜ LentOnly (now (work .entry)) (now (work .exit)) ⌝ }
+    ensures { λ r. ⌜ Holds (now (forest .entry)) (now (work .exit)) r ⌝ }
 {
     let step = intern::forest(forest, work);
     if step.number != 0 {
@@ -113,12 +115,15 @@ fn accepted(forest: &[u8], out: &mut [u8], work: &mut [u32]) -> Answer
     write(forest, work, p, out, st.symbols, st.readings)
 }
 
-// Any forest, once the work words suffice. Rules out: a forest interned that a check refuses; another place.
-fn pass(forest: &[u8], out: &mut [u8], work: &mut [u32]) -> Answer
+// Any forest, once the work words suffice: the call, but that it leaves the words as they are, so that after a tree is
+// written its symbols, scopes and uses can still be read in them.
+// Rules out: a forest interned that a check refuses; another place; symbols of another forest left in the words.
+pub fn pass(forest: &[u8], out: &mut [u8], work: &mut [u32]) -> Answer
     requires { ⌜ WORDS ≤ length (now work) ⌝ }
     ensures { λ r. ⌜ Tells (written (callOf (now (forest .entry)) (now (out .entry)) (now (work .entry))))
         (now (out .entry)) r (now (out .exit)) ⌝ }
-    ensures { λ r. ⌜ Unused (now (work .entry)) (now (work .exit)) ⌝ }
+    ensures { λ r. ⌜ LentOnly (now (work .entry)) (now (work .exit)) ⌝ }
+    ensures { λ r. ⌜ Holds (now (forest .entry)) (now (work .exit)) r ⌝ }
 {
     match codec::check(forest, work) {
         Verdict::Refused(n, p) => Answer::Refused(n, p as u32),

@@ -23,6 +23,7 @@ use Rattle.laws.proofs.Rows.{sizes-rows, closed-trees}
 use Rattle.theory.proofs.Promise.Refusals.{Limited}
 use Rattle.theory.proofs.Demand3.Order.{check-13, check-14, applies-in, root-limited}
 use Rattle.theory.proofs.Demand3.Exactly.{refused-applies}
+use Rattle.regions.specs.Regions.{WORDS}
 use Rattle.codec.proofs.Accepting.{accept-passed}
 use Rattle.cse.proofs.Places.{place-small}
 use Rattle.cse.proofs.Telling.{check-refused, run-enough}
@@ -74,7 +75,7 @@ module _ (n p : ℕ) where
           made-place (c .room) (sizes (treesOf (c .forest))) (interning (c .forest)) (records-most (c .forest) g)
           (root-limited (c .forest)) (rw g at e)
 
-pub place-most : (c : Call) (n p : ℕ) → run c ≡ refused n p → 16384 ≤ c .words → p ≤ 256
+pub place-most : (c : Call) (n p : ℕ) → run c ≡ refused n p → WORDS ≤ c .words → p ≤ 256
 place-most c n p is h = written-place n p c (sym (run-enough c h) ∙ is)
 
 -- ---- the number

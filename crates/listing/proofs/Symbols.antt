@@ -1,72 +1,55 @@
--- Symbols in work words that were made for a forest, and whose uses are counted.
+-- Symbols that the words hold for a forest, once their uses are counted.
 -- In order: they can be listed; they are those that the definitions make.
 -- Assumes nothing.
-use Prim.Native.Nat.{ℕ, _+_, _*_, _≤_}
-use mathlib.Core.Path.{_≡_, ap, _∙_}
-use mathlib.Core.Bool.{Bool, true, false}
+use Prim.Native.Nat.{ℕ, _≤_}
+use mathlib.Core.Path.{_≡_, sym, ap, _∙_}
 use mathlib.Core.List.{List}
 use native.Mathlib.Omega.{arith}
-use lib.Dec.{eqb}
 use lib.ListN.{length}
-use Rattle.model.specs.Answer.{refused, good}
+use Rattle.model.specs.Answer.{good}
 use Rattle.model.specs.Forest.{treesOf}
-use Rattle.model.specs.Accept.{accept}
-use Rattle.model.specs.Intern as intern
+use Rattle.model.specs.Intern.{State}
 use Rattle.model.specs.Call.{interned}
 use Rattle.model.specs.Lister.{symbolLines}
-use Rattle.laws.proofs.Apart.{refused-good, good-inj}
+use Rattle.laws.proofs.Apart.{good-inj}
+use Rattle.regions.specs.Regions.{SLOTS}
 use Rattle.codec.proofs.Accepting.{accept-passed}
-use Rattle.laws.specs.Frame.{Agree}
 use Rattle.symbols.specs.Symbols.{symsOf}
-use Rattle.symbols.proofs.Laws.{syms-agree, sounds-agree}
-use Rattle.interner.specs.declared.State.{State}
-use Rattle.interner.specs.declared.Step.{Step}
-use Rattle.tables.specs.Tables.{first}
-use Rattle.interner.specs.State.{absOf, Rep}
-use Rattle.interner.specs.Step.{outOf}
+use Rattle.symbols.proofs.Laws.{syms-agree}
 use Rattle.gate.specs.Gate.{Tallied}
+use Rattle.graph.specs.Graph.{Arena}
+use Rattle.graph.proofs.Laws.{Still, still-above, arena-agree}
 use Rattle.output.specs.Output.{over, Wrote}
 use Rattle.lines.specs.Lines.{Listable}
+use Rattle.cse.specs.Call.{Held}
 
 -- the uses are counted in words ws₁
-module _ (bs ws : List ℕ) (r : Step) (rep : Rep bs ws (r .st)) (ws₁ : List ℕ)
-    (tallied : Tallied ws ws₁ (r .st .symbols)) where
-  abbrev n : ℕ
-  n = r .st .symbols
-
-  own-same : Agree ws ws₁ 0 (5 * n)
-  own-same k l h = tallied .kept .before k (omega (arith, rep .arena .scoped .few))
-
-  slots-same : Agree ws ws₁ 2560 (2560 + 2560)
-  slots-same k l h = tallied .kept .before k (omega arith)
+module _ (bs ws : List ℕ) (n : ℕ) (held : Held bs ws n) (ws₁ : List ℕ) (tallied : Tallied ws ws₁ n) where
+  still : Still ws ws₁ (SLOTS .size) n (held .scopes)
+  still = still-above (tallied .kept) (omega arith) (omega arith) (held .arena .scoped)
 
   syms-same : symsOf bs ws₁ n ≡ symsOf bs ws n
-  syms-same = syms-agree bs ws ws₁ 2560 slots-same n own-same (rep .arena .sound)
+  syms-same = syms-agree bs ws ws₁ (SLOTS .size) (still .slots) n (still .own) (held .arena .sound)
 
-  pub listable : accept bs ≡ good (treesOf bs) → length ws₁ ≡ length ws → Listable bs ws₁ n
-  listable e l = record {
-    laid = accept-passed bs (treesOf bs) e .shaped .sound .laid;
-    sound = sounds-agree bs ws ws₁ 2560 slots-same n own-same (rep .arena .sound);
-    few = rep .arena .scoped .few;
-    words = omega (arith, rep .arena .scoped .words);
-    uses = λ s h. rw syms-same (tallied .uses bs s h);
-  }
+  pub listable : Listable bs ws₁ n
+  listable =
+      let a : Arena bs ws₁ n (held .scopes) =
+      arena-agree still bs (λ i l. held .arena .sound i l .slots) (held .arena) in
+      record {
+        laid = accept-passed bs (treesOf bs) (held .accepted) .shaped .sound .laid;
+        sound = a .sound;
+        few = a .scoped .few;
+        words = a .scoped .words;
+        uses = λ s h. rw syms-same (tallied .uses bs s h);
+      }
 
   -- ---- the definitions' symbols
 
-  module _ (is : outOf bs ws first r ≡ interned bs) (o : ℕ × intern.State) (good-is : interned bs ≡ good o) where
-    syms-made : symsOf bs ws n ≡ o .1 .syms
-    unfolding outOf
-    syms-made = go (eqb (r .number) 0) (is ∙ good-is)
-      where
-        go : (b : Bool) → _≡_ {A = intern.Out}
-            (elim b [ true ↦ good (r .symbol, absOf bs ws first (r .st)) | false ↦ refused (r .number) (r .place) ])
-            (good o) → symsOf bs ws n ≡ o .1 .syms
-        go true e = ap (λ (x : ℕ × intern.State). x .1 .syms) (good-inj e)
-        go false e = refused-good e
-
+  module _ (o : ℕ × State) (good-is : interned bs ≡ good o) where
     lines-same : symbolLines (symsOf bs ws₁ n) ≡ symbolLines (o .1 .syms)
-    lines-same = ap symbolLines (syms-same ∙ syms-made)
+    lines-same =
+        ap symbolLines (syms-same ∙ held .syms ∙
+        ap (λ (x : ℕ × State). x .1 .syms) (good-inj (sym (held .interns) ∙ good-is)))
 
     pub symbols-wrote : (out out′ : List ℕ) (next : ℕ) → next ≡ length (symbolLines (symsOf bs ws₁ n)) →
         next ≤ length out → out′ ≡ over out 0 (symbolLines (symsOf bs ws₁ n)) →

@@ -1,18 +1,17 @@
--- The lister's text, over the output that the call left. In order: which text; where it stands; later words.
+-- The lister's text, over the output that the pass left. In order: which text; where it stands.
 -- Assumes nothing.
-use Prim.Native.Nat.{ℕ, _+_, _-_, _<_, _≤_}
-use mathlib.Core.Path.{_≡_, refl, sym, ap, _∙_}
-use mathlib.Core.Bool.{Bool, true, false}
+use Prim.Native.Nat.{ℕ, _<_, _≤_}
+use mathlib.Core.Path.{_≡_, sym, ap, _∙_}
 use mathlib.Core.List.{List, _++_}
 use native.Mathlib.Omega.{arith}
-use lib.Dec.{ltb}
-use lib.ListN.{length, getD, take, drop, replicate, length-replicate}
-use lib.Seq.{take-at, drop-at, getD-append-add, getD-drop}
+use lib.ListN.{length, take, drop}
+use lib.Seq.{take-at, drop-at}
 use Rattle.model.specs.Answer.{refused, good, _>>=_}
 use Rattle.model.specs.Answer as answer
 use Rattle.model.specs.Intern.{State}
-use Rattle.model.specs.Call.{Call, ample, interned, Written, measured, written, run, outAfter, workAfter}
+use Rattle.model.specs.Call.{Call, ample, interned, Written, measured, written, run, outAfter}
 use Rattle.model.specs.Lister.{linesOf, lister, symbolLines, refusalLine}
+use Rattle.regions.specs.Regions.{WORDS}
 use Rattle.output.proofs.Over.{over-front}
 use Rattle.output.specs.Output.{Wrote}
 use Rattle.text.specs.Text.{refusal}
@@ -22,7 +21,7 @@ use Rattle.cse.proofs.Telling.{run-enough}
 use Rattle.listing.specs.Listing.{Listed}
 
 -- the call is lent 65,535 bytes and enough words
-module _ (c : Call) (room : c .room ≡ 65535) (enough : 16384 ≤ c .words) where
+module _ (c : Call) (room : c .room ≡ 65535) (enough : WORDS ≤ c .words) where
   run-lent : run (ample (c .forest)) ≡ run c
   unfolding written
   run-lent =
@@ -67,27 +66,3 @@ module _ (c : Call) (room : c .room ≡ 65535) (enough : 16384 ≤ c .words) whe
     pub symbols-listed : (w : Written) (o : ℕ × State) → run c ≡ good w → interned (c .forest) ≡ good o →
         Wrote mid 0 (symbolLines (o .1 .syms)) out′ r → Listed c out out′ r
     symbols-listed w o e f = text-stands (lister-good w o e f)
-
--- ---- words past those that the call clears
-
-abbrev zeros : ℕ → List ℕ
-zeros n = replicate n 0
-
-past-zeros : (n : ℕ) (ws : List ℕ) (k : ℕ) → n ≤ k → getD (zeros n ++ drop n ws) k 0 ≡ getD ws k 0
-past-zeros n ws k h =
-    let long : length (zeros n) ≡ n = length-replicate n 0 in
-    let at : k ≡ length (zeros n) + (k - n) = omega (arith, long) in
-    let back : n + (k - n) ≡ k = omega arith in
-    ap (λ (i : ℕ). getD (zeros n ++ drop n ws) i 0) at
-    ∙ getD-append-add (zeros n) (drop n ws) (k - n) 0
-    ∙ getD-drop n ws (k - n) 0
-    ∙ ap (λ (i : ℕ). getD ws i 0) back
-
-pub later-kept : (ws : List ℕ) (k : ℕ) → 16384 ≤ k → getD (workAfter ws) k 0 ≡ getD ws k 0
-unfolding workAfter
-later-kept ws k h = go (ltb (length ws) 16384)
-  where
-    go : (b : Bool) →
-        getD (elim b [ true ↦ ws | false ↦ replicate 16384 0 ++ drop 16384 ws ]) k 0 ≡ getD ws k 0
-    go true = refl
-    go false = past-zeros 16384 ws k h

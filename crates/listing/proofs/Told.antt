@@ -1,7 +1,7 @@
--- The definitions' answer, from the numbers that the call tells.
--- In order: a refusal; a tree.
+-- The definitions' answer, from what the pass tells.
+-- In order: the call's numbers and output; a refusal; a tree.
 -- Assumes nothing.
-use Prim.Native.Nat.{ℕ}
+use Prim.Native.Nat.{ℕ, _≤_}
 use mathlib.Core.Path.{_≡_, refl, sym, ap, _∙_}
 use mathlib.Core.Logic.{inl}
 use mathlib.Core.List.{List}
@@ -14,6 +14,8 @@ use Rattle.model.specs.Forest.{treesOf}
 use Rattle.model.specs.Accept.{accept}
 use Rattle.model.specs.Intern.{State}
 use Rattle.model.specs.Call.{Call, ample, interned, bytesOf, writtenOf, run, Numbers, numbersOf, numbers}
+use Rattle.model.specs.Call.{written, outWith, outAfter}
+use Rattle.regions.specs.Regions.{WORDS}
 use Rattle.model.specs.Call as call
 use Rattle.model.specs.Conditions.{at-2}
 use Rattle.laws.proofs.Checks.{passes-checked}
@@ -22,7 +24,8 @@ use Rattle.theory.proofs.Demand3.Order.{call-passes}
 use Rattle.theory.proofs.Demand3.Exactly.{zero-passes}
 use Rattle.cse.specs.declared.Answer.{Answer}
 use Rattle.cse.specs.declared.Answer.the-variants.{Written, Refused}
-use Rattle.cse.specs.Call.{five, numbersIn}
+use Rattle.cse.specs.Call.{five, numbersIn, Tells}
+use Rattle.cse.proofs.Telling.{run-enough}
 
 -- after number 0 the forest is accepted and its symbols are made
 pub record Made (c : Call) : Type 0 where
@@ -30,6 +33,16 @@ pub record Made (c : Call) : Type 0 where
   pub accepted : accept (c .forest) ≡ good (treesOf (c .forest))
   pub interns : interned (c .forest) ≡ good out
   pub runs : run c ≡ good (writtenOf out)
+
+-- where the work words suffice, the pass tells what the call would
+module _ (c : Call) (enough : WORDS ≤ c .words) (out out′ : List ℕ) (r : Answer) (told : Tells (written c) out r out′) where
+  pub pass-numbers : numbersIn r ≡ numbers c
+  unfolding numbers
+  pass-numbers = told .numbers ∙ ap numbersOf (sym (run-enough c enough))
+
+  pub pass-output : out′ ≡ outAfter c out
+  unfolding outAfter
+  pass-output = told .output ∙ ap (λ (a : answer.Answer call.Written). outWith a out) (sym (run-enough c enough))
 
 module _ (c : Call) (r : Answer) (is : numbersIn r ≡ numbers c) where
   -- ---- a refusal

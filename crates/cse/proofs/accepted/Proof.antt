@@ -1,18 +1,21 @@
 -- `cse::accepted` meets its contract. Assumes nothing.
 use borrow.Author.Needs.{needs}
+use native.Mathlib.Omega.{arith}
 use denote.Ref.{now}
-use mathlib.Core.Path.{refl, subst, sym, _∙_}
+use mathlib.Core.Path.{refl, subst, sym}
 use Prim.Native.Nat.{ℕ}
 use Rattle.model.specs.Answer as answer
 use Rattle.model.specs.Forest.{treesOf}
 use Rattle.model.specs.Intern.{State}
 use Rattle.model.specs.Call.{Written, callOf}
+use Rattle.laws.proofs.Frame.{frame-then, frame-wider}
 use Rattle.codec.proofs.Accepting.{accept-passed}
 use Rattle.symbols.proofs.Laws.{syms-length}
 use Rattle.tables.specs.Tables.{first}
 use Rattle.interner.specs.State.{absOf}
 use Rattle.cse.specs.Call.{Tells}
 use Rattle.cse.proofs.Telling.{tells-refused, intern-refused, intern-good, written-measured}
+use Rattle.cse.proofs.Planning.{held-by}
 use Rattle.cse.proofs.accepted.Statement.{statement}
 use Rattle.cse.proofs.accepted.Tie as tie
 
@@ -28,7 +31,7 @@ returns c =
       tells-refused _ out (r .number) (r .place)
           (intern-refused (callOf bs out (now (b .args .work))) (f .forest .last .1 .0) r (f .forest .ensures .is)
           (c .if1 .taken)),
-      f .forest .ensures .frame .after,
+      (frame-wider _ _ _ _ _ _ (f .forest .ensures .frame) (omega arith) (omega arith), tt),
     )
 
 planned-requires : tie.Need-planned-requires
@@ -48,7 +51,7 @@ write-requires c κs =
     let p = c .before .before .before .before in
     let b = p .before .before .before .before .before .before .before .before .before .before .before .before .before in
     let bs = now (b .args .forest) in
-    (accept-passed bs (treesOf bs) (b .pre .0) .shaped .sound .laid, p .planned .ensures .ready)
+    (accept-passed bs (treesOf bs) (b .pre .0) .shaped .sound .laid, p .planned .ensures .0 .ready)
 
 returns-2 : tie.Need-returns-2
 returns-2 c =
@@ -65,8 +68,13 @@ returns-2 c =
     (intern-good bs ws r (f .forest .ensures .is) (s .if1 .left)) in (
       subst (λ (a : answer.Answer Written). Tells a out (c .before .before .write .result)
           (c .before .before .write .last .1 .1 .1 .0)) (sym is)
-          (c .before .before .write .ensures o (p .planned .ensures .tree) (syms-length bs ws (r .st .symbols)) refl),
-      λ k l. p .planned .ensures .unused k l ∙ f .forest .ensures .frame .after k l,
+          (c .before .before .write .ensures .0 o (p .planned .ensures .0 .tree) (syms-length bs ws (r .st .symbols)) refl),
+      (
+        frame-then _ _ _ _ _ (frame-wider _ _ _ _ _ _ (f .forest .ensures .frame) (omega arith) (omega arith))
+            (p .planned .ensures .0 .kept),
+        held-by (r .st .symbols) (c .before .before .write .result) (c .before .before .write .ensures .1)
+            (p .planned .ensures .1),
+      ),
     )
 
 pub accepted-spec : {M : Type 1} → statement M

@@ -6,6 +6,7 @@ use borrow.Author.Needs.{needs}
 use native.Mathlib.Omega.{arith}
 use denote.Ref.{now}
 use lib.ListN.{length, length-set}
+use Rattle.regions.specs.Regions.{WORDS}
 use Rattle.cse.proofs.Words.{cleared-none, cleared-more}
 use Rattle.cse.specs.Call.{cleared}
 use Rattle.cse.proofs.clear.Statement.{statement}
@@ -13,10 +14,10 @@ use Rattle.cse.proofs.clear.Tie as tie
 
 abbrev Inv-loop : tie.InvT-loop
 Inv-loop work₀ k₀ work k =
-    (k ≤ 16384) × (16384 ≤ length work₀) × (length work ≡ length work₀) × (work ≡ cleared k work₀)
+    (k ≤ WORDS) × (WORDS ≤ length work₀) × (length work ≡ length work₀) × (work ≡ cleared k work₀)
 
 abbrev μ-loop : tie.MeasureT-loop
-μ-loop work₀ k₀ work k = 16384 - k
+μ-loop work₀ k₀ work k = WORDS - k
 
 loop-holds : tie.Need-loop-holds Inv-loop μ-loop
 loop-holds c = (omega arith, omega arith, refl, cleared-none (now (c .args .work)))
@@ -48,7 +49,7 @@ same-length c = search needs
 returns : tie.Need-returns Inv-loop μ-loop
 returns c =
     let i = c .before .loop .inv in
-    let e : c .before .loop .k ≡ 16384 = omega arith in
+    let e : c .before .loop .k ≡ WORDS = omega arith in
     rw e at (i .3)
 
 pub clear-spec : {M : Type 1} → statement M

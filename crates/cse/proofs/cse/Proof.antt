@@ -5,8 +5,10 @@ use denote.Ref.{now}
 use mathlib.Core.Path.{_∙_, refl}
 use Rattle.model.specs.Answer.{refused}
 use Rattle.model.specs.Call.{callOf, written}
+use Rattle.regions.specs.Regions.{SYMBOLS, WORDS}
+use Rattle.laws.proofs.Frame.{frame-drop}
 use Rattle.cse.specs.declared.Answer.the-variants.{Refused}
-use Rattle.cse.proofs.Words.{after-few, after-enough, cleared-kept, drop-kept}
+use Rattle.cse.proofs.Words.{after-few, after-enough, cleared-kept}
 use Rattle.cse.proofs.Telling.{tells-refused, run-few, run-enough}
 use Rattle.cse.proofs.Demanding.{told-gives}
 use Rattle.cse.proofs.cse.Statement.{statement}
@@ -28,11 +30,11 @@ returns-2 c =
     let bs = now (b .args .forest) in
     let out = now (b .args .out) in
     let ws = now (b .args .work) in
-    let kept = drop-kept 16384 ws (q .pass .last .1 .1 .0) (q .pass .kept .1 .1 .0)
-    (λ k l. q .pass .ensures .1 k (omega arith)) in
+    let kept = frame-drop (SYMBOLS .first) WORDS WORDS ws (q .pass .last .1 .1 .0) (q .pass .ensures .1 .0)
+    (omega arith) in
     told-gives bs out ws (q .pass .last .1 .0) (c .before .before .clear .last .0) (written (callOf bs out ws))
     (q .pass .result) (run-enough (callOf bs out ws) (omega arith)) (q .pass .ensures .0)
-    (c .before .before .clear .ensures ∙ cleared-kept ws 16384 _ kept ∙ after-enough ws (omega arith))
+    (c .before .before .clear .ensures ∙ cleared-kept ws WORDS _ kept ∙ after-enough ws (omega arith))
 
 pub cse-spec : {M : Type 1} → statement M
 cse-spec =

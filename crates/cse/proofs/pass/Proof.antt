@@ -3,9 +3,10 @@ use borrow.Author.Needs.{needs}
 use native.Mathlib.Omega.{arith}
 use denote.Ref.{now}
 use Prim.Native.Nat.{ℕ}
-use mathlib.Core.Path.{_∙_, subst}
+use mathlib.Core.Path.{subst}
 use lib.ListN.{length}
 use Rattle.model.specs.Call.{callOf, written}
+use Rattle.laws.proofs.Frame.{frame-then, frame-wider}
 use Rattle.cse.specs.Call.{Tells}
 use Rattle.cse.proofs.Telling.{tells-refused, check-refused, verdict-refused, verdict-accepted}
 use Rattle.cse.proofs.Places.{place-small}
@@ -44,7 +45,7 @@ returns c =
     let e = verdict-refused bs (q .check .result) (v .0 .0) (v .0 .1 .0) (q .check .ensures .is) (v .1) in (
       tells-refused _ out (v .0 .0) (v .0 .1 .0)
           (check-refused (callOf bs out (now (b .args .work))) (v .0 .0) (v .0 .1 .0) e),
-      λ k l. q .check .ensures .kept .after k (omega arith),
+      (frame-wider _ _ _ _ _ _ (q .check .ensures .kept) (omega arith) (omega arith), tt),
     )
 
 returns-2 : tie.Need-returns-2
@@ -55,7 +56,11 @@ returns-2 c =
     let out = now (b .args .out) in (
       subst (λ (n : ℕ). Tells (written (record { forest = now (b .args .forest); room = length out; words = n })) out
           (w .accepted .result) (w .accepted .last .1 .0)) (q .check .kept .1 .0) (w .accepted .ensures .0),
-      λ k l. w .accepted .ensures .1 k l ∙ q .check .ensures .kept .after k (omega arith),
+      (
+        frame-then _ _ _ _ _ (frame-wider _ _ _ _ _ _ (q .check .ensures .kept) (omega arith) (omega arith))
+            (w .accepted .ensures .1 .0),
+        w .accepted .ensures .1 .1,
+      ),
     )
 
 pub pass-spec : {M : Type 1} → statement M

@@ -2,6 +2,7 @@
 use borrow.Author.Needs.{needs}
 use native.Mathlib.Omega.{arith}
 use denote.Ref.{now}
+use mathlib.Core.Path.{refl}
 use Rattle.cse.proofs.Telling.{tells-many, tells-long, tells-over, tells-deep, tells-good}
 use Rattle.cse.proofs.write.Statement.{statement}
 use Rattle.cse.proofs.write.Tie as tie
@@ -10,9 +11,11 @@ use Rattle.cse.proofs.write.Tie as tie
 
 returns : tie.Need-returns
 returns c =
-    let b = c .before .before .before .before in
-    λ o h s r.
-    tells-many (now (b .args .forest)) (now (b .args .work)) o (b .args .p) h (now (b .args .out)) (omega arith)
+    let b = c .before .before .before .before in (
+      λ o h s r.
+          tells-many (now (b .args .forest)) (now (b .args .work)) o (b .args .p) h (now (b .args .out)) (omega arith),
+      tt,
+    )
 
 tree-length-requires : tie.Need-tree-length-requires
 tree-length-requires c κs =
@@ -22,26 +25,32 @@ tree-length-requires c κs =
 returns-2 : tie.Need-returns-2
 returns-2 c =
     let m = c .before in
-    let b = m .before .before .before .before .before in
-    λ o h s r.
-    tells-long (now (b .args .forest)) (now (b .args .work)) o (b .args .p) h (now (b .args .out))
-    (m .tree-length .result) (omega arith) (m .tree-length .ensures) (omega arith)
+    let b = m .before .before .before .before .before in (
+      λ o h s r.
+          tells-long (now (b .args .forest)) (now (b .args .work)) o (b .args .p) h (now (b .args .out))
+          (m .tree-length .result) (omega arith) (m .tree-length .ensures) (omega arith),
+      tt,
+    )
 
 returns-3 : tie.Need-returns-3
 returns-3 c =
     let m = c .before .before in
-    let b = m .before .before .before .before .before in
-    λ o h s r.
-    tells-over (now (b .args .forest)) (now (b .args .work)) o (b .args .p) h (now (b .args .out))
-    (m .tree-length .result) (omega arith) (m .tree-length .ensures) (omega arith)
+    let b = m .before .before .before .before .before in (
+      λ o h s r.
+          tells-over (now (b .args .forest)) (now (b .args .work)) o (b .args .p) h (now (b .args .out))
+          (m .tree-length .result) (omega arith) (m .tree-length .ensures) (omega arith),
+      tt,
+    )
 
 returns-4 : tie.Need-returns-4
 returns-4 c =
     let m = c .before .before .before .before in
-    let b = m .before .before .before .before .before in
-    λ o h s r.
-    tells-deep (now (b .args .forest)) (now (b .args .work)) o (b .args .p) h (now (b .args .out))
-    (m .tree-length .result) (omega arith) (m .tree-length .ensures) (omega arith) (omega arith) (omega arith)
+    let b = m .before .before .before .before .before in (
+      λ o h s r.
+          tells-deep (now (b .args .forest)) (now (b .args .work)) o (b .args .p) h (now (b .args .out))
+          (m .tree-length .result) (omega arith) (m .tree-length .ensures) (omega arith) (omega arith) (omega arith),
+      tt,
+    )
 
 write-tree-requires : tie.Need-write-tree-requires
 write-tree-requires c κs =
@@ -59,11 +68,13 @@ returns-5 : tie.Need-returns-5
 returns-5 c =
     let w = c .before .before in
     let m = w .before .before .before .before .before .before in
-    let b = m .before .before .before .before .before in
-    λ o h s r.
-    tells-good (now (b .args .forest)) (now (b .args .work)) o (b .args .p) h (now (b .args .out))
-    (m .tree-length .result) (omega arith) (m .tree-length .ensures) (omega arith) (omega arith)
-    (b .args .symbols) (b .args .readings) _ (omega arith) s r (w .write-tree .ensures .1)
+    let b = m .before .before .before .before .before in (
+      λ o h s r.
+          tells-good (now (b .args .forest)) (now (b .args .work)) o (b .args .p) h (now (b .args .out))
+          (m .tree-length .result) (omega arith) (m .tree-length .ensures) (omega arith) (omega arith)
+          (b .args .symbols) (b .args .readings) _ (omega arith) s r (w .write-tree .ensures .1),
+      refl,
+    )
 
 pub write-spec : {M : Type 1} → statement M
 write-spec =

@@ -2,27 +2,23 @@
 use borrow.Author.Needs.{needs}
 use native.Mathlib.Omega.{arith}
 use denote.Ref.{now}
-use mathlib.Core.Path.{_∙_}
-use Rattle.cse.proofs.Buildable.{symbols-stored}
+use Rattle.laws.proofs.Frame.{frame-wider}
+use Rattle.cse.proofs.Buildable.{arena-countable}
 use Rattle.listing.proofs.Symbols.{listable, symbols-wrote}
 use Rattle.listing.proofs.list_symbols.Statement.{statement}
 use Rattle.listing.proofs.list_symbols.Tie as tie
 
--- In each answer `b` is the start, `f` the place after the symbols are made, and `a` after their uses are counted.
+-- In each answer `b` is the start and `a` the place after the uses are counted.
 
 count-uses-requires : tie.Need-count-uses-requires
-count-uses-requires c κs =
-    let f = c .before .before .before .before .before in
-    let b = f .before .before .before .before .before in
-    symbols-stored (now (b .args .forest)) (f .forest .last .1 .0) (f .forest .result .st) (f .forest .ensures .rep)
+count-uses-requires c κs = let b = c .before .before .before .before in arena-countable (b .pre .0 .arena)
 
 put-symbols-requires : tie.Need-put-symbols-requires
 put-symbols-requires c κs =
     let a = c .before .before .before .before in
-    let f = a .before .before .before .before .before .before in
-    let b = f .before .before .before .before .before in (
-      listable (now (b .args .forest)) (f .forest .last .1 .0) (f .forest .result) (f .forest .ensures .rep)
-          (a .count-uses .last .0) (a .count-uses .ensures) (b .pre .0) (a .count-uses .kept .0),
+    let b = a .before .before .before .before .before in (
+      listable (now (b .args .forest)) (now (b .args .work)) (b .args .n) (b .pre .0) (a .count-uses .last .0)
+          (a .count-uses .ensures),
       omega arith,
     )
 
@@ -30,17 +26,15 @@ returns : tie.Need-returns
 returns c =
     let u = c .before .before in
     let a = u .before .before .before .before .before in
-    let f = a .before .before .before .before .before .before in
-    let b = f .before .before .before .before .before in
+    let b = a .before .before .before .before .before in
     let wrote = u .put-symbols .ensures in (
       λ o e.
-          symbols-wrote (now (b .args .forest)) (f .forest .last .1 .0) (f .forest .result) (f .forest .ensures .rep)
-          (a .count-uses .last .0) (a .count-uses .ensures) (f .forest .ensures .is) o e (now (b .args .out))
-          (u .put-symbols .last .1 .1 .1 .0) (u .put-symbols .result) (wrote .0 .0) (wrote .0 .1) (wrote .1),
-      λ k l. a .count-uses .ensures .kept .after k (omega arith) ∙ f .forest .ensures .frame .after k l,
+          symbols-wrote (now (b .args .forest)) (now (b .args .work)) (b .args .n) (b .pre .0) (a .count-uses .last .0)
+          (a .count-uses .ensures) o e (now (b .args .out)) (u .put-symbols .last .1 .1 .1 .0) (u .put-symbols .result)
+          (wrote .0 .0) (wrote .0 .1) (wrote .1),
+      frame-wider _ _ _ _ _ _ (a .count-uses .ensures .kept) (omega arith) (omega arith),
     )
 
 pub list-symbols-spec : {M : Type 1} → statement M
 list-symbols-spec =
-    tie.close (tie.spec (λ c κs. search needs) (λ c. search needs) count-uses-requires put-symbols-requires (λ c. search needs)
-    (λ c. search needs) returns)
+    tie.close (tie.spec count-uses-requires put-symbols-requires (λ c. search needs) (λ c. search needs) returns)
