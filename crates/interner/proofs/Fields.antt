@@ -36,7 +36,8 @@ use Rattle.interner.specs.State.{absOf, Rep}
 use Rattle.interner.specs.Step.{outOf, given, Answers, Ready, finishOf, Projects, fieldRec, fieldOf, withPair}
 use Rattle.interner.proofs.Sharing.{leaves-none, leaves-then, out-given, out-good, out-number}
 use Rattle.interner.proofs.Keeps.{Keeps, finish-keeps}
-use Rattle.interner.proofs.Memos.{recall-low, memo-room, abs-remembered, rep-remembered, leaves-remembered}
+use Rattle.memo.proofs.Below.{recall-low}
+use Rattle.interner.proofs.Memos.{memo-room, abs-remembered, rep-remembered, leaves-remembered}
 
 -- ---- fields 1 and 2
 

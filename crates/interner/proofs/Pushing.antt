@@ -35,7 +35,8 @@ use Rattle.scopes.specs.Scopes.{scopesOf, outward, Placed}
 use Rattle.scopes.proofs.Laws.{scopes-length}
 use Rattle.scopes.proofs.Climb as climb
 use Rattle.scopes.proofs.Tracks.{Below, outward-below}
-use Rattle.memo.specs.Memo.{memoOf, MemoBelow}
+use Rattle.memo.specs.Memo.{memoOf}
+use Rattle.memo.proofs.Below.{memo-more}
 use Rattle.graph.specs.Graph.{Arena}
 use Rattle.interner.specs.declared.State.{State}
 use Rattle.interner.specs.Levels.{depsAt, Levelled, ArgLevels}
@@ -43,11 +44,6 @@ use Rattle.interner.specs.State.{absOf, Rep}
 use Rattle.interner.specs.Step.{Fresh, Stored, Levels, Pushed, newDeps, withSymbol}
 use Rattle.interner.proofs.Tracks.{climb-low}
 use Rattle.interner.proofs.Same.{used-sound, Same, symbol-same, rep-same, abs-same}
-
-pub memo-more : (n m : ℕ) (ts : List (ℕ × ℕ × ℕ)) → n ≤ m → MemoBelow n ts → MemoBelow m ts
-memo-more n m [] le b = tt
-memo-more n m (t ∷ ts) le b =
-    ((omega (arith, b .0 .0), omega (arith, b .0 .1), omega (arith, b .0 .2)), memo-more n m ts le (b .1))
 
 pub records-few : (bs : List ℕ) → Laid bs → recordCount bs ≤ 256
 records-few bs laid = header-of bs (laid .header) .records-most
