@@ -93,7 +93,7 @@ all-frame n (b ∷ bs) ws =
     (frame-wider _ _ _ _ ws us (bound-frame ws k (b .0) (b .1)) (omega arith) (omega arith))
     (frame-wider _ _ _ _ us (boundAll us n bs) (all-frame n bs us) (omega arith) (omega arith))
 
-pub env-all : (ws : List ℕ) (n : ℕ) (bs : Env) → BINDINGS .first + 2 * (n + length bs) ≤ length ws
+env-all : (ws : List ℕ) (n : ℕ) (bs : Env) → BINDINGS .first + 2 * (n + length bs) ≤ length ws
     → envOf (boundAll ws n bs) (n + length bs) ≡ bs ++ envOf ws n
 unfolding boundAll envOf stackOf
 env-all ws n [] le = let e : n + 0 ≡ n = omega arith in rw e

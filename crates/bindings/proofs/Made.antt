@@ -54,7 +54,7 @@ pub bind-def : (t : Tree) (symbol : ℕ) (env : Env) → top t .shape ≡ 10
 unfolding bindDef
 bind-def t symbol env e = rw (bindDef, eq-eqb (top t .shape) 10 e)
 
-pub bind-other : (t : Tree) (symbol : ℕ) (env : Env) → (top t .shape ≡ 10 → ⊥) → bindDef t symbol env ≡ env
+bind-other : (t : Tree) (symbol : ℕ) (env : Env) → (top t .shape ≡ 10 → ⊥) → bindDef t symbol env ≡ env
 unfolding bindDef
 bind-other t symbol env h = rw (bindDef, ne-eqb (top t .shape) 10 h)
 

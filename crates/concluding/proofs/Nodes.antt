@@ -65,11 +65,11 @@ module _ (s i : ℕ) (b : Branches) where
 -- ---- a record with no children
 
 module _ (r : Row) (h : fits r ≡ true) where
-  pub const-kids : r .rec .shape ≡ 0 → r .kids ≡ 0
+  const-kids : r .rec .shape ≡ 0 → r .kids ≡ 0
   unfolding shapes
   const-kids e = omega (arith, rw e at (fitting r h .many))
 
-  pub unparsed-kids : r .rec .shape ≡ 1 → r .kids ≡ 0
+  unparsed-kids : r .rec .shape ≡ 1 → r .kids ≡ 0
   unfolding shapes
   unparsed-kids e = omega (arith, rw e at (fitting r h .many))
 

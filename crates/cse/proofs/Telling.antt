@@ -44,7 +44,7 @@ module _ (a : answer.Answer call.Written) (out : List ℕ) where
   unfolding over
   over-start bytes = let e : 0 + length bytes ≡ length bytes = omega arith in rw e
 
-  pub tells-written : (w : call.Written) (len symbols readings : ℕ) (out′ : List ℕ) → a ≡ good w →
+  tells-written : (w : call.Written) (len symbols readings : ℕ) (out′ : List ℕ) → a ≡ good w →
       len ≡ length (w .bytes) → w .symbols ≡ symbols → w .readings ≡ readings → out′ ≡ over out 0 (w .bytes) →
       Tells a out (variants.Written len symbols readings) out′
   unfolding numbersOf outWith

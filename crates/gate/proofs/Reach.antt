@@ -33,7 +33,7 @@ module _ (ss : List Sym) where
 
   -- numbers below m only, where children are lower
   module _ (n : ℕ) (low : (t : ℕ) → t < n → Under t (symAt ss t .kids)) where
-    pub reach-adds : (m : ℕ) → m ≤ n → (seen : List ℕ) (a : ℕ) → In a (reach ss m seen) → In a seen ⊎ (a < m)
+    reach-adds : (m : ℕ) → m ≤ n → (seen : List ℕ) (a : ℕ) → In a (reach ss m seen) → In a seen ⊎ (a < m)
     unfolding reach
     reach-adds zero l seen a h = inl h
     reach-adds (suc m) l seen a h =
@@ -68,7 +68,7 @@ module _ (ss : List Sym) where
         none (inl i) = isIn-false m seen e i
         none (inr k) = omega arith
 
-    pub reach-under : (root : ℕ) → root < n → Under (suc root) (reach ss (suc root) (root ∷ []))
+    reach-under : (root : ℕ) → root < n → Under (suc root) (reach ss (suc root) (root ∷ []))
     reach-under root l a i = below (reach-adds (suc root) l (root ∷ []) a i)
       where
         below : In a (root ∷ []) ⊎ (a < suc root) → a < suc root

@@ -43,7 +43,7 @@ module _ (ws : List ℕ) (n : ℕ) where
     turn-fits few = ((below, enough), (lower, λ t l. omega (arith, going .uses t (omega arith))))
 
     -- the children as they were stored
-    pub turn-kids : kidsAt ws′ s ≡ kidsAt ws s
+    turn-kids : kidsAt ws′ s ≡ kidsAt ws s
     turn-kids = kids-kept ws ws′ (going .kept) s below (st .kids s lt)
 
     module _ (ws″ : List ℕ) where

@@ -93,7 +93,7 @@ module _ (ss : List Sym) (n : ℕ) (few : n ≤ 512) (low : (t : ℕ) → t < n 
       (usesAt ws′ s ≡ usesAt ws s + total (λ t. count s (symAt ss t .kids)) is m) ×
       (eqb (reachedAt ws′ s) 1 ≡ isIn s is)
 
-  pub down-result : (m : ℕ) → m ≤ n → (ws seen : List ℕ) → WORDS ≤ length ws →
+  down-result : (m : ℕ) → m ≤ n → (ws seen : List ℕ) → WORDS ≤ length ws →
       ((t : ℕ) → t < n → eqb (reachedAt ws t) 1 ≡ isIn t seen) → s < n →
       Result m ws (reach ss m seen) (visitedDown kids ws m)
   unfolding visitedDown reach
@@ -130,13 +130,13 @@ module _ (ws : List ℕ) (n root : ℕ) (st : Countable ws n) (lt : root < n) wh
   abbrev pub rooted : List ℕ
   rooted = set (cleared ws n) (REACHED .first + root) 1
 
-  pub rooted-frame : CountsOnly ws rooted
+  rooted-frame : CountsOnly ws rooted
   rooted-frame =
       let few : root < 512 = omega (arith, st .few) in
       frame-then _ _ ws (cleared ws n) rooted (cleared-frame ws n (st .few))
       (frame-store _ _ (REACHED .first + root) 1 (cleared ws n) (omega arith) (omega arith))
 
-  pub rooted-uses : (s : ℕ) → s < n → usesAt rooted s ≡ 0
+  rooted-uses : (s : ℕ) → s < n → usesAt rooted s ≡ 0
   rooted-uses s l =
       let few : s < 512 = omega (arith, st .few) in
       getD-set-other (cleared ws n) (REACHED .first + root) (USES .first + s) 1 0 (λ e. omega arith)

@@ -106,7 +106,7 @@ pub none-thunked : (j : ℕ) → thunked 0 j ≡ true → ⊥
 unfolding thunked
 none-thunked j h = let z : _≡_ {A = ℕ} 0 1 = cc in omega arith
 
-pub thunked-place : (op j : ℕ) → thunked op j ≡ true → (1 ≤ j) × (j ≤ 2)
+thunked-place : (op j : ℕ) → thunked op j ≡ true → (1 ≤ j) × (j ≤ 2)
 unfolding thunked
 thunked-place op j h = go (eqb j 1) (eqb j 2) refl refl
   where

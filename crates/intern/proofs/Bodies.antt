@@ -1,7 +1,7 @@
 -- A lambda's body entered: its arguments made, its scope opened, its arguments bound.
 -- In order: no arguments; the children of a record; kinds; before; the arguments made; the body opened.
 -- Assumes nothing.
-use Prim.Native.Nat.{ℕ, zero, suc, _+_, _-_, _*_, _<_, _≤_}
+use Prim.Native.Nat.{ℕ, zero, suc, _+_, _*_, _<_, _≤_}
 use mathlib.Core.Path.{_≡_, refl, sym, ap, _∙_}
 use mathlib.Core.List.{List, []}
 use native.Mathlib.Omega.{arith}
@@ -59,7 +59,7 @@ some-depth (suc m) nil a b = absurd (omega arith)
 some-depth (suc m) (cons (node r us) ts) a b = omega arith
 
 -- a record with a child
-pub parent-depth : (bs : List ℕ) (i : ℕ) → Sound bs → i < recordCount bs → 1 ≤ rowAt bs i .kids →
+parent-depth : (bs : List ℕ) (i : ℕ) → Sound bs → i < recordCount bs → 1 ≤ rowAt bs i .kids →
     2 ≤ depth (treeAt bs i)
 unfolding depth kidsAt
 parent-depth bs i h l e =

@@ -2,7 +2,7 @@
 -- In order: the definitions unfolded; a block has no thunks; a record that is not counted; a record that is: a lambda,
 -- a SelectField, any other record, a use.
 -- Assumes nothing.
-use Prim.Native.Nat.{ℕ, _+_, _-_, _<_, _≤_}
+use Prim.Native.Nat.{ℕ, _+_, _<_, _≤_}
 use mathlib.Core.Path.{_≡_, refl, sym, ap, _∙_, subst}
 use mathlib.Core.Bool.{Bool, true, false, _&&_, _||_}
 use mathlib.Core.Option.{some}

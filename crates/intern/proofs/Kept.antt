@@ -29,7 +29,7 @@ use Rattle.intern.specs.Words.{Words, Kept}
 
 -- ---- words
 
-pub words-none : (n held top : ℕ) (ws : List ℕ) → Words n held top ws ws
+words-none : (n held top : ℕ) (ws : List ℕ) → Words n held top ws ws
 words-none n held top ws = record {
   frame = frame-none (SYMBOLS .first) (end BINDINGS) ws;
   scopes = λ k l r. refl;

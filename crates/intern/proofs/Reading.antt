@@ -155,14 +155,14 @@ module _ (bs : List ℕ) (t : Tables) (i count op : ℕ) (at : Here) (ws₀ : Li
             (child-thunk left-well e .1));
       }
 
-      pub next-there : k .next < recordCount bs
+      next-there : k .next < recordCount bs
       next-there = left-there
 
       deep-some : 1 ≤ D
       unfolding depth
       deep-some = omega (arith, left-deep)
 
-      pub next-room : (at .held + j < 256) × (top < 1200)
+      next-room : (at .held + j < 256) × (top < 1200)
       next-room = (omega (arith, h .held, left-there), omega (arith, h .few, left-there, deep-some))
 
       left-whole : after (pendingFrom ws (at .held) j) (branchesOf (k .branches))
@@ -186,7 +186,7 @@ module _ (bs : List ℕ) (t : Tables) (i count op : ℕ) (at : Here) (ws₀ : Li
 
           -- ---- a child that is refused
 
-          pub next-refused : (r .step .number ≡ 0 → ⊥) → ReadsAll bs ws₀ t st₀ i count op at ws₁ (failed k r)
+          next-refused : (r .step .number ≡ 0 → ⊥) → ReadsAll bs ws₀ t st₀ i count op at ws₁ (failed k r)
           next-refused n = record {
             rep = v .rep;
             opened = v .opened;

@@ -5,7 +5,6 @@ use Prim.Native.Nat.{ℕ, _+_, _-_, _*_, _≤_}
 use mathlib.Core.Path.{_≡_, sym, subst}
 use mathlib.Core.Bool.{Bool}
 use mathlib.Core.List.{List}
-use native.Mathlib.Omega.{arith}
 use Rattle.model.specs.Tree.{Trees, many, dropT, sizes, depths}
 use Rattle.model.specs.Intern.{Env, intern, internAll}
 use Rattle.model.specs.Intern as intern

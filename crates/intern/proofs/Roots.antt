@@ -1,7 +1,7 @@
 -- A forest: its trees are read as operands of no opcode, and the last of them is the root.
 -- In order: how deep an accepted forest is; before its trees are read; after.
 -- Assumes nothing.
-use Prim.Native.Nat.{ℕ, suc, _+_, _-_, _<_, _≤_}
+use Prim.Native.Nat.{ℕ, suc, _+_, _<_, _≤_}
 use mathlib.Core.Path.{_≡_, refl, sym, ap, _∙_, subst}
 use mathlib.Core.Bool.{false}
 use mathlib.Core.Option.{none}

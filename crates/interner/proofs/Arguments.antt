@@ -73,7 +73,7 @@ module _ (at cur : ℕ) (r : Rec) where
       ap (λ (b : Bool). guard b 12 at (good (length (s .syms), oneArg cur r s)) >>= rest xs)
       (lt-ltb (length (s .syms)) 512 lt)
 
-  pub args-good : (xs : List (ℕ × List ℕ)) (s : intern.State) → length (s .syms) + length xs ≤ 512 →
+  args-good : (xs : List (ℕ × List ℕ)) (s : intern.State) → length (s .syms) + length xs ≤ 512 →
       allocArgs at cur r xs s ≡ good (range (length (s .syms)) (length xs), [], pushArgs cur r (length xs) s)
   unfolding allocArgs pushArgs range _>>=_
   args-good [] s le = refl
@@ -85,7 +85,7 @@ module _ (at cur : ℕ) (r : Rec) where
       ∙ ap (λ (k : ℕ).
       good (length (s .syms) ∷ range k (length xs), [], pushArgs cur r (length xs) (oneArg cur r s))) n)
 
-  pub args-full : (xs : List (ℕ × List ℕ)) (s : intern.State) → length (s .syms) ≤ 512 →
+  args-full : (xs : List (ℕ × List ℕ)) (s : intern.State) → length (s .syms) ≤ 512 →
       512 < length (s .syms) + length xs → allocArgs at cur r xs s ≡ refused 12 at
   unfolding allocArgs alloc guard _>>=_
   args-full [] s le lt = absurd (omega arith)
@@ -117,7 +117,7 @@ each-args scs P m (s ∷ out) b h = (h s (b .0), each-args scs P m out (b .1) h)
 
 module _ (bs ws : List ℕ) (st : State) (cur at levels : ℕ) (rep : Rep bs ws st) (from : at < recordCount bs)
     (current : cur < st .scopes) where
-  pub arg-fresh : Fresh bs ws st cur (arg at) 0 0
+  arg-fresh : Fresh bs ws st cur (arg at) 0 0
   arg-fresh = record {
     from = from;
     field = omega arith;
@@ -145,7 +145,7 @@ module _ (bs ws : List ℕ) (st : State) (cur at levels : ℕ) (rep : Rep bs ws 
         let l = rep .levels .arguments s lt xs (sym (scope-args ws (st .scopes) (st .scopes) s (rep .arena .scoped .nested) lt lt) ∙ e) a i in
         omega (arith, l .low, in-one j)))
 
-    pub arg-levels : Levels ws st cur (st .symbols ∷ []) levels
+    arg-levels : Levels ws st cur (st .symbols ∷ []) levels
     arg-levels = record {
       low = λ a i. omega (arith, in-one i);
       are = λ ws′ stored j.
@@ -180,7 +180,7 @@ module _ (bs ws₀ : List ℕ) (st₀ : State) (cur at count : ℕ) where
   }
 
   -- the scope is as it was
-  pub cur-level : (k : ℕ) (ws : List ℕ) (s : State) → Rep bs ws₀ st₀ → cur < st₀ .scopes →
+  cur-level : (k : ℕ) (ws : List ℕ) (s : State) → Rep bs ws₀ st₀ → cur < st₀ .scopes →
       SoFar bs ws₀ st₀ cur at count k ws s → scopeWord ws cur ≡ scopeWord ws₀ cur
   cur-level k ws s rep lt f = f .leaves .scope-words (SCOPES .first + cur) (omega arith) (omega (arith, rep .arena .scoped .few-scopes))
 

@@ -129,7 +129,7 @@ module _ (bs ws : List ℕ) (t : Tables) (st : State) (cur at held : ℕ) where
         subst (Holds (Keeps (absOf bs ws t st) 1)) field-good
         (finish-keeps at cur (fieldRec own i) (pend ws ∷ []) [] (operation []) (absOf bs ws t st))
 
-    pub same-pending : pend ws₁ ≡ pend ws
+    same-pending : pend ws₁ ≡ pend ws
     same-pending = h .leaves .frame .after (PENDING .first + held) (omega arith)
 
     pub projects-next : Rep bs ws st → Projects bs ws st cur at held 2 → Projects bs ws₁ (a .st) cur at held 1
@@ -153,7 +153,7 @@ module _ (bs ws : List ℕ) (t : Tables) (st : State) (cur at held : ℕ) where
               (subst (InForce (scopesOf ws (st .scopes)) cur) (sym deps) (p .forced));
         }
 
-    pub keeps-memo : memoOf ws₁ (a .st .memo) ≡ memoOf ws (st .memo)
+    keeps-memo : memoOf ws₁ (a .st .memo) ≡ memoOf ws (st .memo)
     keeps-memo = field-keeps .memo
 
 -- ---- both
@@ -223,13 +223,13 @@ module _ (bs ws : List ℕ) (t : Tables) (st : State) (cur at held : ℕ) where
         memo-kept =
             keeps-memo bs ws₁ t (a .st) cur at held 2 ws₂ b g fine ∙ keeps-memo bs ws t st cur at held 1 ws₁ a h ok
 
-        pub still-new : recall (memoOf ws₂ (b .st .memo)) (pend′ ws) ≡ none
+        still-new : recall (memoOf ws₂ (b .st .memo)) (pend′ ws) ≡ none
         still-new = ap (λ (ms : List (ℕ × ℕ × ℕ)). recall ms (pend′ ws)) memo-kept ∙ new
 
-        pub low-p : pend′ ws < b .st .symbols
+        low-p : pend′ ws < b .st .symbols
         low-p = omega (arith, p .low, h .leaves .more, g .leaves .more)
 
-        pub low-a : a .symbol < b .st .symbols
+        low-a : a .symbol < b .st .symbols
         low-a = omega (arith, h .low, g .leaves .more)
 
         pub room-memo : b .st .memo < 512

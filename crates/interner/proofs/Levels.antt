@@ -49,7 +49,7 @@ module _ (ws : List ℕ) (j : ℕ) where
 
   -- ---- union
 
-  pub anyHas-append : (xs ys : List ℕ) → anyHas ws j (xs ++ ys) ≡ (anyHas ws j xs || anyHas ws j ys)
+  anyHas-append : (xs ys : List ℕ) → anyHas ws j (xs ++ ys) ≡ (anyHas ws j xs || anyHas ws j ys)
   unfolding anyHas
   anyHas-append [] ys = refl
   anyHas-append (x ∷ xs) ys =
@@ -74,7 +74,7 @@ module _ (ws : List ℕ) (j : ℕ) where
       go true e = absorb (anyHas ws j xs) (here n) (λ t. anyHas-in xs n (isIn-true n xs e) t)
       go false e = anyHas-append xs (n ∷ []) ∙ ap (λ (b : Bool). anyHas ws j xs || b) (anyHas-one n)
 
-  pub anyHas-union : (xs ys : List ℕ) → anyHas ws j (union xs ys) ≡ (anyHas ws j xs || anyHas ws j ys)
+  anyHas-union : (xs ys : List ℕ) → anyHas ws j (union xs ys) ≡ (anyHas ws j xs || anyHas ws j ys)
   unfolding union anyHas
   anyHas-union xs [] = sym (or-false (anyHas ws j xs))
   anyHas-union xs (y ∷ ys) =

@@ -36,7 +36,7 @@ use Rattle.interner.proofs.Tracks.{outside, bound-args, bound-level, tr
 -- ---- its children
 
 -- a word of a run
-pub words-in : (ws : List ℕ) (at n s : ℕ) → In s (wordsFrom ws at n) → (k : ℕ) × (k < n) × (s ≡ getD ws (at + k) 0)
+words-in : (ws : List ℕ) (at n s : ℕ) → In s (wordsFrom ws at n) → (k : ℕ) × (k < n) × (s ≡ getD ws (at + k) 0)
 unfolding wordsFrom
 words-in ws at zero s h = absurd h
 words-in ws at (suc n) s (inl e) = let z : at + 0 ≡ at = omega arith in (0, omega arith, rw z e)
@@ -53,7 +53,7 @@ module _ (bs ws : List ℕ) (st : State) (rep : Rep bs ws st) (held count : ℕ)
   abbrev syms : List Sym
   syms = symsOf bs ws (st .symbols)
 
-  pub kid-low : (k : ℕ) → In k kids → k < st .symbols
+  kid-low : (k : ℕ) → In k kids → k < st .symbols
   kid-low k i = let w = words-in ws (PENDING .first + held) count k i in rw (w .2) (lower (w .0) (w .1))
 
   kid-deps : (k : ℕ) → k < st .symbols → symAt syms k .deps ≡ depsAt bs ws k
@@ -66,7 +66,7 @@ module _ (bs ws : List ℕ) (st : State) (rep : Rep bs ws st) (held count : ℕ)
       let l : a < suc (w .0) = rep .levels .each (w .0) lt .low a (subst (In a) (kid-deps (w .0) lt) (w .2)) in
       omega arith
 
-  pub kids-levels : (j : ℕ) → anyHas ws j kids ≡ anyHas ws j (unionDeps syms kids)
+  kids-levels : (j : ℕ) → anyHas ws j kids ≡ anyHas ws j (unionDeps syms kids)
   kids-levels j =
       anyHas-deps ws j syms kids (λ k i. let lt = kid-low k i in
       rep .levels .each k lt .is j ∙ ap (anyHas ws j) (sym (kid-deps k lt)))
@@ -94,7 +94,7 @@ module _ (bs ws : List ℕ) (st : State) (rep : Rep bs ws st) (held count : ℕ)
 
   module _ (cur : ℕ) (current : cur < st .scopes)
       (forced : InForce (scopesOf ws (st .scopes)) cur (unionDeps syms kids)) where
-    pub levels-plain : (levels : ℕ) → ((j : ℕ) → has levels j ≡ anyHas ws j kids) →
+    levels-plain : (levels : ℕ) → ((j : ℕ) → has levels j ≡ anyHas ws j kids) →
         Levels ws st cur (without (unionDeps syms kids) []) levels
     levels-plain levels are =
         levels-of cur current [] levels
@@ -147,7 +147,7 @@ module _ (bs ws : List ℕ) (st : State) (rep : Rep bs ws st) (held count : ℕ)
         (levelOf (scopeWord ws b))
         ∙ ne-eqb (levelOf (scopeWord ws b)) (levelOf (scopeWord ws (r .scope))) (λ e. omega arith)
 
-    pub levels-lambda : (levels : ℕ) →
+    levels-lambda : (levels : ℕ) →
         ((j : ℕ) → has levels j ≡ (not (eqb j (levelOf (scopeWord ws b))) && anyHas ws j kids)) →
         Levels ws st cur (without (unionDeps syms kids) own) levels
     levels-lambda levels are =

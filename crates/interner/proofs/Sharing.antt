@@ -78,7 +78,7 @@ pub out-given : (bs ws : List ℕ) (t : Tables) (st : State) (s : ℕ) →
 unfolding outOf
 out-given bs ws t st s = refl
 
-pub out-full : (bs ws : List ℕ) (t : Tables) (st : State) (node : Node) →
+out-full : (bs ws : List ℕ) (t : Tables) (st : State) (node : Node) →
     outOf bs ws t (overFull st node) ≡ refused 12 (partsOf node .source)
 unfolding outOf
 out-full bs ws t st node = refl

@@ -25,7 +25,7 @@ use Rattle.interner.specs.Levels.{anyHas, AtLevel, ArgLevels, Bound, InF
 use Rattle.interner.proofs.Levels.{anyHas-in, anyHas-none}
 
 -- a member that two lists share
-pub anyIn-true : (xs ys : List ℕ) → anyIn xs ys ≡ true → (a : ℕ) × In a xs × In a ys
+anyIn-true : (xs ys : List ℕ) → anyIn xs ys ≡ true → (a : ℕ) × In a xs × In a ys
 unfolding anyIn
 anyIn-true [] ys e = false-true e
 anyIn-true (x ∷ xs) ys e = go (isIn x ys) refl (anyIn-true xs ys) e
@@ -64,7 +64,7 @@ module _ (ws : List ℕ) (m : ℕ) (h : Nested ws m) where
       level k ≡ ownLevel (argsIn (scopeWord ws k)) + level (parentOf (scopeWord ws k))
   parent-level k z q = h .level k z q
 
-  pub level-below : (f k c : ℕ) → k ≤ f → k < m → In c (out k) → level c ≤ level k
+  level-below : (f k c : ℕ) → k ≤ f → k < m → In c (out k) → level c ≤ level k
   level-below zero k c le q i = elim (steps k c q i) [
     | inl e ↦ rw e (omega arith)
     | inr p ↦ absurd (omega (arith, p .0))

@@ -60,7 +60,7 @@ wrap-whole d nil r (i, v, e, f) =
 wrap-whole d (cons x ds) r h = refl
 
 module _ (ds : Trees) (r : Tree) (h : NoRenames ds) (k : ℕ) (count : many ds ≡ k) (some : 0 < k) where
-  pub wrap-some : wrapBlock ds r ≡ node (rec 11 0xD8 0 []) (snoc ds r)
+  wrap-some : wrapBlock ds r ≡ node (rec 11 0xD8 0 []) (snoc ds r)
   unfolding many
   wrap-some = go ds h (omega arith)
     where

@@ -203,7 +203,7 @@ module _ (g : Graph) (kids-low : (s : ℕ) → Under s (symOf g s .kids)) (s : �
 abbrev pub NoUses : Graph → Type 0
 NoUses g = (s : ℕ) → isArg (symOf g s .node) ≡ false → eqb (symOf g s .rec .shape) 7 ≡ false
 
-pub value-no-use : (g : Graph) → NoUses g → (sc : ℕ) → BuildsValues g (buildValue g) sc
+value-no-use : (g : Graph) → NoUses g → (sc : ℕ) → BuildsValues g (buildValue g) sc
 unfolding buildValue buildStep buildNode member
 value-no-use g h sc s env last e =
     subst (λ (z : ℕ → Env → ℕ → Tree). eqb (top (z sc env last) .shape) 7 ≡ false)
@@ -263,7 +263,7 @@ module _ (g : Graph) (values : NoUses g) (root sc : ℕ) (once : Once (schedule 
   abbrev scopeTree : Tree
   scopeTree = processScope g (buildValue g) root sc env last
 
-  pub scope-count : many defs ≡ k
+  scope-count : many defs ≡ k
   scope-count = members-fixed g (buildValue g) sc (schedule g root sc) env last once ∙ count
 
   pub scope-none : k ≡ 0 → scopeTree ≡ result

@@ -85,7 +85,7 @@ module _ (g : Graph) (sc : ℕ) (P : List ℕ → Env → ℕ → Type 0) (end :
 -- ---- the whole order
 
 module _ (g : Graph) (build : Builder) (sc : ℕ) where
-  pub define-is : (root : ℕ) (order : List ℕ) (env : Env) (last : ℕ) (defs : Trees) →
+  define-is : (root : ℕ) (order : List ℕ) (env : Env) (last : ℕ) (defs : Trees) →
       define g build root sc order env last defs ≡
       wrapBlock (joinT defs (defsOf g build sc order env last))
       (build root sc (idsFrom g sc order env last .0) (idsFrom g sc order env last .1))
@@ -172,7 +172,7 @@ members-append g sc env (s ∷ xs) ys = go (member g sc env s) refl (members-app
 
 module _ (g : Graph) (sc : ℕ) (env : Env) (s i : ℕ) where
   -- an id given to another symbol changes nothing
-  pub member-same : (t : ℕ) → (s ≡ t → ⊥) → member g sc ((s, i) ∷ env) t ≡ member g sc env t
+  member-same : (t : ℕ) → (s ≡ t → ⊥) → member g sc ((s, i) ∷ env) t ≡ member g sc env t
   unfolding member idGiven
   member-same t n = rw (ne-eqb s t n, idGiven)
 

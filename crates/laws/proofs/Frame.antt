@@ -1,13 +1,12 @@
--- Laws of `Frame` and `Agree`. In order: nothing done; one step after another; a wider run, and a step inside it; what agrees beside the run;
--- the words from a place on; a store, a run of stores. Assumes nothing.
+-- Laws of `Frame` and `Agree`. In order: nothing done; one step after another; a wider run, and a step inside it; what
+-- agrees beside the run; the words from a place on; a store. Assumes nothing.
 use Prim.Native.Nat.{ℕ, _+_, _-_, _<_, _≤_}
 use mathlib.Core.Path.{_≡_, refl, ap, sym, _∙_}
 use mathlib.Core.List.{List}
 use native.Mathlib.Omega.{arith}
-use lib.ListN.{length, set, drop, length-set, length-drop}
-use lib.Seq.{sets, length-sets, getD-set-other, getD-drop, ext-getD}
+use lib.ListN.{set, drop, length-set, length-drop}
+use lib.Seq.{getD-set-other, getD-drop, ext-getD}
 use Rattle.laws.specs.Frame.{Agree, Frame}
-use Rattle.laws.proofs.Runs.{sets-before, sets-after}
 
 pub frame-none : (lo hi : ℕ) (ws : List ℕ) → Frame lo hi ws ws
 frame-none lo hi ws = record { long = refl; before = λ k l. refl; after = λ k l. refl }
@@ -34,9 +33,6 @@ frame-inside lo hi lo′ hi′ ws us vs f g l r = frame-then lo hi ws us vs f (f
 pub frame-below : (lo hi a b : ℕ) (ws us : List ℕ) → Frame lo hi ws us → b ≤ lo → Agree ws us a b
 frame-below lo hi a b ws us f h k l r = f .before k (omega arith)
 
-pub frame-above : (lo hi a b : ℕ) (ws us : List ℕ) → Frame lo hi ws us → hi ≤ a → Agree ws us a b
-frame-above lo hi a b ws us f h k l r = f .after k (omega arith)
-
 pub frame-drop : (lo hi n : ℕ) (ws us : List ℕ) → Frame lo hi ws us → hi ≤ n → drop n us ≡ drop n ws
 frame-drop lo hi n ws us f h =
     ext-getD 0 (drop n us) (drop n ws)
@@ -51,11 +47,4 @@ frame-store lo hi i v ws l r = record {
   long = length-set ws i v;
   before = λ k b. getD-set-other ws i k v 0 (λ e. omega arith);
   after = λ k a. getD-set-other ws i k v 0 (λ e. omega arith);
-}
-
-pub frame-stores : (lo hi i : ℕ) (vs ws : List ℕ) → lo ≤ i → i + length vs ≤ hi → Frame lo hi ws (sets ws i vs)
-frame-stores lo hi i vs ws l r = record {
-  long = length-sets ws i vs;
-  before = λ k b. sets-before vs ws i k (omega arith);
-  after = λ k a. sets-after vs ws i k (omega arith);
 }

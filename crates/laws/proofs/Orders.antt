@@ -114,7 +114,7 @@ each-fresh f adds s ds out low new = not-in-isIn s (each f ds out) (λ i. no (al
     no (inr l) = omega arith
 
 -- visits by neighbours that agree below b
-pub visit-same : (nb mb : ℕ → List ℕ) (b : ℕ) → ((s : ℕ) → s < b → nb s ≡ mb s) → (s : ℕ) → s < b →
+visit-same : (nb mb : ℕ → List ℕ) (b : ℕ) → ((s : ℕ) → s < b → nb s ≡ mb s) → (s : ℕ) → s < b →
     visit nb s ≡ visit mb s
 unfolding visit visitStep
 visit-same nb mb b h = strong (λ s. s < b → visit nb s ≡ visit mb s) λ s ih l.

@@ -125,7 +125,7 @@ rows-split (suc k) (cons t ts) =
     append-assoc (rows t) (rowsOf (takeT k ts)) (rowsOf (dropT k ts))
     ∙ ap (λ (l : List Row). rows t ++ l) (rows-split k ts)
 
-pub closed-rows : (n at : ℕ) (rs : List Row) → unclosed n at rs ≡ none →
+closed-rows : (n at : ℕ) (rs : List Row) → unclosed n at rs ≡ none →
     (many (grow rs) ≡ n) × (rowsOf (grow rs) ≡ rs)
 unfolding unclosed grow many rowsOf
 closed-rows zero at [] e = (refl, refl)

@@ -48,7 +48,7 @@ module _ (n : ℕ) where
       go false (inl e) rest = inl e
       go false (inr i) rest = inr (rest i)
 
-  pub minus-once : (xs : List ℕ) → Once xs → Once (minus n xs)
+  minus-once : (xs : List ℕ) → Once xs → Once (minus n xs)
   minus-once [] h = tt
   minus-once (x ∷ xs) h = go (eqb x n) (minus-once xs (h .1))
     where
@@ -56,7 +56,7 @@ module _ (n : ℕ) where
       go true k = h .1
       go false k = (λ i. h .0 (minus-in xs x i), k)
 
-  pub minus-under : (xs : List ℕ) → Once xs → Under (suc n) xs → Under n (minus n xs)
+  minus-under : (xs : List ℕ) → Once xs → Under (suc n) xs → Under n (minus n xs)
   minus-under [] h u = λ x i. absurd i
   minus-under (x ∷ xs) h u = go (eqb x n) refl (minus-under xs (h .1) (λ y i. u y (inr i)))
     where
@@ -159,10 +159,10 @@ pub visit-adds : (nb : ℕ → List ℕ) → Walks nb (visit nb)
 unfolding visit down
 visit-adds nb s = fuel-walks nb (suc s) s
 
-pub visit-once : (nb : ℕ → List ℕ) (s : ℕ) → Once (visit nb s [])
+visit-once : (nb : ℕ → List ℕ) (s : ℕ) → Once (visit nb s [])
 visit-once nb s = visit-adds nb s [] .1 tt
 
-pub visit-short : (nb : ℕ → List ℕ) → Falls nb → (s : ℕ) → length (visit nb s []) ≤ suc s
+visit-short : (nb : ℕ → List ℕ) → Falls nb → (s : ℕ) → length (visit nb s []) ≤ suc s
 visit-short nb falls s = once-short (suc s) (visit nb s []) (visit-once nb s) (visit-low nb falls s)
 
 -- ---- free lists
@@ -184,7 +184,7 @@ unfolding collect
 collect-once g fv cs [] out h = h
 collect-once g fv cs (s ∷ ss) out h = collect-once g fv cs ss _ (outsiders-once g cs _ out h)
 
-pub free-once : (g : Graph) (c : ℕ) → Once (freeVars g c)
+free-once : (g : Graph) (c : ℕ) → Once (freeVars g c)
 unfolding freeVars down downFuel freeStep
 free-once g c = collect-once g _ (symOf g c .scope) _ [] tt
 

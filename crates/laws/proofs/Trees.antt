@@ -40,7 +40,7 @@ module _ (r : Rec) (t : Tree) where
   unfolding rows many
   one-rows = ap (λ (l : List Row). record { rec = r; kids = 1 } ∷ l) (append-nil (rows t))
 
-  pub one-size : size (node r (cons t nil)) ≡ suc (size t)
+  one-size : size (node r (cons t nil)) ≡ suc (size t)
   unfolding size
   one-size = omega arith
 

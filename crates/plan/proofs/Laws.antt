@@ -43,7 +43,7 @@ module _ (ws : List ℕ) (at tag a b : ℕ) where
 
 -- ---- load after store
 
-pub stored-loaded : (ws : List ℕ) (at : ℕ) (p : Planned) → at + 3 ≤ length ws → plannedAt (storePlanned ws at p) at ≡ p
+stored-loaded : (ws : List ℕ) (at : ℕ) (p : Planned) → at + 3 ≤ length ws → plannedAt (storePlanned ws at p) at ≡ p
 unfolding storePlanned plannedOf
 stored-loaded ws at (Copy i) h = put3-planned ws at 0 i 0 h
 stored-loaded ws at (Field f) h = put3-planned ws at 1 f 0 h

@@ -52,7 +52,7 @@ module _ {bs ws : List ℕ} {n m : ℕ} (b : Buildable bs ws n m) (s : ℕ) (lt 
     record { args = lambda-fits .args; fit = omega (arith, lambda-fits .few) },
   )
 
-  pub body-root : {root : ℕ} → root ≡ getD ws (SLOTS .first + symbolAt ws s .kids) 0 → getD (kidsAt ws s) 0 0 ≡ root
+  body-root : {root : ℕ} → root ≡ getD ws (SLOTS .first + symbolAt ws s .kids) 0 → getD (kidsAt ws s) 0 0 ≡ root
   body-root r =
       let z : SLOTS .first + symbolAt ws s .kids + 0 ≡ SLOTS .first + symbolAt ws s .kids = omega arith in
       words-at ws (SLOTS .first + symbolAt ws s .kids) (symbolAt ws s .count) 0 (omega (arith, lambda-one))

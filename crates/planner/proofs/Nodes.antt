@@ -33,7 +33,7 @@ use Rattle.planner.proofs.Graphs.{kids-low, body-lower}
 
 -- ---- trees in general
 
-pub rows-some : (t : Tree) → 1 ≤ length (rows t)
+rows-some : (t : Tree) → 1 ≤ length (rows t)
 rows-some t = omega (arith, size-rows t, size-some t)
 
 pub grew-few : {bs ws : List ℕ} {p : Plan} {rs : List Row} {d : ℕ} {ws′ : List ℕ} {r : Plan} → Grew bs ws p rs d ws′ r
@@ -54,7 +54,7 @@ module _ {bs ws : List ℕ} {g : Graph} {ids : List ℕ} {p : Plan} {above : ℕ
 
   module _ {ws′ : List ℕ} {r : Plan} where
     -- the same tree, otherwise said
-    pub plans-as : {t u : model.Graph → ℕ → Env → Tree} → Plans bs ws g ids p above t ws′ r
+    plans-as : {t u : model.Graph → ℕ → Env → Tree} → Plans bs ws g ids p above t ws′ r
         → ((gr : model.Graph) (sc : ℕ) (env : Env) → GraphIn bs ws (g .symbols) (g .scopes) gr → Maps ids env
         → t gr sc env ≡ u gr sc env)
         → Plans bs ws g ids p above u ws′ r
@@ -66,7 +66,7 @@ module _ {bs ws : List ℕ} {g : Graph} {ids : List ℕ} {p : Plan} {above : ℕ
     }
 
     -- a tree of one row
-    pub plans-row : {row : Row} → Grew bs ws p (row ∷ []) (above + 1) ws′ r
+    plans-row : {row : Row} → Grew bs ws p (row ∷ []) (above + 1) ws′ r
         → (tree : model.Graph → ℕ → Env → Tree)
         → ((gr : model.Graph) (sc : ℕ) (env : Env) → GraphIn bs ws (g .symbols) (g .scopes) gr → Maps ids env
         → (rows (tree gr sc env) ≡ row ∷ []) × (depth (tree gr sc env) ≡ 1))

@@ -80,7 +80,7 @@ module _ (g : Graph) (cs : ℕ) where
       visit (orderOf g b cs) d o ≡ stepOf g b cs d o
   step-visit b d o e = ap (λ (t : Bool). unless t (visit (orderOf g b cs) d) o) (sym e) ∙ sym (step-unless b d o)
 
-  pub step-adds : (b : Bool) → Adds (stepOf g b cs)
+  step-adds : (b : Bool) → Adds (stepOf g b cs)
   unfolding stepOf
   step-adds b d o x = go (passed g b cs d)
     where

@@ -58,7 +58,7 @@ below : (k j : ℕ) → k < j → has (2 ^ k) j ≡ false
 unfolding has
 below k j lt = rw (div-eq-of-lt (pow-lt lt))
 
-pub has-one : (k j : ℕ) → has (2 ^ k) j ≡ eqb j k
+has-one : (k j : ℕ) → has (2 ^ k) j ≡ eqb j k
 has-one k j = elim (decLt k j) [
   | yes p ↦ below k j p ∙ sym (ne-eqb j k (λ e. omega arith))
   | no p ↦ elim (decLt j k) [
@@ -81,7 +81,7 @@ has-or a b j =
     let e : bitOr x y % 2 ≡ max (x % 2) (y % 2) = rw (or-step x y) (omega arith) in
     rw (or-shr a b j, e) (or-digit (x % 2) (y % 2) (omega arith) (omega arith))
 
-pub has-and : (a b j : ℕ) → has (bitAnd a b) j ≡ (has a j && has b j)
+has-and : (a b j : ℕ) → has (bitAnd a b) j ≡ (has a j && has b j)
 unfolding has
 has-and a b j =
     let x = a / 2 ^ j in

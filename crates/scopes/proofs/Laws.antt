@@ -31,10 +31,10 @@ module _ (parent first code level : ℕ) (p : parent < 4096) (f : first < 512) (
   pub packed-parent : parentOf (packedOf parent first code level) ≡ parent
   packed-parent = omega arith
 
-  pub packed-first : firstOf (packedOf parent first code level) ≡ first
+  packed-first : firstOf (packedOf parent first code level) ≡ first
   packed-first = omega arith
 
-  pub packed-code : codeOf (packedOf parent first code level) ≡ code
+  packed-code : codeOf (packedOf parent first code level) ≡ code
   packed-code = omega arith
 
   pub packed-level : levelOf (packedOf parent first code level) ≡ level
@@ -52,7 +52,7 @@ scopes-length ws zero = refl
 scopes-length ws (suc m) =
     length-append (scopesOf ws m) (scopeFrom (scopesOf ws m) ws m ∷ []) ∙ omega (arith, scopes-length ws m)
 
-pub scopes-at : (ws : List ℕ) (m k : ℕ) → k < m → scopeAt (scopesOf ws m) k ≡ scopeFrom (scopesOf ws k) ws k
+scopes-at : (ws : List ℕ) (m k : ℕ) → k < m → scopeAt (scopesOf ws m) k ≡ scopeFrom (scopesOf ws k) ws k
 unfolding scopesOf
 scopes-at ws zero k lt = absurd (omega arith)
 scopes-at ws (suc m) k lt = elim (decLt k m) [
@@ -66,7 +66,7 @@ scopes-at ws (suc m) k lt = elim (decLt k m) [
 ]
 
 -- a scope is the same in a longer list of scopes
-pub scopes-more : (ws : List ℕ) (m n k : ℕ) → k < m → k < n → scopeAt (scopesOf ws m) k ≡ scopeAt (scopesOf ws n) k
+scopes-more : (ws : List ℕ) (m n k : ℕ) → k < m → k < n → scopeAt (scopesOf ws m) k ≡ scopeAt (scopesOf ws n) k
 scopes-more ws m n k p q = scopes-at ws m k p ∙ sym (scopes-at ws n k q)
 
 -- ---- the parts of scope k

@@ -53,7 +53,7 @@ field-row bs f h = let e : f % 256 ≡ f = omega arith in rw e
 
 -- ---- lengths
 
-pub planned-length : (bs ws : List ℕ) (at n : ℕ) → length (plannedRows bs ws at n) ≡ n
+planned-length : (bs ws : List ℕ) (at n : ℕ) → length (plannedRows bs ws at n) ≡ n
 unfolding planFrom rowsFor
 planned-length bs ws at zero = refl
 planned-length bs ws at (suc n) = ap suc (planned-length bs ws (at + 3) n)

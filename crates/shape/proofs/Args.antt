@@ -112,7 +112,7 @@ module _ (lit : List ℕ) (at : ℕ) where
     stands-within = let e = stands-end in omega (arith, opt-ends (e .reads) .is, e .reads .within .1)
 
     -- what is left after the argument
-    pub stands-rest : aArg (drop at lit) ≡ some (drop (nextArg lit at) lit)
+    stands-rest : aArg (drop at lit) ≡ some (drop (nextArg lit at) lit)
     stands-rest =
         let e = stands-end in
         then-opt ∙ sym (e .reads .is) ∙ ap (λ (n : ℕ). some (drop n lit)) (opt-ends (e .reads) .is)

@@ -43,7 +43,7 @@ take-both s t n = go (ltb n (length s)) refl
         ap (λ (k : ℕ). take k (s ++ t)) z ∙ (take-append-add s t (n - length s)
         ∙ ap (λ (x : List ℕ). x ++ take (n - length x) t) (sym (take-all n s l)))
 
-pub clipped-then : (s t : List ℕ) {a b c : List ℕ} {i j k : ℕ} → Clipped a i s b j → Clipped b j t c k →
+clipped-then : (s t : List ℕ) {a b c : List ℕ} {i j k : ℕ} → Clipped a i s b j → Clipped b j t c k →
     Clipped a i (s ++ t) c k
 clipped-then s t {a} {b} {c} {i} {j} {k} v w =
     let n = length a - i in

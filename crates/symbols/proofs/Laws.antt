@@ -85,7 +85,7 @@ module _ (bs ws ws′ : List ℕ) (used : ℕ) (slots : Agree ws ws′ (SLOTS .f
         sym-agree (symsOf bs ws n) n (λ k l r. own k (omega arith) (omega arith)) (sound n (omega arith)),
       )
 
-  pub sound-agree : (i : ℕ) → Agree ws ws′ (5 * i) (5 * i + 5) → Sound bs ws used i → Sound bs ws′ used i
+  sound-agree : (i : ℕ) → Agree ws ws′ (5 * i) (5 * i + 5) → Sound bs ws used i → Sound bs ws′ used i
   sound-agree i own sound =
       let e : symbolAt ws′ i ≡ symbolAt ws i = symbol-agree ws ws′ i own in
       record {

@@ -29,7 +29,7 @@ pub shift-zero : (o : Option ℕ) → shift 0 o ≡ o
 shift-zero none = refl
 shift-zero (some q) = ap some (omega arith)
 
-pub shift-none : (i : ℕ) (o : Option ℕ) → none ≡ shift i o → o ≡ none
+shift-none : (i : ℕ) (o : Option ℕ) → none ≡ shift i o → o ≡ none
 shift-none i none e = refl
 shift-none i (some q) e = some-none (sym e)
 
@@ -139,7 +139,7 @@ drop-cons zero t ts l = absurd (omega arith)
 drop-cons (suc n) t ts l = let e : suc n - 1 ≡ n = omega arith in rw e
 
 -- all but the last: more are to come
-pub here-is : (m : ℕ) (ts : Trees) → m ≤ many ts → not (isNil (takeT m ts)) ≡ ltb 0 m
+here-is : (m : ℕ) (ts : Trees) → m ≤ many ts → not (isNil (takeT m ts)) ≡ ltb 0 m
 unfolding takeT many
 here-is zero ts l = sym (le-ltb 0 0 (omega arith))
 here-is (suc m) nil l = absurd (omega arith)

@@ -36,7 +36,7 @@ pub after-other : (t : Tree) → (top t .shape ≡ 10 → ⊥) → after t ≡ [
 unfolding after
 after-other t h = rw (after, ne-eqb (top t .shape) 10 h)
 
-pub inside-lambda : (r : Rec) → r .shape ≡ 12 → inside r ≡ argIds r
+inside-lambda : (r : Rec) → r .shape ≡ 12 → inside r ≡ argIds r
 unfolding inside kind
 inside-lambda r e = let k : kind (r .shape) ≡ lambda = ap kind e in rw (inside, k)
 

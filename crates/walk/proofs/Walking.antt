@@ -33,7 +33,7 @@ use Rattle.walk.proofs.Steps.{remains-turn}
 
 -- ---- where a record stands
 
-pub stands-kept : (ws ws′ : List ℕ) (c : Context) → Frame (c .top) (end IDS) ws ws′ → ctxOf ws′ c ≡ ctxOf ws c
+stands-kept : (ws ws′ : List ℕ) (c : Context) → Frame (c .top) (end IDS) ws ws′ → ctxOf ws′ c ≡ ctxOf ws c
 stands-kept ws ws′ c h =
     ap (λ (z : List ℕ). record { depth = c .depth; def = c .def; ids = z }) (ids-kept (c .top) (end IDS) ws ws′ h)
 

@@ -1,7 +1,6 @@
 -- `shape::fits` meets its contract: each arm has the limits and the literal of its row.
 -- Assumes nothing.
 use borrow.Author.Needs.{needs}
-use mathlib.Core.Path.{refl}
 use Rattle.model.specs.Shape.{shapes, whole}
 use Rattle.shape.proofs.Part.{ends-whole, whole-byte}
 use Rattle.shape.proofs.Table.{fits-in, fits-out, fits-any, fits-none}

@@ -164,7 +164,7 @@ lambda-kids op (cons t nil) e m = rw (lambda-plain op e 0, plainKids) refl
 lambda-kids op (cons t (cons u ts)) e m = absurd (omega arith)
 
 -- a use is of an id that is in force where it stands
-pub use-bound : (r : Rec) (ts : Trees) (ids : List ℕ) → Clear (unbound (node r ts) ids) → r .shape ≡ 7 → In (idOf r) ids
+use-bound : (r : Rec) (ts : Trees) (ids : List ℕ) → Clear (unbound (node r ts) ids) → r .shape ≡ 7 → In (idOf r) ids
 unfolding unbound
 use-bound r ts ids known e =
     let test = subst (λ (z : Bool). (z && not (isIn (idOf r) ids)) ≡ false) (eq-eqb (r .shape) 7 e) (known .0) in

@@ -33,7 +33,7 @@ pub record Limits (st : State) : Type 0 where
   pub slots : slotsIn (st .syms) ≤ 2560
   pub kids-low : (i k : ℕ) → i < symCount st → In k (kidsAt (st .syms) i) → k < i
 
-pub sound-limits : (B : ℕ → Type 0) (st : State) (k c : ℕ) → Sound B st → Room st k c → Limits st
+sound-limits : (B : ℕ → Type 0) (st : State) (k c : ℕ) → Sound B st → Room st k c → Limits st
 sound-limits B st k c h r = record {
   symbols = h .few-symbols;
   readings = h .few-readings;
@@ -50,7 +50,7 @@ pub record Leaves (B : ℕ → Type 0) (o : ℕ × State) : Type 0 where
   pub room : Room (o .1) 0 0
   pub root-low : o .0 < symCount (o .1)
 
-pub forest-leaves : (B : ℕ → Type 0) → B 0 → B 1 → B 2 → (forest : List ℕ) (ts : Trees) → accept forest ≡ good ts →
+forest-leaves : (B : ℕ → Type 0) → B 0 → B 1 → B 2 → (forest : List ℕ) (ts : Trees) → accept forest ≡ good ts →
     TreesHave B ts →
     (o : ℕ × State) → interned forest ≡ good o → Leaves B o
 unfolding interned _>>=_ internLast

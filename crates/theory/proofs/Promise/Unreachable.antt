@@ -26,7 +26,7 @@ use Rattle.theory.specs.Sound.{thunks, NodeSound, Sound, Any}
 use Rattle.theory.proofs.Bounds.Limits.{forest-sound}
 
 -- an operation is built with as many children as it has child symbols
-pub rebuilt-count : (g : Graph) (f : Builder) (sc : ℕ) (env : Env) (last op j : ℕ) (ks brs : List ℕ) →
+rebuilt-count : (g : Graph) (f : Builder) (sc : ℕ) (env : Env) (last op j : ℕ) (ks brs : List ℕ) →
     many (buildOp g f sc env last op j ks brs) ≡ length ks
 unfolding buildOp many
 rebuilt-count g f sc env last op j [] brs = refl

@@ -2,7 +2,6 @@
 use borrow.Author.Needs.{needs}
 use mathlib.Core.Path.{ap}
 use Rattle.concluding.specs.declared.Branches.{Branches}
-use Rattle.intern.specs.declared.Kids.{Kids}
 use Rattle.intern.proofs.small.with_child.Statement.{statement}
 use Rattle.intern.proofs.small.with_child.Tie as tie
 

@@ -78,7 +78,7 @@ KidsReread kids =
     (kids cur env s)
 
 -- a step that adds a scope is not asked for
-pub more-rereads : (P : Type 0) (f : State → Out) (s : State) (o : ℕ × State) → scopeCount s < scopeCount (o .1) →
+more-rereads : (P : Type 0) (f : State → Out) (s : State) (o : ℕ × State) → scopeCount s < scopeCount (o .1) →
     Rereads P f s o
 more-rereads P f s o l = record { rises = omega arith; calm = λ p h e. absurd (omega arith) }
 

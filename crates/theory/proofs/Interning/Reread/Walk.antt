@@ -129,7 +129,7 @@ module _ (t : Tree) (env : Env) (cur : ℕ) (child : ℕ → State → Out) (res
 mutual
   unfolding intern last
 
-  pub intern-rereads : (t : Tree) (at cur : ℕ) (env : Env) (s : State) →
+  intern-rereads : (t : Tree) (at cur : ℕ) (env : Env) (s : State) →
       Holds (Rereads (EnvFits env (symCount s)) (λ v. intern t at cur env v) s) (intern t at cur env s)
   intern-rereads (node r ts) at cur env s =
       let kids : Kids = λ c e v. internAll ts (r .opcode) 0 (suc at) c e v in
