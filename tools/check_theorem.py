@@ -200,7 +200,7 @@ EDITS = [
          "isKey-true", "p (k 1) (k 2)", "unfolds false", "p (k 1) (k 1)"),
     Edit("children", "keys are equal without their child symbols",
          [(INTERN, "same (symAt ss i .kids) ks", "same ks ks")],
-         [(FINISH, "(same (kidsAt ss i) ks) e in", "(same ks ks) e in")],
+         [(FINISH, "(same (symKids ss i) ks) e in", "(same ks ks) e in")],
          "isKey-true", "p (n z) (n h)", "unfolds false", "B 1 (n z) (p (u 1) (u 1))"),
     Edit("next-id", "a definition's use is written with the next number",
          [(MEMBER, "((s, suc last) ∷ env)", f"((s, {NEXT}) ∷ env)")],

@@ -14,7 +14,7 @@ use Rattle.laws.specs.Frame.{Frame}
 use Rattle.laws.proofs.Frame.{frame-none}
 use Rattle.laws.proofs.ArgLists.{args-length}
 use Rattle.laws.proofs.Ranges.{range-length}
-use Rattle.walk.specs.Walk.{recAt, treeAt, Sound}
+use Rattle.walk.specs.Walk.{recAt, treeAt, WellFormed}
 use Rattle.walk.proofs.Bridge.{func-literal}
 use Rattle.regions.specs.Regions.{BINDINGS}
 use Rattle.bindings.specs.Bindings.{envOf, bound, boundAll}
@@ -24,7 +24,7 @@ use Rattle.bindings.proofs.Args.{argPairs, arg-pairs-length}
 
 -- ---- a lambda's arguments
 
-module _ (bs : List ℕ) (i n first a : ℕ) (lit ws ws′ : List ℕ) (h : Sound bs) (l : i < recordCount bs)
+module _ (bs : List ℕ) (i n first a : ℕ) (lit ws ws′ : List ℕ) (h : WellFormed bs) (l : i < recordCount bs)
     (e : a ≡ recAt bs i .aux) (f : lit ≡ recAt bs i .lit) (g : recAt bs i .shape ≡ 12) where
   pub args-bound : BINDINGS .first + 2 * (n + 15) ≤ length ws → ws′ ≡ boundAll ws n (argPairs a lit first)
       → ArgsBound bs i n first ws ws′ (n + a)

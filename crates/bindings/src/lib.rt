@@ -10,7 +10,7 @@ ghost use Rattle.model.specs.Binding.{argsOf};
 ghost use Rattle.model.specs.Intern.{resolve};
 ghost use Rattle.laws.specs.Range.{range};
 ghost use Rattle.shape.specs.Args.{Left};
-ghost use Rattle.walk.specs.Walk.{recAt, Sound};
+ghost use Rattle.walk.specs.Walk.{recAt, WellFormed};
 ghost use Rattle.regions.specs.Regions.{WORDS, BINDINGS};
 ghost use Rattle.bindings.specs.Bindings.{envOf, bound, pairsOf, boundAll};
 ghost use Rattle.bindings.specs.Made.{ArgsBound, DefBound};
@@ -64,7 +64,7 @@ fn bind_all(lit: &[u8], work: &mut [u32], n: usize, top: usize, first: u32)
 // Binds the arguments of lambda i to the symbols from `first` on, above top entries, the first argument newest.
 // Rules out: the last argument newest; every argument bound to the first symbol.
 pub fn bind_args(forest: &[u8], work: &mut [u32], i: usize, top: usize, first: u32) -> usize
-    requires { ⌜ Sound (now forest) ⌝ }
+    requires { ⌜ WellFormed (now forest) ⌝ }
     requires { ⌜ (i < recordCount (now forest)) × (recAt (now forest) i .shape ≡ 12) ⌝ }
     requires { ⌜ (top + 15 ≤ 1200) × (WORDS ≤ length (now work)) × (first ≤ 512) ⌝ }
     ensures { λ r. ⌜ ArgsBound (now (forest .entry)) i top first (now (work .entry)) (now (work .exit)) r ⌝ }
@@ -78,7 +78,7 @@ pub fn bind_args(forest: &[u8], work: &mut [u32], i: usize, top: usize, first: u
 // Binds what record i's subtree, whose symbol is given, binds in its later siblings.
 // Rules out: a lambda's arguments bound; the symbol under another record's id.
 pub fn bind_def(forest: &[u8], work: &mut [u32], i: usize, top: usize, symbol: u32) -> usize
-    requires { ⌜ Sound (now forest) ⌝ }
+    requires { ⌜ WellFormed (now forest) ⌝ }
     requires { ⌜ (i < recordCount (now forest)) × (top < 1200) × (WORDS ≤ length (now work)) ⌝ }
     ensures { λ r. ⌜ DefBound (now (forest .entry)) i top symbol (now (work .entry)) (now (work .exit)) r ⌝ }
 {

@@ -12,7 +12,7 @@ use Rattle.model.specs.Tree.{Trees}
 use Rattle.model.specs.Forest.{treesOf, check5}
 use Rattle.model.specs.Accept.{accept}
 use Rattle.laws.specs.Frame.{Frame}
-use Rattle.walk.specs.Walk.{Sound}
+use Rattle.walk.specs.Walk.{WellFormed}
 use Rattle.regions.specs.Regions.{IDS, end}
 use Rattle.codec.specs.declared.Verdict.{Verdict}
 use Rattle.codec.specs.declared.Verdict.the-variants.{Accepted, Refused}
@@ -28,7 +28,7 @@ answerOf (Refused n p) ts = refused n p
 
 -- a forest that passes checks 2 to 6
 pub record Shaped (bs : List ℕ) : Type 0 where
-  pub sound : Sound bs
+  pub sound : WellFormed bs
   pub agree : check5 bs ≡ none
 
 -- checks 2 to 6 pass, or one of them is the answer

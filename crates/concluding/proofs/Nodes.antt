@@ -15,7 +15,7 @@ use Rattle.model.specs.Intern.{Out, finish, nodeOf, func, withOpts}
 use Rattle.laws.specs.Range.{range}
 use Rattle.record.specs.Record.{rowAt}
 use Rattle.shape.proofs.Fitting.{fitting}
-use Rattle.walk.specs.Walk.{Sound}
+use Rattle.walk.specs.Walk.{WellFormed}
 use Rattle.walk.proofs.Bridge.{row-fits}
 use Rattle.key.specs.declared.Node.{Node}
 use Rattle.key.specs.declared.Node.the-variants.{Const, Unparsed, Lambda, Op}
@@ -104,7 +104,7 @@ module _ (bs ws : List ℕ) (t : Tables) (st : State) (i cur held count : ℕ) (
       finish i cur (rowAt bs i .rec) (pendingFrom ws held count) [] (nodeOf (rowAt bs i .rec) (branchesOf b))
       (absOf bs ws t st)
 
-  pub general-ready : (node : Node) → node ≡ generalNode shapeOf i b → Sound bs →
+  pub general-ready : (node : Node) → node ≡ generalNode shapeOf i b → WellFormed bs →
       Concludes bs ws st i cur cur held count → Branched b → Ready bs ws st cur node held count
   general-ready node is sound h br =
       let fit = row-fits bs i (sound .fit) (h .from) in

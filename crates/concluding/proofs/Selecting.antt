@@ -17,7 +17,7 @@ use Rattle.model.specs.Intern.{Out, Env, Kids, symAt, unionDeps, nodeOf, operat
 use Rattle.model.specs.Intern.{internField, internGeneral}
 use Rattle.record.specs.Record.{rowAt}
 use Rattle.shape.proofs.Fitting.{fits-field}
-use Rattle.walk.specs.Walk.{Sound}
+use Rattle.walk.specs.Walk.{WellFormed}
 use Rattle.walk.proofs.Bridge.{row-fits}
 use Rattle.key.specs.declared.Parts.{Parts}
 use Rattle.key.specs.declared.Symbol.{Symbol}
@@ -31,12 +31,12 @@ use Rattle.interner.specs.declared.State.{State}
 use Rattle.interner.specs.declared.Step.{Step}
 use Rattle.interner.specs.State.{absOf, Rep}
 use Rattle.interner.specs.Step.{Answers, Projects}
-use Rattle.concluding.specs.Concluding.{fieldAt, readsAgain, Branched, Selects, Stored, Input}
+use Rattle.concluding.specs.Concluding.{fieldAt, readsAgain, Branched, Selects, HasSymbol, Input}
 
 -- ---- its input
 
 -- its literal is one byte
-pub field-literal : (bs : List ℕ) (i : ℕ) → Sound bs → i < recordCount bs → rowAt bs i .rec .shape ≡ 17 →
+pub field-literal : (bs : List ℕ) (i : ℕ) → WellFormed bs → i < recordCount bs → rowAt bs i .rec .shape ≡ 17 →
     length (rowAt bs i .rec .lit) ≡ 1
 field-literal bs i sound l e = fits-field (rowAt bs i) (row-fits bs i (sound .fit) l) e .1
 
@@ -75,7 +75,7 @@ module _ (bs ws : List ℕ) (st : State) (i cur held : ℕ) (rep : Rep bs ws st)
 
 -- ---- whether it is read again
 
-pub symbol-from : (bs ws : List ℕ) (s : ℕ) (y : Symbol) (p : Parts) → Stored bs ws s → y ≡ symbolAt ws s →
+pub symbol-from : (bs ws : List ℕ) (s : ℕ) (y : Symbol) (p : Parts) → HasSymbol bs ws s → y ≡ symbolAt ws s →
     p ≡ partsOf (y .node) → p .source < recordCount bs
 symbol-from bs ws s y p h e f =
     let g : p .source ≡ partsOf (symbolAt ws s .node) .source = rw (f, e) in omega (arith, g, h .from)

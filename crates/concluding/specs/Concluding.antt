@@ -67,7 +67,7 @@ readsAgain bs ws n i held =
     eqb (symAt (symsOf bs ws n) (getD ws (PENDING .first + held) 0) .rec .shape) 16
 
 -- the words have symbol s, made for a record of the forest
-pub record Stored (bs ws : List ℕ) (s : ℕ) : Type 0 where
+pub record HasSymbol (bs ws : List ℕ) (s : ℕ) : Type 0 where
   pub few : s < 512
   pub from : partsOf (symbolAt ws s .node) .source < recordCount bs
   pub words : WORDS ≤ length ws
@@ -77,7 +77,7 @@ pub record Input (bs ws : List ℕ) (i held : ℕ) : Type 0 where
   pub from : i < recordCount bs
   pub shape : rowAt bs i .rec .shape ≡ 17
   pub pending : held + 1 ≤ PENDING .size
-  pub stored : Stored bs ws (getD ws (PENDING .first + held) 0)
+  pub stored : HasSymbol bs ws (getD ws (PENDING .first + held) 0)
 
 -- a SelectField, with room for both projections
 pub record Selects (bs ws : List ℕ) (st : State) (i cur held : ℕ) : Type 0 where

@@ -24,7 +24,7 @@ ghost use Rattle.model.specs.Binding.{argsOf, idOf};
 ghost use Rattle.model.specs.Intern.{finish, nodeOf, func, withOpts, internField, resolve, Env, Kids, symAt};
 ghost use Rattle.laws.specs.Range.{range};
 ghost use Rattle.record.specs.Record.{Laid, rowAt};
-ghost use Rattle.walk.specs.Walk.{Sound};
+ghost use Rattle.walk.specs.Walk.{WellFormed};
 ghost use Rattle.tables.specs.Tables.{Open};
 ghost use Rattle.symbols.specs.Words.{pendingFrom};
 ghost use Rattle.symbols.specs.Symbols.{symsOf};
@@ -32,7 +32,7 @@ ghost use Rattle.bindings.specs.Bindings.{envOf};
 ghost use Rattle.interner.specs.State.{absOf, Rep};
 ghost use Rattle.interner.specs.Step.{Answers, BodyOf, given};
 ghost use Rattle.concluding.specs.Concluding.{branchesOf, generalNode, fieldAt, readsAgain};
-ghost use Rattle.concluding.specs.Concluding.{Concludes, Branched, Selects, Stored, Input, Uses};
+ghost use Rattle.concluding.specs.Concluding.{Concludes, Branched, Selects, HasSymbol, Input, Uses};
 
 // The scopes of a record's thunks, of which there are `count`.
 pub struct Branches {
@@ -43,7 +43,7 @@ pub struct Branches {
 
 // The node of record i, which is no lambda.
 fn node_for(forest: &[u8], i: usize, b: Branches) -> Node
-    requires { ⌜ Sound (now forest) ⌝ }
+    requires { ⌜ WellFormed (now forest) ⌝ }
     requires { ⌜ i < recordCount (now forest) ⌝ }
     ensures { λ r. ⌜ r ≡ generalNode (rowAt (now (forest .entry)) i .rec .shape) i b ⌝ }
 {
@@ -77,7 +77,7 @@ pub fn general(
     count: usize,
     b: Branches,
 ) -> Step
-    requires { ⌜ Sound (now forest) ⌝ }
+    requires { ⌜ WellFormed (now forest) ⌝ }
     requires { ⌜ Rep (now forest) (now work) st ⌝ }
     requires { ⌜ Open t (st .entries) ⌝ }
     requires { ⌜ Concludes (now forest) (now work) st i cur cur held count ⌝ }
@@ -105,7 +105,7 @@ pub fn lambda(
     first: u32,
     body: usize,
 ) -> Step
-    requires { ⌜ Sound (now forest) ⌝ }
+    requires { ⌜ WellFormed (now forest) ⌝ }
     requires { ⌜ Rep (now forest) (now work) st ⌝ }
     requires { ⌜ Open t (st .entries) ⌝ }
     requires { ⌜ Concludes (now forest) (now work) st i cur body held 1 ⌝ }
@@ -129,7 +129,7 @@ pub fn lambda(
 
 // The field that record i selects.
 fn field_of(forest: &[u8], i: usize) -> u32
-    requires { ⌜ Sound (now forest) ⌝ }
+    requires { ⌜ WellFormed (now forest) ⌝ }
     requires { ⌜ (i < recordCount (now forest)) × (rowAt (now forest) i .rec .shape ≡ 17) ⌝ }
     ensures { λ r. ⌜ r ≡ fieldAt (now (forest .entry)) i ⌝ }
 {
@@ -150,7 +150,7 @@ fn of_pair(field: u32) -> bool
 // Whether symbol s is a Tuple.
 fn is_tuple(forest: &[u8], work: &[u32], s: usize) -> bool
     requires { ⌜ Laid (now forest) ⌝ }
-    requires { ⌜ Stored (now forest) (now work) s ⌝ }
+    requires { ⌜ HasSymbol (now forest) (now work) s ⌝ }
     ensures { λ r.
         ⌜ ((n : ℕ) → s < n →
         r ≡ eqb (symAt (symsOf (now (forest .entry)) (now (work .entry)) n) s .rec .shape) 16) ⌝ }
@@ -165,7 +165,7 @@ fn is_tuple(forest: &[u8], work: &[u32], s: usize) -> bool
 // Whether the input of the SelectField of record i, pending at `held`, is read a second time. Rules out: a Tuple read
 // once; any other input read twice.
 pub fn reads_again(forest: &[u8], work: &[u32], i: usize, held: usize) -> bool
-    requires { ⌜ Sound (now forest) ⌝ }
+    requires { ⌜ WellFormed (now forest) ⌝ }
     requires { ⌜ Input (now forest) (now work) i held ⌝ }
     ensures { λ r.
         ⌜ ((n : ℕ) → getD (now (work .entry)) (PENDING .first + held) 0 < n →
@@ -189,7 +189,7 @@ pub fn field(
     cur: usize,
     held: usize,
 ) -> Step
-    requires { ⌜ Sound (now forest) ⌝ }
+    requires { ⌜ WellFormed (now forest) ⌝ }
     requires { ⌜ Rep (now forest) (now work) st ⌝ }
     requires { ⌜ Open t (st .entries) ⌝ }
     requires { ⌜ Selects (now forest) (now work) st i cur held ⌝ }
@@ -221,7 +221,7 @@ pub fn last(work: &[u32], st: State, held: usize, count: usize) -> Step
 
 // The symbol of the id that record i uses, among `top` bindings. Rules out: an older binding's; the id itself.
 pub fn value_use(forest: &[u8], work: &[u32], st: State, i: usize, top: usize) -> Step
-    requires { ⌜ Sound (now forest) ⌝ }
+    requires { ⌜ WellFormed (now forest) ⌝ }
     requires { ⌜ Uses (now forest) (now work) i top ⌝ }
     ensures { λ r.
         ⌜ r ≡ given st (resolve (envOf (now (work .entry)) top) (idOf (rowAt (now (forest .entry)) i .rec))) ⌝ }

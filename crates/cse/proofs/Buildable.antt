@@ -26,7 +26,7 @@ use Rattle.laws.specs.Members.{Under}
 use Rattle.laws.proofs.Ranges.{range-length, in-range}
 use Rattle.theory.proofs.Acceptance.Records.{fits-at}
 use Rattle.theory.specs.Good.{isPlain, Plain, NodeOk}
-use Rattle.theory.proofs.Interning.Interned.{Ready, interned-ready}
+use Rattle.theory.proofs.Interning.Interned.{RootInterned, interned-ready}
 use Rattle.theory.specs.Sound.{NodeSound, SymSound, Any}
 use Rattle.theory.proofs.Bounds.Limits.{Leaves, forest-sound}
 use Rattle.record.specs.Record.{rowAt}
@@ -35,7 +35,7 @@ use Rattle.codec.proofs.Accepting.{accept-passed}
 use Rattle.key.specs.declared.Node.{Node}
 use Rattle.key.specs.declared.Node.the-variants.{Const, Unparsed, Arg, Lambda, Op}
 use Rattle.key.specs.Key.{partsOf, symbolAt}
-use Rattle.symbols.specs.Symbols.{symsOf, symOf, recOf, nodeOf, kidsAt}
+use Rattle.symbols.specs.Symbols.{symsOf, symOf, recOf, modelNode, kidsAt}
 use Rattle.symbols.proofs.Laws.{syms-length, sym-at, rec-at}
 use Rattle.scopes.specs.Scopes.{scopesOf}
 use Rattle.scopes.proofs.Laws.{scopes-length}
@@ -66,7 +66,7 @@ second-under m (suc (suc b)) x y h l = h y (inr (inl refl))
 
 module _ (bs : List ℕ) (fit : check4 bs ≡ none) (m s count : ℕ) (ks : List ℕ) where
   opens-node : (nd : Node) → partsOf nd .source < recordCount bs → Sourced bs nd count →
-      NodeSound Any s m (recOf bs nd) ks (nodeOf bs nd) → Opens bs m s nd
+      NodeSound Any s m (recOf bs nd) ks (modelNode bs nd) → Opens bs m s nd
   unfolding shapes
   opens-node (Const l) low from h = tt
   opens-node (Unparsed l) low from h = tt
@@ -98,7 +98,7 @@ module _ (bs : List ℕ) (fin : List Sym) (scs : List Scope) (s : ℕ) where
       clash (isPlain (kind (symAt fin s .rec .shape))) (h .kind-is)
       (ap (λ (x : Rec). isPlain (kind (x .shape))) e ∙ ap (λ (n : ℕ). isPlain (kind n)) seven)
 
-  no-use-node : (nd : Node) → symAt fin s .rec ≡ recOf bs nd → NodeOk fin scs s (nodeOf bs nd) → NoUse bs nd
+  no-use-node : (nd : Node) → symAt fin s .rec ≡ recOf bs nd → NodeOk fin scs s (modelNode bs nd) → NoUse bs nd
   no-use-node (Const l) e h = plain-no-use _ e (h .0)
   no-use-node (Unparsed l) e h = plain-no-use _ e (h .0)
   no-use-node (Arg l) e h = tt
@@ -139,7 +139,7 @@ module _ (bs ws : List ℕ) (st : State) (rep : Rep bs ws st) where
         (sym-at bs ws (st .symbols) s l) (sym-sound s l .node-sound) in
         opens-node bs (accept-passed bs (treesOf bs) accepted .shaped .sound .fit) (st .scopes) s (y .count)
         (kidsAt ws s) (y .node) (rep .arena .sound s l .from) (rep .sourced s l)
-        (subst (λ (m : ℕ). NodeSound Any s m (recOf bs (y .node)) (kidsAt ws s) (nodeOf bs (y .node)))
+        (subst (λ (m : ℕ). NodeSound Any s m (recOf bs (y .node)) (kidsAt ws s) (modelNode bs (y .node)))
         (scopes-length ws (st .scopes)) placed)
 
     no-use-at : (s : ℕ) → s < st .symbols → NoUse bs (symbolAt ws s .node)
@@ -147,7 +147,7 @@ module _ (bs ws : List ℕ) (st : State) (rep : Rep bs ws st) where
     no-use-at s l =
         let fin = symsOf bs ws (st .symbols) in
         let scs = scopesOf ws (st .scopes) in
-        let ready = holds-good (λ o. Ready (o .1) (o .0) _) is (interned-ready bs (treesOf bs) accepted) in
+        let ready = holds-good (λ o. RootInterned (o .1) (o .0) _) is (interned-ready bs (treesOf bs) accepted) in
         let ok = ready .inv .good s (omega (arith, syms-length bs ws (st .symbols))) in
         no-use-node bs fin scs s (symbolAt ws s .node) (rec-at bs ws (st .symbols) s l)
         (subst (λ (y : Sym). NodeOk fin scs s (y .node)) (sym-at bs ws (st .symbols) s l) (ok .node-is))

@@ -61,14 +61,14 @@ pub record PlanOf (bs ws : List ℕ) (t : Tree) (p : Plan) : Type 0 where
   pub deepest : p .rows ≤ 256 → p .deepest ≡ depth t
 
 -- its rows can be written
-pub record Ready (bs ws : List ℕ) (p : Plan) : Type 0 where
+pub record PlanWritable (bs ws : List ℕ) (p : Plan) : Type 0 where
   pub words : WORDS ≤ length ws
   pub writable : p .rows ≤ 256 → AllWritable bs (planFrom ws (PLAN .first) (p .rows))
 
 -- the tree that document 01 defines for o is planned, and can be written
 pub record Planned (bs ws ws′ : List ℕ) (o : ℕ × State) (p : Plan) : Type 0 where
   pub tree : PlanOf bs ws′ (treeOf o) p
-  pub ready : Ready bs ws′ p
+  pub ready : PlanWritable bs ws′ p
   pub kept : LentOnly ws ws′
 
 -- ---- what is left in the words

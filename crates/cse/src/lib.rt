@@ -20,7 +20,7 @@ ghost use Rattle.record.specs.Record.{Laid};
 ghost use Rattle.regions.specs.Regions.{WORDS};
 ghost use Rattle.tables.specs.Tables.{first};
 ghost use Rattle.interner.specs.State.{absOf, Rep};
-ghost use Rattle.cse.specs.Call.{five, numbersIn, Tells, cleared, LentOnly, PlanOf, Ready, Planned};
+ghost use Rattle.cse.specs.Call.{five, numbersIn, Tells, cleared, LentOnly, PlanOf, PlanWritable, Planned};
 ghost use Rattle.cse.specs.Call.{Held, Counts, Holds};
 
 // What the call gives: how many bytes were written, how many symbols and readings there were; or the number and the
@@ -53,7 +53,7 @@ fn write(
     readings: u32,
 ) -> Answer
     requires { ⌜ Laid (now forest) ⌝ }
-    requires { ⌜ Ready (now forest) (now work) p ⌝ }
+    requires { ⌜ PlanWritable (now forest) (now work) p ⌝ }
     ensures { λ r. ⌜ ((o : ℕ × intern.State) → PlanOf (now (forest .entry)) (now (work .entry)) (treeOf o) p
         → length (o .1 .syms) ≡ symbols → o .1 .readings ≡ readings
         → Tells (measured (length (now (out .entry))) o) (now (out .entry)) r (now (out .exit))) ⌝ }

@@ -21,7 +21,7 @@ use Rattle.key.specs.declared.Node.{Node}
 use Rattle.key.specs.declared.Node.the-variants.{Const, Unparsed, Arg, Lambda, Op}
 use Rattle.key.specs.Key.{partsOf, symbolAt}
 use Rattle.key.proofs.Laws.{symbol-agree}
-use Rattle.symbols.specs.Symbols.{nodeOf, symsOf, AllSound}
+use Rattle.symbols.specs.Symbols.{modelNode, symsOf, AllSound}
 use Rattle.symbols.specs.Symbols as symbols
 use Rattle.symbols.proofs.Words.{words-under}
 use Rattle.symbols.proofs.Laws.{syms-length, sym-at, kids-at, sounds-agree}
@@ -34,7 +34,7 @@ use Rattle.graph.specs.Graph.{Within, Scoped, Arena, graphOf, Related, T
 -- ---- a symbol's parts
 
 module _ (bs ws : List ℕ) (n m : ℕ) (slots : List ℕ) (s : ℕ) (lt : s < n) where
-  pub node-of : symOf (graphOf bs ws n m slots) s .node ≡ nodeOf bs (symbolAt ws s .node)
+  pub node-of : symOf (graphOf bs ws n m slots) s .node ≡ modelNode bs (symbolAt ws s .node)
   unfolding symbols.symOf
   node-of = ap (λ (z : Sym). z .node) (sym-at bs ws n s lt)
 
@@ -106,7 +106,7 @@ module _ {ws ws′ : List ℕ} {used n m : ℕ} (still : Still ws ws′ used n m
 
 -- ---- the tests
 
-arg-tag : (bs : List ℕ) (x : Node) → eqb (partsOf x .tag) 2 ≡ isArg (nodeOf bs x)
+arg-tag : (bs : List ℕ) (x : Node) → eqb (partsOf x .tag) 2 ≡ isArg (modelNode bs x)
 arg-tag bs (Const l) = refl
 arg-tag bs (Unparsed l) = refl
 arg-tag bs (Arg l) = refl
@@ -125,7 +125,7 @@ module _ (ws : List ℕ) (n m s : ℕ) (y : Symbol) (loaded : y ≡ symbolAt ws 
   pub arg-is : (p : Parts) → p ≡ partsOf (y .node) → Tests ws n m (λ h. isArg (symOf h s .node)) (eqb (p .tag) 2)
   arg-is p e bs slots =
       ap (λ (q : Parts). eqb (q .tag) 2) e
-      ∙ (arg-tag bs (y .node) ∙ ap isArg (ap (λ (z : Symbol). nodeOf bs (z .node)) loaded
+      ∙ (arg-tag bs (y .node) ∙ ap isArg (ap (λ (z : Symbol). modelNode bs (z .node)) loaded
       ∙ sym (node-of bs ws n m slots s lt)))
 
   module _ (scoped : Scoped ws n m) where

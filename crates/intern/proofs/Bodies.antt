@@ -19,7 +19,7 @@ use Rattle.laws.specs.Frame.{Frame}
 use Rattle.laws.proofs.ArgLists.{args-length}
 use Rattle.record.specs.Record.{rowAt}
 use Rattle.shape.proofs.Fitting.{fits-func}
-use Rattle.walk.specs.Walk.{treesFrom, recAt, kidsAt, treeAt, Sound}
+use Rattle.walk.specs.Walk.{treesFrom, recAt, kidTreesAt, treeAt, WellFormed}
 use Rattle.walk.proofs.Bridge.{row-fits, records-few, kids-there}
 use Rattle.scopes.specs.Scopes.{scopeWord, levelOf, lambdaWord, withLambda}
 use Rattle.bindings.specs.Bindings.{envOf}
@@ -59,9 +59,9 @@ some-depth (suc m) nil a b = absurd (omega arith)
 some-depth (suc m) (cons (node r us) ts) a b = omega arith
 
 -- a record with a child
-parent-depth : (bs : List ℕ) (i : ℕ) → Sound bs → i < recordCount bs → 1 ≤ rowAt bs i .kids →
+parent-depth : (bs : List ℕ) (i : ℕ) → WellFormed bs → i < recordCount bs → 1 ≤ rowAt bs i .kids →
     2 ≤ depth (treeAt bs i)
-unfolding depth kidsAt
+unfolding depth kidTreesAt
 parent-depth bs i h l e =
     let there = kids-there bs i (h .closed) l in
     omega (arith, some-depth (rowAt bs i .kids) (treesFrom bs (i + 1)) e (omega (arith, there)))
@@ -85,7 +85,7 @@ module _ (bs ws : List ℕ) (t : Tables) (count : ℕ) (r : Step) where
 
 -- ---- before
 
-module _ (bs ws : List ℕ) (t : Tables) (st : State) (i : ℕ) (at : Here) (sound : Sound bs) (lt : i < recordCount bs)
+module _ (bs ws : List ℕ) (t : Tables) (st : State) (i : ℕ) (at : Here) (sound : WellFormed bs) (lt : i < recordCount bs)
     (twelve : recAt bs i .shape ≡ 12) (stands : Stands bs ws t st i (depth (treeAt bs i)) at)
     (counted : Counted (treeAt bs i) (at .scope) (envOf ws (at .top)) (absOf bs ws t st)) where
   abbrev aux : ℕ

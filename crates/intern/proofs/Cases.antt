@@ -24,7 +24,7 @@ use Rattle.laws.proofs.Apart.{false-true}
 use Rattle.laws.proofs.Members.{clash}
 use Rattle.record.specs.Record.{rowAt}
 use Rattle.shape.proofs.Fitting.{fitting}
-use Rattle.walk.specs.Walk.{treesFrom, recAt, kidsAt, restAt, treeAt, Sound}
+use Rattle.walk.specs.Walk.{treesFrom, recAt, kidTreesAt, restAt, treeAt, WellFormed}
 use Rattle.walk.proofs.Bridge.{row-fits, records-few}
 use Rattle.bindings.specs.Bindings.{envOf}
 use Rattle.tables.specs.declared.Tables.{Tables}
@@ -177,7 +177,7 @@ block-plain r h j e = go (isBlock r) refl
 
 -- ---- a record of any kind
 
-module _ (bs ws : List ℕ) (t : Tables) (st : State) (i : ℕ) (at : Here) (sound : Sound bs) (lt : i < recordCount bs)
+module _ (bs ws : List ℕ) (t : Tables) (st : State) (i : ℕ) (at : Here) (sound : WellFormed bs) (lt : i < recordCount bs)
     (stands : Stands bs ws t st i (depth (treeAt bs i)) at)
     (legible : Legible (treeAt bs i) (at .scope) (envOf ws (at .top)) (absOf bs ws t st)) where
   abbrev env₀ : Env
@@ -220,7 +220,7 @@ module _ (bs ws : List ℕ) (t : Tables) (st : State) (i : ℕ) (at : Here) (sou
 
       pub counted-kids : (recAt bs i .shape ≡ 12 → ⊥) → WellKids bs ws t counted i at
       counted-kids n =
-          subst (λ (z : intern.State). WellAll (kidsAt bs i) (isBlock (recAt bs i)) (recAt bs i .opcode) 0 (at .scope)
+          subst (λ (z : intern.State). WellAll (kidTreesAt bs i) (isBlock (recAt bs i)) (recAt bs i .opcode) 0 (at .scope)
           env₀ z 1) (sym counted-abs)
           (kids-well (legible .well) (no-args (recAt bs i) (λ e. n (kind-shape _ lambda e .shape))) left)
 
@@ -311,7 +311,7 @@ module _ (bs ws : List ℕ) (t : Tables) (st : State) (i : ℕ) (at : Here) (sou
           let m = rw e at (f .many) in omega (arith, m)
 
       use-past : recAt bs i .shape ≡ 7 → Past bs i (size (treeAt bs i)) (restAt bs i) (i + 1)
-      unfolding size kidsAt restAt takeT dropT
+      unfolding size kidTreesAt restAt takeT dropT
       use-past e =
           let z : takeT (rowAt bs i .kids) (treesFrom bs (i + 1)) ≡ nil = rw (use-kids e) in
           (omega (arith, ap sizes z), rw (use-kids e))

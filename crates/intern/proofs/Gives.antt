@@ -14,7 +14,7 @@ use Rattle.model.specs.Binding.{field, isBlock}
 use Rattle.model.specs.Intern.{Out, Env, internGeneral, internField, internKind}
 use Rattle.record.specs.Record.{rowAt}
 use Rattle.shape.proofs.Fitting.{fits-field}
-use Rattle.walk.specs.Walk.{recAt, treeAt, Sound}
+use Rattle.walk.specs.Walk.{recAt, treeAt, WellFormed}
 use Rattle.walk.proofs.Bridge.{row-fits, records-few}
 use Rattle.symbols.specs.Words.{pendingFrom}
 use Rattle.bindings.specs.Bindings.{envOf}
@@ -31,7 +31,7 @@ use Rattle.intern.specs.declared.Read.{Read}
 use Rattle.intern.specs.declared.Kids.{Kids}
 use Rattle.intern.specs.Steps.{refusedRead, unread, repeats, repeated}
 use Rattle.intern.specs.Intern.{Stands, Reads, kidsRead, concluded, WellKids, Plain, Operands, ReadsAll}
-use Rattle.intern.specs.Intern.{kidsAnswer, kidsOf, Concluding, Concluded, Ready, completes, Completed}
+use Rattle.intern.specs.Intern.{kidsAnswer, kidsOf, Concluding, Concluded, Completable, completes, Completed}
 use Rattle.intern.specs.Intern.{Incomplete}
 use Rattle.intern.proofs.Kept.{kept-none, kept-then}
 use Rattle.intern.proofs.Records.{reads-refused, reads-answers, concluded-other, concluded-refused, Below, Gave}
@@ -43,7 +43,7 @@ use Rattle.intern.proofs.Cases.{field-refused, field-good}
 
 -- ---- a record completed
 
-module _ (bs ws : List ℕ) (t : Tables) (i : ℕ) (at : Here) (k : Kids) (ready : Ready bs ws t i at k) where
+module _ (bs ws : List ℕ) (t : Tables) (i : ℕ) (at : Here) (k : Kids) (ready : Completable bs ws t i at k) where
   pub complete-refused : (z : Read) → z ≡ refusedRead (k .st) (k .number) (k .place) i → (k .number ≡ 0 → ⊥) →
       Completed bs ws t i at k ws z
   complete-refused z e h =
@@ -82,7 +82,7 @@ incomplete-reads bs ws t st i at o ws₁ k u ws₂ z w = record {
 
 -- ---- a record's children read
 
-module _ (bs ws : List ℕ) (t : Tables) (st : State) (i : ℕ) (at : Here) (sound : Sound bs) (lt : i < recordCount bs)
+module _ (bs ws : List ℕ) (t : Tables) (st : State) (i : ℕ) (at : Here) (sound : WellFormed bs) (lt : i < recordCount bs)
     (stands : Stands bs ws t st i (depth (treeAt bs i)) at) (well : WellKids bs ws t st i at) where
   below : Below bs ws t st i at
   below = stands-below bs ws t st i at stands
@@ -132,7 +132,7 @@ module _ (bs ws : List ℕ) (t : Tables) (st : State) (i : ℕ) (at : Here) (sou
 
 -- ---- a SelectField
 
-module _ (bs ws : List ℕ) (t : Tables) (st : State) (i : ℕ) (at : Here) (sound : Sound bs) (lt : i < recordCount bs)
+module _ (bs ws : List ℕ) (t : Tables) (st : State) (i : ℕ) (at : Here) (sound : WellFormed bs) (lt : i < recordCount bs)
     (stands : Stands bs ws t st i (depth (treeAt bs i)) at) (well : WellKids bs ws t st i at) where
   abbrev r : Rec
   r = recAt bs i
@@ -227,7 +227,7 @@ module _ (bs ws : List ℕ) (t : Tables) (st : State) (i : ℕ) (at : Here) (sou
                 forced = rw (← field-one) (c .forced);
               }
 
-          recount-ready : Ready bs ws₁ t i at (repeated st k)
+          recount-ready : Completable bs ws₁ t i at (repeated st k)
           recount-ready = record {
             rep = recount-rep;
             opened = v .opened;

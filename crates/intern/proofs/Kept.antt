@@ -108,7 +108,7 @@ beside-words n held {top} {r} {ws} {ws′} few pend room h = record {
 
 -- ---- a child's symbol stored at word p, and its definition bound
 
-pub record Stored (bs ws : List ℕ) (t : Tables) (st : State) (i held top symbol : ℕ) (ws′ : List ℕ) (top′ : ℕ) : Type 0
+pub record ChildStored (bs ws : List ℕ) (t : Tables) (st : State) (i held top symbol : ℕ) (ws′ : List ℕ) (top′ : ℕ) : Type 0
   where
     pub rep : Rep bs ws′ st
     pub abs : absOf bs ws′ t st ≡ absOf bs ws t st
@@ -163,7 +163,7 @@ module _ (bs ws : List ℕ) (t : Tables) (st : State) (i held top symbol : ℕ) 
       arith)) in
       words-more ws′ (PENDING .first + from) j ∙ rw (at, old, stored-at)
 
-  pub stored : Stored bs ws t st i held top symbol ws′ top′
+  pub stored : ChildStored bs ws t st i held top symbol ws′ top′
   stored = record {
     rep = later-rep bs ws ws′ st rep (PENDING .first) (end BINDINGS) (omega arith) both;
     abs = later-abs bs ws ws′ st rep (PENDING .first) (end BINDINGS) (omega arith) both t open′;

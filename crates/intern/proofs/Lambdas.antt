@@ -16,7 +16,7 @@ use Rattle.model.specs.Intern as intern
 use Rattle.laws.specs.Range.{range}
 use Rattle.record.specs.Record.{rowAt}
 use Rattle.shape.proofs.Fitting.{fits-func}
-use Rattle.walk.specs.Walk.{recAt, kidsAt, treeAt, Sound}
+use Rattle.walk.specs.Walk.{recAt, kidTreesAt, treeAt, WellFormed}
 use Rattle.walk.proofs.Bridge.{row-fits}
 use Rattle.symbols.specs.Words.{pendingFrom}
 use Rattle.scopes.specs.Scopes.{scopeWord, parentOf, argsIn}
@@ -42,7 +42,7 @@ use Rattle.intern.proofs.Bodies.{lambda-kind}
 use Rattle.intern.proofs.Records.{reads-refused, reads-answers, Below, Gave, kids-operands, kids-fail, kids-gave}
 use Rattle.intern.proofs.Cases.{func-refused, func-kids-refused, func-good}
 
-module _ (bs ws : List ℕ) (t : Tables) (st : State) (i : ℕ) (at : Here) (sound : Sound bs) (lt : i < recordCount bs)
+module _ (bs ws : List ℕ) (t : Tables) (st : State) (i : ℕ) (at : Here) (sound : WellFormed bs) (lt : i < recordCount bs)
     (twelve : recAt bs i .shape ≡ 12) (stands : Stands bs ws t st i (depth (treeAt bs i)) at)
     (counted : Counted (treeAt bs i) (at .scope) (envOf ws (at .top)) (absOf bs ws t st)) (ws₁ : List ℕ) (e : Entered)
     (enters : Enters bs ws t st i at ws₁ e) where
@@ -91,13 +91,13 @@ module _ (bs ws : List ℕ) (t : Tables) (st : State) (i : ℕ) (at : Here) (sou
       tables = omega (arith, stands .tables);
     }
 
-    well : WellAll (kidsAt bs i) false (r .opcode) 0 (e .at .scope) (envOf ws₁ (e .at .top)) (absOf bs ws₁ t (e .st)) 1
+    well : WellAll (kidTreesAt bs i) false (r .opcode) 0 (e .at .scope) (envOf ws₁ (e .at .top)) (absOf bs ws₁ t (e .st)) 1
     well =
-        subst (λ (z : ℕ). WellAll (kidsAt bs i) false (r .opcode) 0 z (envOf ws₁ (e .at .top))
+        subst (λ (z : ℕ). WellAll (kidTreesAt bs i) false (r .opcode) 0 z (envOf ws₁ (e .at .top))
         (absOf bs ws₁ t (e .st)) 1) (sym (body .scope))
-        (subst (λ (z : Env). WellAll (kidsAt bs i) false (r .opcode) 0 (length (body .made .scopes)) z
+        (subst (λ (z : Env). WellAll (kidTreesAt bs i) false (r .opcode) 0 (length (body .made .scopes)) z
         (absOf bs ws₁ t (e .st)) 1) (sym (body .env))
-        (subst (λ (z : intern.State). WellAll (kidsAt bs i) false (r .opcode) 0 (length (body .made .scopes)) inner z 1)
+        (subst (λ (z : intern.State). WellAll (kidTreesAt bs i) false (r .opcode) 0 (length (body .made .scopes)) inner z 1)
         (sym (body .abs))
         (lambda-well (counted .legible .well) (lambda-kind _ twelve) (counted .few) i (own, [], body .made)
         (ap (argsMade bs i (at .scope)) (sym (counted .is)) ∙ body .is) .1)))

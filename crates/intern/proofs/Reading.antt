@@ -41,7 +41,7 @@ use Rattle.intern.specs.Words.{Kept}
 use Rattle.intern.specs.Intern.{Stands, StandsAt, Reads, LegibleAt, Legible, InThunk, trees, Operands}
 use Rattle.intern.specs.Intern.{kidsAnswer, ReadsAll}
 use Rattle.intern.proofs.Remains.{well-moved, Remains, Reading}
-use Rattle.intern.proofs.Kept.{kept-none, kept-then, Stored, stored}
+use Rattle.intern.proofs.Kept.{kept-none, kept-then, ChildStored, stored}
 use Rattle.intern.proofs.After.{kids-good, kids-refused, after, after-none, after-end}
 use Rattle.intern.proofs.After.{after-turn, after-refused, after-same, Thunks}
 use Rattle.intern.proofs.After.{noted-list, noted-branched, noted-thunks}
@@ -232,7 +232,7 @@ module _ (bs : List ℕ) (t : Tables) (i count op : ℕ) (at : Here) (ws₀ : Li
                   (absOf bs ws t (k .st)) ≡ good (s, absOf bs ws₁ t st₁)
               gives = scoped-is ∙ out-good bs ws₁ t (r .step) ok
 
-              after₁ : Stored bs ws₁ t st₁ (k .next) (at .held + j) top s ws₂ top′
+              after₁ : ChildStored bs ws₁ t st₁ (k .next) (at .held + j) top s ws₂ top′
               after₁ =
                   stored bs ws₁ t st₁ (k .next) (at .held + j) top s ws₂ top′ (v .rep) (v .opened) (next-room .0)
                   (next-room .1) d

@@ -22,7 +22,7 @@ use Rattle.model.specs.Intern as intern
 use Rattle.laws.specs.Members.{In}
 use Rattle.record.specs.Record.{rowAt}
 use Rattle.shape.proofs.Fitting.{fits-def, fits-block}
-use Rattle.walk.specs.Walk.{recAt, kidsAt, restAt, treeAt, Sound}
+use Rattle.walk.specs.Walk.{recAt, kidTreesAt, restAt, treeAt, WellFormed}
 use Rattle.walk.proofs.Bridge.{row-fits, kids-there}
 use Rattle.symbols.specs.Words.{wordsFrom, pendingFrom}
 use Rattle.symbols.proofs.Words.{words-length}
@@ -102,7 +102,7 @@ concluded-refused at cur r n p = go (eqb (r .shape) 10) (eqb (r .shape) 11)
     go false true = refl
     go false false = refl
 
-module _ (bs : List ℕ) (i : ℕ) (sound : Sound bs) (lt : i < recordCount bs) where
+module _ (bs : List ℕ) (i : ℕ) (sound : WellFormed bs) (lt : i < recordCount bs) where
   pub def-last : recAt bs i .shape ≡ 10 → 1 ≤ rowAt bs i .kids
   def-last e = omega (arith, fits-def (rowAt bs i) (row-fits bs i (sound .fit) lt) e .0)
 
@@ -130,11 +130,11 @@ module _ (bs ws : List ℕ) (t : Tables) (i : ℕ) (at : Here) (k : Kids) where
         (given-answers bs ws t (k .st) (last (pendingFrom ws (at .held) (rowAt bs i .kids))) r rep
         (last-low ws (at .held) (rowAt bs i .kids) (k .st .symbols) some (h .lower)) (is ∙ rw en))
 
-    pub last-answers-10 : Sound bs → recAt bs i .shape ≡ 10 → Gives ws r
+    pub last-answers-10 : WellFormed bs → recAt bs i .shape ≡ 10 → Gives ws r
     last-answers-10 sound e =
         last-gives (def-last bs i sound (h .from) e) (concluded-10 i (at .scope) (recAt bs i) read e)
 
-    pub last-answers-11 : Sound bs → recAt bs i .shape ≡ 11 → Gives ws r
+    pub last-answers-11 : WellFormed bs → recAt bs i .shape ≡ 11 → Gives ws r
     last-answers-11 sound e =
         last-gives (block-last bs i sound (h .from) e) (concluded-11 i (at .scope) (recAt bs i) read e)
 
@@ -164,9 +164,9 @@ pub record Below (bs ws : List ℕ) (t : Tables) (st : State) (i : ℕ) (at : He
   pub opened : Open t (st .entries)
   pub scope : at .scope < st .scopes
   pub held : at .held ≤ i
-  pub top : at .top ≤ 14 * (64 - depths (kidsAt bs i)) + (i + 1)
-  pub level : levelOf (scopeWord ws (at .scope)) + depths (kidsAt bs i) ≤ 64
-  pub tables : t .depth + depths (kidsAt bs i) < 65
+  pub top : at .top ≤ 14 * (64 - depths (kidTreesAt bs i)) + (i + 1)
+  pub level : levelOf (scopeWord ws (at .scope)) + depths (kidTreesAt bs i) ≤ 64
+  pub tables : t .depth + depths (kidTreesAt bs i) < 65
 
 pub stands-below : (bs ws : List ℕ) (t : Tables) (st : State) (i : ℕ) (at : Here) →
     Stands bs ws t st i (depth (treeAt bs i)) at → Below bs ws t st i at
@@ -207,12 +207,12 @@ pub record Gave (bs ws : List ℕ) (t : Tables) (st : State) (i : ℕ) (at : Her
     pub past : Past bs i (size (treeAt bs i)) (restAt bs i) (k .next)
     pub slots : k .st .slots + (1 + n) ≤ SLOTS .size
     pub conclude : (cur : ℕ) → cur < st .scopes → Concludes bs ws₁ (k .st) i cur (at .scope) (at .held) n
-    pub again : WellAll (kidsAt bs i) b (recAt bs i .opcode) 0 (at .scope) (envOf ws₁ (at .top))
+    pub again : WellAll (kidTreesAt bs i) b (recAt bs i .opcode) 0 (at .scope) (envOf ws₁ (at .top))
         (absOf bs ws₁ t (k .st)) 1
 
-module _ (bs : List ℕ) (i : ℕ) (sound : Sound bs) (lt : i < recordCount bs) (ws : List ℕ) (t : Tables) (st : State)
+module _ (bs : List ℕ) (i : ℕ) (sound : WellFormed bs) (lt : i < recordCount bs) (ws : List ℕ) (t : Tables) (st : State)
     (at : Here) (b : Bool) (below : Below bs ws t st i at)
-    (well : WellAll (kidsAt bs i) b (recAt bs i .opcode) 0 (at .scope) (envOf ws (at .top)) (absOf bs ws t st) 1)
+    (well : WellAll (kidTreesAt bs i) b (recAt bs i .opcode) 0 (at .scope) (envOf ws (at .top)) (absOf bs ws t st) 1)
     (n op : ℕ) (en : n ≡ rowAt bs i .kids) (eo : op ≡ recAt bs i .opcode) where
   abbrev env : Env
   env = envOf ws (at .top)
@@ -220,14 +220,14 @@ module _ (bs : List ℕ) (i : ℕ) (sound : Sound bs) (lt : i < recordCount bs) 
   abbrev A : intern.State
   A = absOf bs ws t st
 
-  trees-are : trees bs (i + 1) n ≡ kidsAt bs i
-  unfolding kidsAt
+  trees-are : trees bs (i + 1) n ≡ kidTreesAt bs i
+  unfolding kidTreesAt
   trees-are = rw en
 
   -- that they may be read
   pub kids-operands : Plain (recAt bs i .opcode) b → Operands bs ws t st (i + 1) n op at
   kids-operands plain =
-      let d : depths (trees bs (i + 1) n) ≡ depths (kidsAt bs i) = ap depths trees-are in
+      let d : depths (trees bs (i + 1) n) ≡ depths (kidTreesAt bs i) = ap depths trees-are in
       record {
         there = omega (arith, en, kids-there bs i (sound .closed) lt);
         within = omega arith;
@@ -265,11 +265,11 @@ module _ (bs : List ℕ) (i : ℕ) (sound : Sound bs) (lt : i < recordCount bs) 
           let p = v .past ok in
           (omega (arith, p .0, ap sizes trees-are), p .1 ∙ rw en)
 
-      kids-all : AllRead (kidsAt bs i) (at .scope) A 1
+      kids-all : AllRead (kidTreesAt bs i) (at .scope) A 1
           (pendingFrom ws₁ (at .held) n, branchesOf (k .branches), absOf bs ws₁ t (k .st))
       kids-all = all-results well (suc i) _ kids-give
 
-      kids-count : many (kidsAt bs i) ≡ n
+      kids-count : many (kidTreesAt bs i) ≡ n
       kids-count = sym (kids-all .count) ∙ words-length ws₁ (PENDING .first + at .held) n
 
       kids-slots : k .st .slots + (1 + n) ≤ SLOTS .size
@@ -292,10 +292,10 @@ module _ (bs : List ℕ) (i : ℕ) (sound : Sound bs) (lt : i < recordCount bs) 
       }
 
       -- they may be read again
-      kids-again : WellAll (kidsAt bs i) b (recAt bs i .opcode) 0 (at .scope) (envOf ws₁ (at .top))
+      kids-again : WellAll (kidTreesAt bs i) b (recAt bs i .opcode) 0 (at .scope) (envOf ws₁ (at .top))
           (absOf bs ws₁ t (k .st)) 1
       kids-again =
-          subst (λ (z : Env). WellAll (kidsAt bs i) b (recAt bs i .opcode) 0 (at .scope) z (absOf bs ws₁ t (k .st)) 1)
+          subst (λ (z : Env). WellAll (kidTreesAt bs i) b (recAt bs i .opcode) 0 (at .scope) z (absOf bs ws₁ t (k .st)) 1)
           (sym (env-words ws₁ ws (at .top) (v .kept .words .bound)))
           (again-well well (suc i) _ kids-give)
 

@@ -10,7 +10,7 @@ use borrow.Author.Tests.{eqb-true, leb-true}
 use lib.Dec.{eqb, leb}
 use lib.ListN.{length}
 use Rattle.laws.proofs.Members.{and-both}
-use Rattle.walk.specs.Walk.{recAt, kidsAt}
+use Rattle.walk.specs.Walk.{recAt, kidTreesAt}
 use Rattle.bindings.specs.Bindings.{envOf}
 use Rattle.tables.specs.declared.Tables.{Tables}
 use Rattle.interner.specs.declared.State.{State}
@@ -40,7 +40,7 @@ module _ (before after : State) (e : repeats before after ≡ true) where
 -- ---- children read again
 
 module _ (bs ws : List ℕ) (t : Tables) (st : State) (i : ℕ) (at : Here) (b : Bool) (n : ℕ) (ws₁ : List ℕ) (k : Kids)
-    (well : WellAll (kidsAt bs i) b (recAt bs i .opcode) 0 (at .scope) (envOf ws (at .top)) (absOf bs ws t st) 1)
+    (well : WellAll (kidTreesAt bs i) b (recAt bs i .opcode) 0 (at .scope) (envOf ws (at .top)) (absOf bs ws t st) 1)
     (gave : Gave bs ws t st i at b n ws₁ k) (e : repeats st (k .st) ≡ true) where
   no-scope : length (absOf bs ws₁ t (k .st) .scopes) ≡ length (absOf bs ws t st .scopes)
   no-scope = scopes-count bs ws₁ t (k .st) ∙ repeats-scopes st (k .st) e ∙ sym (scopes-count bs ws t st)

@@ -24,7 +24,7 @@ use Rattle.laws.specs.Clear.{Clear}
 use Rattle.laws.proofs.Clear.{clear-left, clear-right, first-clear}
 use Rattle.laws.proofs.Header.{header-of}
 use Rattle.laws.specs.Stack.{stackOf}
-use Rattle.walk.specs.Walk.{Sound}
+use Rattle.walk.specs.Walk.{WellFormed}
 use Rattle.walk.proofs.Bridge.{tree-count}
 use Rattle.walk.proofs.Walking.{trees-there, trees-whole}
 use Rattle.codec.proofs.Accepting.{Passed, accept-passed}
@@ -75,7 +75,7 @@ module _ (bs ws : List ℕ) (accepted : accept bs ≡ good (treesOf bs)) where
   passed : Passed bs (treesOf bs)
   passed = accept-passed bs (treesOf bs) accepted
 
-  pub forest-sound : Sound bs
+  pub forest-sound : WellFormed bs
   forest-sound = passed .shaped .sound
 
   pub forest-header : 4 ≤ length bs

@@ -21,7 +21,7 @@ use Rattle.model.specs.Call.{interned}
 use Rattle.laws.specs.Range.{range}
 use Rattle.laws.specs.Frame.{Frame}
 use Rattle.record.specs.Record.{rowAt}
-use Rattle.walk.specs.Walk.{treesFrom, recAt, kidsAt, restAt, treeAt}
+use Rattle.walk.specs.Walk.{treesFrom, recAt, kidTreesAt, restAt, treeAt}
 use Rattle.symbols.specs.Words.{pendingFrom}
 use Rattle.scopes.specs.Scopes.{scopeWord, levelOf}
 use Rattle.bindings.specs.Bindings.{envOf}
@@ -96,7 +96,7 @@ CountedAt bs ws t st i at = Counted (treeAt bs i) (at .scope) (envOf ws (at .top
 
 -- the definition's reading of record i's children
 abbrev pub kidsRead : List ℕ → ℕ → intern.Kids
-kidsRead bs i = λ c e s. internAll (kidsAt bs i) (recAt bs i .opcode) 0 (suc i) c e s
+kidsRead bs i = λ c e s. internAll (kidTreesAt bs i) (recAt bs i .opcode) 0 (suc i) c e s
 
 -- the definition's answer for record i once its children are read: a definition and a block give the last symbol
 unfoldable pub concluded : ℕ → ℕ → Rec → Outs → Out
@@ -109,7 +109,7 @@ concluded at cur r m =
 -- the children of record i may be read
 abbrev pub WellKids : List ℕ → List ℕ → Tables → State → ℕ → Here → Type 0
 WellKids bs ws t st i at =
-    WellAll (kidsAt bs i) (isBlock (recAt bs i)) (recAt bs i .opcode) 0 (at .scope) (envOf ws (at .top))
+    WellAll (kidTreesAt bs i) (isBlock (recAt bs i)) (recAt bs i .opcode) 0 (at .scope) (envOf ws (at .top))
     (absOf bs ws t st) 1
 
 -- record i is read, whatever it is; as a lambda
@@ -143,7 +143,7 @@ Concluded bs ws t i at k ws′ r =
     (concluded i (at .scope) (recAt bs i) (kidsAnswer bs ws t (at .held) (rowAt bs i .kids) k)) ws′ r
 
 -- record i's children are read, or refused, and it can be completed
-pub record Ready (bs ws : List ℕ) (t : Tables) (i : ℕ) (at : Here) (k : Kids) : Type 0 where
+pub record Completable (bs ws : List ℕ) (t : Tables) (i : ℕ) (at : Here) (k : Kids) : Type 0 where
   pub rep : Rep bs ws (k .st)
   pub opened : Open t (k .st .entries)
   pub branched : Branched (k .branches)
@@ -161,7 +161,7 @@ Completed bs ws t i at k ws′ r = Reads bs ws t (k .st) i at (completes bs ws t
 pub record Incomplete (bs ws : List ℕ) (t : Tables) (st : State) (i : ℕ) (at : Here) (o : Out) (ws′ : List ℕ) (k : Kids)
     : Type 0
   where
-    pub ready : Ready bs ws′ t i at k
+    pub ready : Completable bs ws′ t i at k
     pub is : completes bs ws′ t i at k ≡ o
     pub kept : Kept at ws ws′ st (k .st)
 

@@ -22,13 +22,13 @@ ghost use Rattle.model.specs.Answer.{good};
 ghost use Rattle.model.specs.Forest.{recordCount, treesOf};
 ghost use Rattle.model.specs.Accept.{accept};
 ghost use Rattle.model.specs.Opcodes.{SelectField, SelectFieldOp};
-ghost use Rattle.walk.specs.Walk.{recAt, Sound};
+ghost use Rattle.walk.specs.Walk.{recAt, WellFormed};
 ghost use Rattle.tables.specs.Tables.{Open};
 ghost use Rattle.interner.specs.State.{Rep};
 ghost use Rattle.concluding.specs.Concluding.{Branched};
 ghost use Rattle.intern.specs.Intern.{StandsAt, LegibleAt, CountedAt, WellKids, InThunk, Operands, Concluding};
 ghost use Rattle.intern.specs.Intern.{RecordRead, LambdaRead, SelectedRead, ThunkRead, ReadsAll};
-ghost use Rattle.intern.specs.Intern.{Enters, Concluded, Ready, Completed, Interned};
+ghost use Rattle.intern.specs.Intern.{Enters, Concluded, Completable, Completed, Interned};
 
 // Where a record is read: its scope, how many symbols are pending, how many ids are bound.
 pub struct Here {
@@ -80,7 +80,7 @@ fn enter_lambda(
     at: Here,
     st: State,
 ) -> Entered
-    requires { ⌜ Sound (now forest) ⌝ }
+    requires { ⌜ WellFormed (now forest) ⌝ }
     requires { ⌜ (i < recordCount (now forest)) × (recAt (now forest) i .shape ≡ 12) ⌝ }
     requires { ⌜ StandsAt (now forest) (now work) t st i at ⌝ }
     requires { ⌜ CountedAt (now forest) (now work) t st i at ⌝ }
@@ -122,7 +122,7 @@ fn enter_lambda(
 
 // The symbol of record i, whose children are read: of a definition and a block that of the last.
 fn conclude(forest: &[u8], work: &mut [u32], t: Tables, i: usize, at: Here, k: Kids) -> Step
-    requires { ⌜ Sound (now forest) ⌝ }
+    requires { ⌜ WellFormed (now forest) ⌝ }
     requires { ⌜ Rep (now forest) (now work) (k .st) ⌝ }
     requires { ⌜ Open t (k .st .entries) ⌝ }
     requires { ⌜ Concluding (now forest) (now work) i at k ⌝ }
@@ -146,8 +146,8 @@ fn conclude(forest: &[u8], work: &mut [u32], t: Tables, i: usize, at: Here, k: K
 
 // Record i, whose children are read or refused. Rules out: a symbol though a child is refused; i + 1 as the next.
 fn complete(forest: &[u8], work: &mut [u32], t: Tables, i: usize, at: Here, k: Kids) -> Read
-    requires { ⌜ Sound (now forest) ⌝ }
-    requires { ⌜ Ready (now forest) (now work) t i at k ⌝ }
+    requires { ⌜ WellFormed (now forest) ⌝ }
+    requires { ⌜ Completable (now forest) (now work) t i at k ⌝ }
     ensures { λ r. ⌜ Completed (now (forest .entry)) (now (work .entry)) t i at k (now (work .exit)) r ⌝ }
 {
     if k.number != 0 {
@@ -162,7 +162,7 @@ fn complete(forest: &[u8], work: &mut [u32], t: Tables, i: usize, at: Here, k: K
 
 // Record i's subtree. Rules out: a reading that is not counted; the record after i's first child.
 fn subtree(forest: &[u8], work: &mut [u32], t: Tables, i: usize, at: Here, st: State) -> Read
-    requires { ⌜ Sound (now forest) ⌝ }
+    requires { ⌜ WellFormed (now forest) ⌝ }
     requires { ⌜ i < recordCount (now forest) ⌝ }
     requires { ⌜ StandsAt (now forest) (now work) t st i at ⌝ }
     requires { ⌜ LegibleAt (now forest) (now work) t st i at ⌝ }
@@ -198,7 +198,7 @@ fn subtree(forest: &[u8], work: &mut [u32], t: Tables, i: usize, at: Here, st: S
 
 // A lambda. Rules out: arguments in force past its body; a body that is read in the lambda's own scope.
 fn lambda(forest: &[u8], work: &mut [u32], t: Tables, i: usize, at: Here, st: State) -> Read
-    requires { ⌜ Sound (now forest) ⌝ }
+    requires { ⌜ WellFormed (now forest) ⌝ }
     requires { ⌜ (i < recordCount (now forest)) × (recAt (now forest) i .shape ≡ 12) ⌝ }
     requires { ⌜ StandsAt (now forest) (now work) t st i at ⌝ }
     requires { ⌜ CountedAt (now forest) (now work) t st i at ⌝ }
@@ -233,7 +233,7 @@ fn lambda(forest: &[u8], work: &mut [u32], t: Tables, i: usize, at: Here, st: St
 // A SelectField. A Tuple's input is read again; where that gives the same, its readings are only counted again. Rules
 // out: the input of a Tuple's field counted once; any other input read twice.
 fn field(forest: &[u8], work: &mut [u32], t: Tables, i: usize, at: Here, st: State) -> Selected
-    requires { ⌜ Sound (now forest) ⌝ }
+    requires { ⌜ WellFormed (now forest) ⌝ }
     requires { ⌜ i < recordCount (now forest) ⌝ }
     requires { ⌜ (recAt (now forest) i .shape ≡ SelectField) × (recAt (now forest) i .opcode ≡ SelectFieldOp) ⌝ }
     requires { ⌜ StandsAt (now forest) (now work) t st i at ⌝ }
@@ -270,7 +270,7 @@ fn operands(
     at: Here,
     st: State,
 ) -> Kids
-    requires { ⌜ Sound (now forest) ⌝ }
+    requires { ⌜ WellFormed (now forest) ⌝ }
     requires { ⌜ Operands (now forest) (now work) t st i count op at ⌝ }
     ensures { λ k. ⌜ ReadsAll (now (forest .entry)) (now (work .entry)) t st i count op at (now (work .exit)) k ⌝ }
 {
@@ -303,7 +303,7 @@ fn operands(
 // A child in a thunk of its own, read as the one operand of nothing: opcode 0 has no thunks. Rules out: a thunk's table
 // left open; a symbol made in the thunk that is found after it.
 fn in_thunk(forest: &[u8], work: &mut [u32], t: Tables, i: usize, at: Here, st: State) -> Read
-    requires { ⌜ Sound (now forest) ⌝ }
+    requires { ⌜ WellFormed (now forest) ⌝ }
     requires { ⌜ i < recordCount (now forest) ⌝ }
     requires { ⌜ InThunk (now forest) (now work) t st i at ⌝ }
     ensures { λ r. ⌜ ThunkRead (now (forest .entry)) (now (work .entry)) t st i at (now (work .exit)) r ⌝ }

@@ -21,7 +21,7 @@ use Rattle.key.specs.declared.Node.the-variants.{Const, Unparsed, Arg, Lambda, 
 use Rattle.key.specs.declared.Parts.{Parts}
 use Rattle.key.specs.Key.{partsOf}
 use Rattle.symbols.specs.Words.{pendingFrom}
-use Rattle.symbols.specs.Symbols.{symsOf, keyRec, recOf, ownOf, nodeOf}
+use Rattle.symbols.specs.Symbols.{symsOf, keyRec, recOf, ownOf, modelNode}
 use Rattle.tables.specs.declared.Found.{Found}
 use Rattle.tables.specs.declared.Tables.{Tables}
 use Rattle.tables.specs.Tables.{foundOf, entries, tables, tablesOf, Open, Entries, Below}
@@ -116,7 +116,7 @@ module _ (bs ws : List ℕ) (t : Tables) (st : State) (cur : ℕ) (node : Node) 
         low = found-low s f;
         is = out-given bs ws t st s
             ∙ sym (finish-some (partsOf node .source) cur (recOf bs node) (pendingFrom ws held count) (ownOf bs node)
-            (nodeOf bs node) (absOf bs ws t st) s (sym f));
+            (modelNode bs node) (absOf bs ws t st) s (sym f));
       })
 
   -- the deps of a node that has a key
@@ -138,9 +138,9 @@ module _ (bs ws : List ℕ) (t : Tables) (st : State) (cur : ℕ) (node : Node) 
     low = a .low;
     is = a .is
         ∙ (ap (λ (z : List ℕ). alloc (partsOf node .source) cur (recOf bs node) (pendingFrom ws held count) z true
-        (nodeOf bs node) (absOf bs ws t st)) (key-deps node keyed)
+        (modelNode bs node) (absOf bs ws t st)) (key-deps node keyed)
         ∙ sym (finish-none (partsOf node .source) cur (recOf bs node) (pendingFrom ws held count) (ownOf bs node)
-        (nodeOf bs node) (absOf bs ws t st) (sym f)));
+        (modelNode bs node) (absOf bs ws t st) (sym f)));
   }
 
   -- what `find` answers, and what it may be asked

@@ -24,7 +24,7 @@ use Rattle.key.specs.declared.Node.{Node}
 use Rattle.key.specs.declared.Symbol.{Symbol}
 use Rattle.key.specs.Key.{symbolAt}
 use Rattle.symbols.specs.Words.{pendingFrom}
-use Rattle.symbols.specs.Symbols.{symsOf, symOf, recOf, nodeOf, made, Room, AllSound}
+use Rattle.symbols.specs.Symbols.{symsOf, symOf, recOf, modelNode, made, Room, AllSound}
 use Rattle.symbols.specs.Sourced.{Sourced}
 use Rattle.symbols.proofs.Laws.{syms-length, made-length, made-before, made-between, made-after, made-symbol, syms-made}
 use Rattle.symbols.proofs.Laws.{made-kids, sound-made}
@@ -131,7 +131,7 @@ module _ (bs ws : List ℕ) (st : State) (cur : ℕ) (node : Node) (held count l
     st₁ = withSymbol st count
 
     abs-pushed : (t : Tables) → Open t (st .entries) → absOf bs ws₁ t st₁
-        ≡ push cur (recOf bs node) (pendingFrom ws held count) deps false (nodeOf bs node) (absOf bs ws t st)
+        ≡ push cur (recOf bs node) (pendingFrom ws held count) deps false (modelNode bs node) (absOf bs ws t st)
     unfolding push symOf
     abs-pushed t opened =
         let kept = abs-same bs ws ws₁ st rep same t opened in

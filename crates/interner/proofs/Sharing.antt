@@ -19,7 +19,7 @@ use Rattle.key.specs.declared.Node.{Node}
 use Rattle.key.specs.declared.Parts.{Parts}
 use Rattle.key.specs.Key.{partsOf}
 use Rattle.symbols.specs.Words.{pendingFrom}
-use Rattle.symbols.specs.Symbols.{recOf, nodeOf}
+use Rattle.symbols.specs.Symbols.{recOf, modelNode}
 use Rattle.symbols.proofs.Laws.{syms-length}
 use Rattle.symbols.proofs.Same.{key-opcode}
 use Rattle.tables.specs.declared.Tables.{Tables}
@@ -95,7 +95,7 @@ module _ (bs ws : List ℕ) (t : Tables) (r : Step) where
 module _ (bs ws : List ℕ) (t : Tables) (st : State) (cur : ℕ) (node : Node) (held count : ℕ) where
   abbrev pushOf : Bool → intern.State
   pushOf shared =
-      push cur (recOf bs node) (pendingFrom ws held count) (newDeps bs ws st node held count) shared (nodeOf bs node)
+      push cur (recOf bs node) (pendingFrom ws held count) (newDeps bs ws st node held count) shared (modelNode bs node)
       (absOf bs ws t st)
 
   alloc-good : (shared : Bool) → st .symbols < 512 →

@@ -22,7 +22,7 @@ use Rattle.key.specs.declared.Node.the-variants.{Const, Unparsed, Arg, Lambda, 
 use Rattle.key.specs.Key.{partsOf, symbolAt}
 use Rattle.symbols.specs.Words.{pendingFrom}
 use Rattle.laws.specs.Range.{range}
-use Rattle.symbols.specs.Symbols.{symsOf, recOf, nodeOf, ownOf, depsOf}
+use Rattle.symbols.specs.Symbols.{symsOf, recOf, modelNode, ownOf, depsOf}
 use Rattle.tables.specs.declared.Tables.{Tables}
 use Rattle.tables.specs.Tables.{hint, hintOf, Open}
 use Rattle.scopes.specs.Levels.{has}
@@ -135,14 +135,14 @@ pub record Pushed (bs ws : List ℕ) (st : State) (cur : ℕ) (node : Node) (hel
   pub stored : Stored ws ws′ (st .symbols) levels
   pub hinted : hintOf bs ws′ (st .symbols) ≡ hint (recOf bs node .opcode) (pendingFrom ws held count)
   pub is : (t : Tables) → Open t (st .entries) → absOf bs ws′ t r
-      ≡ push cur (recOf bs node) (pendingFrom ws held count) (newDeps bs ws st node held count) false (nodeOf bs node)
+      ≡ push cur (recOf bs node) (pendingFrom ws held count) (newDeps bs ws st node held count) false (modelNode bs node)
       (absOf bs ws t st)
 
 -- the definition's new symbol, in a table where it is shared
 abbrev pub allocOf : List ℕ → List ℕ → Tables → State → ℕ → Node → ℕ → ℕ → Bool → Out
 allocOf bs ws t st cur node held count shared =
     alloc (partsOf node .source) cur (recOf bs node) (pendingFrom ws held count) (newDeps bs ws st node held count)
-    shared (nodeOf bs node) (absOf bs ws t st)
+    shared (modelNode bs node) (absOf bs ws t st)
 
 -- the answer r is that of the definition, over the tables t
 pub record Answers (bs ws : List ℕ) (t : Tables) (st : State) (o : Out) (ws′ : List ℕ) (r : Step) : Type 0 where
@@ -194,7 +194,7 @@ keyLevels ws node held count j =
 -- the definition's symbol of a key
 abbrev pub finishOf : List ℕ → List ℕ → Tables → State → ℕ → Node → ℕ → ℕ → Out
 finishOf bs ws t st cur node held count =
-    finish (partsOf node .source) cur (recOf bs node) (pendingFrom ws held count) (ownOf bs node) (nodeOf bs node)
+    finish (partsOf node .source) cur (recOf bs node) (pendingFrom ws held count) (ownOf bs node) (modelNode bs node)
     (absOf bs ws t st)
 
 -- ---- a lambda's arguments

@@ -15,7 +15,7 @@ use Rattle.key.specs.declared.Parts.{Parts}
 use Rattle.key.specs.declared.Symbol.{Symbol}
 use Rattle.key.specs.declared.Node.{Node}
 use Rattle.key.specs.declared.Node.the-variants.{Const, Unparsed, Arg, Lambda, Op}
-use Rattle.key.specs.Key.{Fits, partsOf, choose, nodeOf, head, middle, tail, put5, storeSymbol}
+use Rattle.key.specs.Key.{Fits, partsOf, choose, nodeFrom, head, middle, tail, put5, storeSymbol}
 use Rattle.key.specs.Key.{partsIn, symbolOf, symbolAt}
 use Rattle.laws.specs.Frame.{Agree}
 use Rattle.laws.proofs.Runs.{sets-run, sets-before, sets-after}
@@ -47,7 +47,7 @@ module _ (p : Parts) (y : Symbol) (is : p ≡ partsOf (y .node)) (fits : Fits y)
   unfolding storeSymbol
   packed ws ws′ s a b c d e ew ea eb ec ed ee = rw (ew, ea, eb, ec, ed, ee, is)
 
-node-parts : (n : Node) → nodeOf (partsOf n) ≡ n
+node-parts : (n : Node) → nodeFrom (partsOf n) ≡ n
 node-parts (Const l) = refl
 node-parts (Unparsed l) = refl
 node-parts (Arg l) = refl
@@ -62,7 +62,7 @@ module _ (p : Parts) (count kids scope levels : ℕ) where
   unpacked : (p .tag < 8) × (p .source < 256) × (p .field < 4) × (count < 512) →
       (kids < 4096) × (p .second < 4096) × (p .branches < 4) → (scope < 4096) × (p .first < 4096) →
       symbolOf (head p count) (middle p kids) (tail p scope) (levels % 4294967296) (levels / 4294967296)
-      ≡ record { node = nodeOf p; kids = kids; count = count; scope = scope; levels = levels }
+      ≡ record { node = nodeFrom p; kids = kids; count = count; scope = scope; levels = levels }
   unpacked h m t =
       let a1 : head p count % 8 ≡ p .tag = omega arith in
       let a : head p count / 8 ≡ p .source + 256 * (p .field + 4 * count) = omega arith in
@@ -92,13 +92,13 @@ module _ (p : Parts) where
   abbrev NoField : Node → Type 0
   NoField n = partsOf n .field ≡ 0
 
-  node-source : From (nodeOf p)
+  node-source : From (nodeFrom p)
   node-source =
       chosen From (eqb (p .tag) 0) _ _ refl (λ a. chosen From (eqb (p .tag) 1) _ _ refl
       (λ b. chosen From (eqb (p .tag) 2) _ _ refl (λ c. chosen From (eqb (p .tag) 3) _ _ refl (λ d. refl))))
 
   -- only an operation has a field
-  node-no-field : p .tag < 4 → NoField (nodeOf p)
+  node-no-field : p .tag < 4 → NoField (nodeFrom p)
   node-no-field lt =
       chosen NoField (eqb (p .tag) 0) _ _ refl (λ a. chosen NoField (eqb (p .tag) 1) _ _ refl
       (λ b. chosen NoField (eqb (p .tag) 2) _ _ refl (λ c. chosen NoField (eqb (p .tag) 3) _ _ refl
@@ -108,7 +108,7 @@ module _ (p : Parts) where
       high : (p .tag ≡ 0 → ⊥) → (p .tag ≡ 1 → ⊥) → (p .tag ≡ 2 → ⊥) → (p .tag ≡ 3 → ⊥) → ⊥
       high a b c d = omega arith
 
-  node-field : 4 ≤ p .tag → partsOf (nodeOf p) .field ≡ p .field
+  node-field : 4 ≤ p .tag → partsOf (nodeFrom p) .field ≡ p .field
   node-field le =
       rw (
         ne-eqb (p .tag) 0 (λ e. omega arith),

@@ -36,8 +36,8 @@ choose true a b = a
 choose false a b = b
 
 -- the node of these parts
-abbrev pub nodeOf : Parts → Node
-nodeOf p =
+abbrev pub nodeFrom : Parts → Node
+nodeFrom p =
     choose (eqb (p .tag) 0) (Const (record { source = p .source }))
     (choose (eqb (p .tag) 1) (Unparsed (record { source = p .source }))
     (choose (eqb (p .tag) 2) (Arg (record { source = p .source }))
@@ -92,7 +92,7 @@ partsIn a b c = record {
 -- the symbol of five words
 abbrev pub symbolOf : ℕ → ℕ → ℕ → ℕ → ℕ → Symbol
 symbolOf a b c d e = record {
-  node = nodeOf (partsIn a b c);
+  node = nodeFrom (partsIn a b c);
   kids = b % 4096;
   count = a / 8192;
   scope = c % 4096;

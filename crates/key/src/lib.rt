@@ -4,7 +4,7 @@
 ghost use mathlib.Core.Path.{_≡_};
 ghost use Prim.Native.Nat.{_+_, _*_, _<_, _≤_, _/_, _%_};
 ghost use lib.ListN.{length};
-ghost use Rattle.key.specs.Key.{Fits, leafParts, partsOf, nodeOf, head, middle, tail};
+ghost use Rattle.key.specs.Key.{Fits, leafParts, partsOf, nodeFrom, head, middle, tail};
 ghost use Rattle.key.specs.Key.{partsIn, put5, storeSymbol, symbolAt};
 
 // A constant, an unparsed node or an argument: the record that it was made for.
@@ -98,7 +98,7 @@ fn leaf_parts(tag: u32, l: Leaf) -> Parts
 }
 
 fn node_of(p: Parts) -> Node
-    ensures { λ r. ⌜ r ≡ nodeOf p ⌝ }
+    ensures { λ r. ⌜ r ≡ nodeFrom p ⌝ }
 {
     let tag = p.tag;
     match tag {

@@ -14,7 +14,7 @@ use Rattle.model.specs.Lister.{decimal, hexByte, tagOf, opcodeShown, yesNo, lin
 use Rattle.regions.specs.Regions.{SLOTS}
 use Rattle.key.specs.declared.Symbol.{Symbol}
 use Rattle.key.specs.Key.{partsOf, symbolAt}
-use Rattle.symbols.specs.Symbols.{recOf, nodeOf, symOf, symsOf, Sound}
+use Rattle.symbols.specs.Symbols.{recOf, modelNode, symOf, symsOf, Sound}
 use Rattle.symbols.proofs.Laws.{sym-at}
 use Rattle.output.specs.Output.{Wrote}
 use Rattle.text.specs.Text.{numeral}
@@ -94,7 +94,7 @@ module _ {out : List ℕ} {at : ℕ} {o₁ o₂ o₃ o₄ : List ℕ} {p₁ p₂
 -- ---- the columns of a stored symbol
 
 module _ (bs ws : List ℕ) (s : ℕ) (x : Symbol) (loads : x ≡ symbolAt ws s) (n : ℕ) (lt : s < n) where
-  pub stored-node : nodeOf bs (x .node) ≡ symAt (symsOf bs ws n) s .node
+  pub stored-node : modelNode bs (x .node) ≡ symAt (symsOf bs ws n) s .node
   unfolding symOf
   stored-node = rw loads (sym (ap (λ (z : Sym). z .node) (sym-at bs ws n s lt)))
 

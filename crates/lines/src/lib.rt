@@ -13,7 +13,7 @@ ghost use Rattle.model.specs.Gate.{allSlots};
 ghost use Rattle.regions.specs.Regions.{SLOTS, WORDS};
 ghost use Rattle.record.specs.Record.{Laid};
 ghost use Rattle.key.specs.Key.{partsOf};
-ghost use Rattle.symbols.specs.Symbols.{recOf, nodeOf, symsOf, Sound};
+ghost use Rattle.symbols.specs.Symbols.{recOf, modelNode, symsOf, Sound};
 ghost use Rattle.output.specs.Output.{over, Wrote};
 ghost use Rattle.lines.specs.Lines.{columns, Listable};
 
@@ -29,7 +29,7 @@ fn put_number(out: &mut [u8], at: usize, n: u32, after: u8) -> usize
 
 // The letter of a node's kind.
 fn tag(node: Node) -> u8
-    ensures { λ r. ⌜ ((bs : List ℕ) → (r ∷ []) ≡ tagOf (nodeOf bs node)) ⌝ }
+    ensures { λ r. ⌜ ((bs : List ℕ) → (r ∷ []) ≡ tagOf (modelNode bs node)) ⌝ }
 {
     match node {
         Node::Const(_) => b'C',
@@ -45,7 +45,7 @@ fn opcode_shown(forest: &[u8], node: Node) -> u8
     requires { ⌜ Laid (now forest) ⌝ }
     requires { ⌜ partsOf node .source < recordCount (now forest) ⌝ }
     ensures { λ r. ⌜ r ≡
-        opcodeShown (nodeOf (now (forest .entry)) node) (recOf (now (forest .entry)) node .opcode) ⌝ }
+        opcodeShown (modelNode (now (forest .entry)) node) (recOf (now (forest .entry)) node .opcode) ⌝ }
 {
     match node {
         Node::Const(_) => 0,
@@ -72,7 +72,7 @@ fn put_columns(forest: &[u8], out: &mut [u8], at: usize, s: usize, node: Node) -
     requires { ⌜ s < 512 ⌝ }
     requires { ⌜ at + 15 ≤ length (now out) ⌝ }
     ensures { λ r. ⌜ Wrote (now (out .entry)) at
-        (columns s (nodeOf (now (forest .entry)) node) (recOf (now (forest .entry)) node .opcode))
+        (columns s (modelNode (now (forest .entry)) node) (recOf (now (forest .entry)) node .opcode))
         (now (out .exit)) r ⌝ }
 {
     let a = put_number(out, at, s as u32, b' ');

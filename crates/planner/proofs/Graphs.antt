@@ -23,7 +23,7 @@ use Rattle.regions.specs.Regions.{SLOTS}
 use Rattle.key.specs.declared.Node.{Node}
 use Rattle.key.specs.declared.Node.the-variants.{Const, Unparsed, Arg, Lambda, Op}
 use Rattle.key.specs.Key.{symbolAt}
-use Rattle.symbols.specs.Symbols.{recOf, nodeOf, kidsAt}
+use Rattle.symbols.specs.Symbols.{recOf, modelNode, kidsAt}
 use Rattle.symbols.specs.Symbols as words
 use Rattle.symbols.proofs.Laws.{syms-length}
 use Rattle.symbols.proofs.Words.{words-length}
@@ -36,7 +36,7 @@ module _ {bs ws : List ℕ} {n m : ℕ} {gr : Graph} (b : Buildable bs ws n m) (
   -- ---- symbol s
 
   module _ (s : ℕ) (lt : s < n) where
-    pub node-is : symOf gr s .node ≡ nodeOf bs (symbolAt ws s .node)
+    pub node-is : symOf gr s .node ≡ modelNode bs (symbolAt ws s .node)
     unfolding words.symOf
     node-is = ap (λ (y : Sym). y .node) (sym-is st s lt)
 
@@ -53,7 +53,7 @@ module _ {bs ws : List ℕ} {n m : ℕ} {gr : Graph} (b : Buildable bs ws n m) (
         let one = go (symbolAt ws s .node) (sym node-is ∙ e) (b .sourced s lt) in
         omega (arith, ap length kids-is, words-length ws (SLOTS .first + symbolAt ws s .kids) (symbolAt ws s .count))
       where
-        go : (nd : Node) → nodeOf bs nd ≡ func xs body → Sourced bs nd (symbolAt ws s .count)
+        go : (nd : Node) → modelNode bs nd ≡ func xs body → Sourced bs nd (symbolAt ws s .count)
             → symbolAt ws s .count ≡ 1
         go (Const l) e h = absurd (omega (arith, apart e))
           where
@@ -78,7 +78,7 @@ module _ {bs ws : List ℕ} {n m : ℕ} {gr : Graph} (b : Buildable bs ws n m) (
         ap (λ (r : Rec). eqb (r .shape) 7) rec-is
         ∙ go (symbolAt ws s .node) (sym (ap isArg node-is) ∙ e) (b .no-use s lt)
       where
-        go : (nd : Node) → isArg (nodeOf bs nd) ≡ false → NoUse bs nd → eqb (recOf bs nd .shape) 7 ≡ false
+        go : (nd : Node) → isArg (modelNode bs nd) ≡ false → NoUse bs nd → eqb (recOf bs nd .shape) 7 ≡ false
         go (Const l) f h = ne-eqb _ 7 h
         go (Unparsed l) f h = ne-eqb _ 7 h
         go (Arg l) f h = false-true (sym f)

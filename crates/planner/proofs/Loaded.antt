@@ -25,7 +25,7 @@ use Rattle.key.specs.declared.Operation.{Operation}
 use Rattle.key.specs.declared.Node.{Node}
 use Rattle.key.specs.declared.Node.the-variants.{Const, Unparsed, Arg, Lambda, Op}
 use Rattle.key.specs.Key.{partsOf, partsIn, choose, symbolAt}
-use Rattle.symbols.specs.Symbols.{keyRec, recOf, nodeOf}
+use Rattle.symbols.specs.Symbols.{keyRec, recOf, modelNode}
 use Rattle.symbols.specs.Sourced.{Sourced}
 use Rattle.plan.specs.declared.Planned.{Planned}
 use Rattle.plan.specs.declared.Planned.the-variants.{Copy, Field}
@@ -67,10 +67,10 @@ module _ {bs ws : List ℕ} {n m : ℕ} (b : Buildable bs ws n m) (s : ℕ) (lt 
   -- a symbol of node nd
   module _ (nd : Node) (e : symbolAt ws s .node ≡ nd) where
     pub fresh-is : (gr : model.Graph) (sc : ℕ) (env : Env) (last : ℕ) → GraphIn bs ws n m gr
-        → freshTree s last gr sc env ≡ buildNode gr (buildValue gr) (symOf gr s) (nodeOf bs nd) sc env last
+        → freshTree s last gr sc env ≡ buildNode gr (buildValue gr) (symOf gr s) (modelNode bs nd) sc env last
     fresh-is gr sc env last st =
         ap (λ (x : intern.Node). buildNode gr (buildValue gr) (symOf gr s) x sc env last)
-        (node-is b st s lt ∙ ap (nodeOf bs) e)
+        (node-is b st s lt ∙ ap (modelNode bs) e)
 
     pub rec-of : (gr : model.Graph) → GraphIn bs ws n m gr → symOf gr s .rec ≡ recOf bs nd
     rec-of gr st = rec-is b st s lt ∙ ap (recOf bs) e

@@ -32,7 +32,7 @@ ghost use lib.ListN.{length};
 ghost use Rattle.model.specs.Forest.{recordCount};
 ghost use Rattle.shape.specs.Args.{Left};
 ghost use Rattle.text.specs.Text.{refusal};
-ghost use Rattle.walk.specs.Walk.{Sound};
+ghost use Rattle.walk.specs.Walk.{WellFormed};
 ghost use Rattle.sheet.specs.Clip.{Clipped};
 
 // ---- a record's head: its number, its level, its shape and its opcode
@@ -139,7 +139,7 @@ fn put_literal(out: &mut [u8], at: usize, lit: &[u8]) -> usize
 // Record i's line, at a level.
 fn put_line(out: &mut [u8], at: usize, forest: &[u8], i: usize, level: usize) -> usize
     requires { ⌜ at ≤ length (now out) ⌝ }
-    requires { ⌜ Sound (now forest) ⌝ }
+    requires { ⌜ WellFormed (now forest) ⌝ }
     requires { ⌜ i < recordCount (now forest) ⌝ }
     ensures { λ r. ⌜ r ≤ length (now (out .entry)) ⌝ }
 {
@@ -198,7 +198,7 @@ fn follow(left: &mut [usize; 64], depth: usize, kids: usize) -> usize
 // The sheet of a forest at the start of out, as far as there is room; gives its length.
 // Rules out: a length past the buffer's end.
 pub fn write(forest: &[u8], out: &mut [u8]) -> usize
-    requires { ⌜ Sound (now forest) ⌝ }
+    requires { ⌜ WellFormed (now forest) ⌝ }
     ensures { λ r. ⌜ r ≤ length (now (out .entry)) ⌝ }
 {
     let n = record::record_count(forest);

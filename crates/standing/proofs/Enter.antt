@@ -27,7 +27,7 @@ use Rattle.theory.specs.Inv.{keys}
 use Rattle.theory.proofs.Interning.Fresh.{bindArgs-keys}
 use Rattle.theory.proofs.Interning.Body.{ArgsDone, args-done, opened}
 use Rattle.theory.proofs.Interning.Walk.{isBlock-is}
-use Rattle.theory.specs.Sound.{Sound, Any}
+use Rattle.theory.specs.Sound.{StateSound, Any}
 use Rattle.theory.proofs.Bounds.Sound.{room-less, KeepsArgs}
 use Rattle.theory.proofs.Bounds.Steps.{allocArgs-keeps, open-sound, open-room, read-room}
 use Rattle.theory.proofs.Bounds.Kinds.{inside-of, lambda-plain}
@@ -125,7 +125,7 @@ module _ {r : Rec} {ts : Trees} {def : Bool} {cur : ℕ} {env : Env} {st : State
             (allocArgs-keeps Any at cur r (any-tree (node r ts) .0) (boundBy r) (read st) 1 1 (before .sound)
             (before .current) (read-room st 0 0 (w .room)))
 
-        sound : Sound Any (opened cur made)
+        sound : StateSound Any (opened cur made)
         sound =
             open-sound Any cur (some (made .0)) (made .2 .tables) (made .2) (kept .keeps .sound)
             (omega (arith, before .current, kept .keeps .more-scopes)) (kept .low) (kept .keeps .sound .tables-open)

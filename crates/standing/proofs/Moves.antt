@@ -28,7 +28,7 @@ use Rattle.theory.proofs.Interning.Body.{ArgsDone, opened, opened-inv, opened-e
 use Rattle.theory.proofs.Interning.Operands.{thunk-opens}
 use Rattle.theory.proofs.Interning.Walk.{read-inv}
 use Rattle.theory.proofs.Interning.Interned.{start-inv}
-use Rattle.theory.specs.Sound.{Sound, Any}
+use Rattle.theory.specs.Sound.{StateSound, Any}
 use Rattle.theory.proofs.Bounds.Steps.{read-sound, open-more}
 use Rattle.theory.proofs.Bounds.Kinds.{EnvLow}
 use Rattle.theory.proofs.Bounds.Trees.{start-sound, thunk-sound}
@@ -92,7 +92,7 @@ thunk-stands {cur} {st} h = record {
 
 -- the body of a lambda, with its arguments md made
 pub body-stands : {cur : ℕ} {env : Env} {st : State} {r : Rec} {md : Symbols} (h : Standing cur env st) →
-    ArgsDone st (h .args) cur r md → Sound Any (opened cur md) →
+    ArgsDone st (h .args) cur r md → StateSound Any (opened cur md) →
     Standing (scopeCount (md .2)) (withArgs r (md .0) env) (opened cur md)
 body-stands {cur} {env} {st} {r} {md} h made sound = record {
   args = withArgs r (md .0) (h .args);
@@ -118,7 +118,7 @@ body-stands {cur} {env} {st} {r} {md} h made sound = record {
 module _ {cur : ℕ} {env : Env} {st st′ : State} {Post : List Sym → List Scope → Type 0} (h : Standing cur env st)
     (s : Step st st′ (h .args) cur (InForce st env (h .args)) Post) where
   -- with more ids bound, or the same
-  pub step-stands : (env′ : Env) → Sound Any st′ →
+  pub step-stands : (env′ : Env) → StateSound Any st′ →
       ((fin : List Sym) (scs : List Scope) → EnvOk fin (symCount st′) env (h .args) → Post fin scs →
       EnvOk fin (symCount st′) env′ (h .args)) →
       Standing cur env′ st′

@@ -19,7 +19,7 @@ use Rattle.theory.specs.Checked.{Checked}
 use Rattle.theory.proofs.Acceptance.Checked.{checked-head, checked-tail}
 use Rattle.theory.specs.Good.{symCount, scopeCount}
 use Rattle.theory.specs.Inv.{keys}
-use Rattle.theory.proofs.Interning.Keep.{KeptAll, last-in}
+use Rattle.theory.proofs.Interning.Keep.{KeepsMeanings, last-in}
 use Rattle.theory.proofs.Interning.Operands.{KeptIn, bindDef-keys, bindDef-env}
 use Rattle.theory.proofs.Interning.Walk.{internAll-keeps}
 use Rattle.theory.proofs.Interning.Walk as walk
@@ -103,9 +103,9 @@ few-thunks op (suc (suc (suc j))) ks = omega (arith, late-thunks op (suc (suc (s
 module _ {ts : Trees} {b : Bool} {op j cur : ℕ} {env : Env} {st : State} {k : ℕ}
     (w : WellAll ts b op j cur env st k) (at : ℕ) (os : List ℕ × List ℕ × State)
     (is : internAll ts op j at cur env st ≡ good os) where
-  kept-all : KeptAll st (w .standing .args) cur env op j b ts os
+  kept-all : KeepsMeanings st (w .standing .args) cur env op j b ts os
   kept-all =
-      holds-good (KeptAll st (w .standing .args) cur env op j b ts) is
+      holds-good (KeepsMeanings st (w .standing .args) cur env op j b ts) is
       (internAll-keeps ts op j at cur env (w .standing .args) b st (w .checked))
 
   sound-all : KeepsAll Any st (k + many ts) (w .free + plainKids op j ts) (many ts) op j os

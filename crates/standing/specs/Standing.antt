@@ -17,14 +17,14 @@ use Rattle.theory.specs.Checked.{Checked, CheckedIn}
 use Rattle.theory.specs.Good.{symCount, scopeCount}
 use Rattle.theory.specs.Inv.{Args, argSyms, keys, Inv, EnvOk, Fits, Grow}
 use Rattle.laws.specs.Slots.{slotsIn}
-use Rattle.theory.specs.Sound.{Sound, Room, Pays, Any}
+use Rattle.theory.specs.Sound.{StateSound, Room, Pays, Any}
 
 -- ---- a state, seen from scope `cur` with ids bound
 
 pub record Standing (cur : ℕ) (env : Env) (st : State) : Type 0 where
   -- the arguments in force, ids with symbols
   pub args : Args
-  pub sound : Sound Any st
+  pub sound : StateSound Any st
   pub current : cur < scopeCount st
   -- whatever symbols and scopes come after those of the state
   pub inv : (fin : List Sym) (scs : List Scope) → Fits fin scs st →

@@ -40,14 +40,14 @@ ownOf bs (Arg l) = []
 ownOf bs (Lambda f) = range (f .first) (rowAt bs (f .source) .rec .aux)
 ownOf bs (Op o) = []
 
-abbrev pub nodeOf : List ℕ → Node → intern.Node
-nodeOf bs (Const l) = constant
-nodeOf bs (Unparsed l) = unparsed
-nodeOf bs (Arg l) = argument
-nodeOf bs (Lambda f) =
+abbrev pub modelNode : List ℕ → Node → intern.Node
+modelNode bs (Const l) = constant
+modelNode bs (Unparsed l) = unparsed
+modelNode bs (Arg l) = argument
+modelNode bs (Lambda f) =
     let r = rowAt bs (f .source) .rec in
     func (withOpts (argsOf (r .aux) (r .lit)) (range (f .first) (r .aux))) (f .body)
-nodeOf bs (Op o) = operation (take (o .branches) (o .first ∷ o .second ∷ []))
+modelNode bs (Op o) = operation (take (o .branches) (o .first ∷ o .second ∷ []))
 
 -- what symbol s depends on, from the lower symbols: an argument on itself, any other on what its children ks do
 abbrev pub depsOf : List ℕ → List Sym → ℕ → Node → List ℕ → List ℕ
@@ -66,7 +66,7 @@ symOf bs lower s y ks = record {
   kids = ks;
   deps = depsOf bs lower s (y .node) ks;
   scope = y .scope;
-  node = nodeOf bs (y .node);
+  node = modelNode bs (y .node);
 }
 
 abbrev pub kidsAt : List ℕ → ℕ → List ℕ

@@ -19,8 +19,8 @@ use Rattle.laws.specs.ArgLists.{ArgList, symsIn, optsIn, boundBy, AllOpts}
 abbrev pub recAt : List Sym → ℕ → Rec
 recAt ss i = symAt ss i .rec
 
-abbrev pub kidsAt : List Sym → ℕ → List ℕ
-kidsAt ss i = symAt ss i .kids
+abbrev pub symKids : List Sym → ℕ → List ℕ
+symKids ss i = symAt ss i .kids
 
 abbrev pub depsAt : List Sym → ℕ → List ℕ
 depsAt ss i = symAt ss i .deps
@@ -88,10 +88,10 @@ PairsOk fin scs op j (k ∷ ks) (b ∷ brs) =
 -- a symbol that keeps its record: its deps are those of its children, no more and no less
 pub record Plain (fin : List Sym) (i : ℕ) : Type 0 where
   pub kind-is : isPlain (kind (recAt fin i .shape)) ≡ true
-  pub fits-is : fits (record { rec = recAt fin i; kids = length (kidsAt fin i) }) ≡ true
+  pub fits-is : fits (record { rec = recAt fin i; kids = length (symKids fin i) }) ≡ true
   pub agrees-is : agrees (recAt fin i) ≡ true
-  pub cover : (k a : ℕ) → In k (kidsAt fin i) → In a (depsAt fin k) → In a (depsAt fin i)
-  pub from : (a : ℕ) → In a (depsAt fin i) → (k : ℕ) × In k (kidsAt fin i) × In a (depsAt fin k)
+  pub cover : (k a : ℕ) → In k (symKids fin i) → In a (depsAt fin k) → In a (depsAt fin i)
+  pub from : (a : ℕ) → In a (depsAt fin i) → (k : ℕ) × In k (symKids fin i) × In a (depsAt fin k)
 
 -- a lambda with these arguments and its body in scope b: its deps are its body's less its arguments
 pub record Lam (fin : List Sym) (scs : List Scope) (i : ℕ) (xs : ArgList) (b : ℕ) : Type 0 where
@@ -100,7 +100,7 @@ pub record Lam (fin : List Sym) (scs : List Scope) (i : ℕ) (xs : ArgList) (b :
   pub aux-is : recAt fin i .aux ≡ length xs
   pub aux-low : recAt fin i .aux ≤ 15
   pub body : ℕ
-  pub kids-is : kidsAt fin i ≡ body ∷ []
+  pub kids-is : symKids fin i ≡ body ∷ []
   pub cover : (a : ℕ) → In a (depsAt fin body) → In a (depsAt fin i) ⊎ In a (symsIn xs)
   pub from : (a : ℕ) → In a (depsAt fin i) → In a (depsAt fin body)
   pub opts-is : optsIn xs ≡ optsIn (boundBy (recAt fin i))
@@ -115,14 +115,14 @@ pub record Lam (fin : List Sym) (scs : List Scope) (i : ℕ) (xs : ArgList) (b :
   pub pair : PairOk fin scs body b
 
 abbrev pub NodeOk : List Sym → List Scope → ℕ → Node → Type 0
-NodeOk fin scs i constant = Plain fin i × (kidsAt fin i ≡ [])
-NodeOk fin scs i unparsed = Plain fin i × (kidsAt fin i ≡ [])
-NodeOk fin scs i argument = (depsAt fin i ≡ i ∷ []) × (kidsAt fin i ≡ [])
+NodeOk fin scs i constant = Plain fin i × (symKids fin i ≡ [])
+NodeOk fin scs i unparsed = Plain fin i × (symKids fin i ≡ [])
+NodeOk fin scs i argument = (depsAt fin i ≡ i ∷ []) × (symKids fin i ≡ [])
 NodeOk fin scs i (func xs b) = Lam fin scs i xs b
-NodeOk fin scs i (operation brs) = Plain fin i × PairsOk fin scs (recAt fin i .opcode) 0 (kidsAt fin i) brs
+NodeOk fin scs i (operation brs) = Plain fin i × PairsOk fin scs (recAt fin i .opcode) 0 (symKids fin i) brs
 
 pub record SymOk (fin : List Sym) (scs : List Scope) (i : ℕ) : Type 0 where
-  pub low : (k : ℕ) → In k (kidsAt fin i) → k < i
+  pub low : (k : ℕ) → In k (symKids fin i) → k < i
   pub deps-low : (a : ℕ) → In a (depsAt fin i) → a ≤ i
   pub node-is : NodeOk fin scs i (nodeAt fin i)
 

@@ -14,7 +14,7 @@ use Rattle.model.specs.Binding.{argIds}
 use Rattle.model.specs.Intern.{func, Sym, Scope, State, Env, symAt, rootScope, recall, resolve}
 use Rattle.laws.specs.Members.{In}
 use Rattle.laws.specs.ArgLists.{ArgList, symsIn}
-use Rattle.theory.specs.Good.{recAt, kidsAt, depsAt, scopeAt, nodeAt, symCount, scopeCount, noArg, argsAt, aroundAt, out, Goods}
+use Rattle.theory.specs.Good.{recAt, symKids, depsAt, scopeAt, nodeAt, symCount, scopeCount, noArg, argsAt, aroundAt, out, Goods}
 
 abbrev pub Args : Type 0
 Args = List (ℕ × ℕ)
@@ -39,7 +39,7 @@ Chain scs b = (aroundAt scs b ≡ []) ⊎ ((p : ℕ) × (p < b) × (aroundAt scs
 pub record FieldOk (fin : List Sym) (n p j a : ℕ) : Type 0 where
   pub low : a < n
   pub rec-is : recAt fin a ≡ rec 17 0x8C 0 (j ∷ [])
-  pub kids-is : kidsAt fin a ≡ p ∷ []
+  pub kids-is : symKids fin a ≡ p ∷ []
   pub made-is : noArg (nodeAt fin a) ≡ true
 
 -- of a lambda x that is made, where scope cur and arguments A are in force and there are m scopes: its body is closed,
@@ -49,7 +49,7 @@ pub record LamApart (fin : List Sym) (scs : List Scope) (m : ℕ) (A : Args) (cu
   pub scope-low : b < m
   pub closed : In b (out scs cur) → ⊥
   pub apart : (i a : ℕ) → HasArg i a A → In a (symsIn xs) → ⊥
-  pub ids-apart : (i a k : ℕ) → HasArg i a A → In k (kidsAt fin x) → In a (depsAt fin k) →
+  pub ids-apart : (i a k : ℕ) → HasArg i a A → In k (symKids fin x) → In a (depsAt fin k) →
       In i (argIds (recAt fin x)) → ⊥
 
 pub record Inv (fin : List Sym) (scs : List Scope) (st : State) (A : Args) (cur : ℕ) : Type 0 where

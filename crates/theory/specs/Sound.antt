@@ -60,7 +60,7 @@ pub record SymSound (B : ℕ → Type 0) (i m : ℕ) (y : Sym) : Type 0 where
 abbrev pub scopeOf : State → ℕ → Scope
 scopeOf st b = getD (st .scopes) b rootScope
 
-pub record Sound (B : ℕ → Type 0) (st : State) : Type 0 where
+pub record StateSound (B : ℕ → Type 0) (st : State) : Type 0 where
   pub few-symbols : symCount st ≤ 512
   pub few-readings : st .readings ≤ 2048
   pub syms-sound : (i : ℕ) → i < symCount st → SymSound B i (scopeCount st) (symAt (st .syms) i)

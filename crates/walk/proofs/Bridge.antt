@@ -24,7 +24,7 @@ use Rattle.shape.proofs.Fitting.{fits-use, fits-def, fits-func}
 use Rattle.record.specs.Record.{noRow, rowAt}
 use Rattle.laws.proofs.Header.{header-of, row-count}
 use Rattle.regions.specs.Regions.{IDS}
-use Rattle.walk.specs.Walk.{treesFrom, kidsAt, restAt, treeAt, Sound}
+use Rattle.walk.specs.Walk.{treesFrom, kidTreesAt, restAt, treeAt, WellFormed}
 
 -- ---- rows by number
 
@@ -41,7 +41,7 @@ rows-end bs i l = drop-of-length-le (rowsIn bs) {i = i} (omega (arith, row-count
 -- ---- trees by number
 
 pub trees-at : (bs : List ℕ) (i : ℕ) → i < recordCount bs → treesFrom bs i ≡ cons (treeAt bs i) (restAt bs i)
-unfolding treesFrom kidsAt restAt grow
+unfolding treesFrom kidTreesAt restAt grow
 trees-at bs i l = ap grow (rows-at bs i l)
 
 -- where trees are left, so are records
@@ -109,15 +109,15 @@ row-fits bs i e l =
     let m : i < length (rowsIn bs) = omega (arith, row-count bs) in
     not-false _ (clear-at (λ r. not (fits r)) (rowsIn bs) i (first-clear _ e) m)
 
-pub records-few : (bs : List ℕ) → Sound bs → recordCount bs ≤ 256
+pub records-few : (bs : List ℕ) → WellFormed bs → recordCount bs ≤ 256
 records-few bs h = header-of bs (h .laid .header) .records-most
 
 -- there is room for what record i binds: at most 15 ids a record
-pub ids-room : (bs : List ℕ) (i top : ℕ) → Sound bs → i < recordCount bs → top ≤ 15 * i → top + 15 ≤ IDS .size
+pub ids-room : (bs : List ℕ) (i top : ℕ) → WellFormed bs → i < recordCount bs → top ≤ 15 * i → top + 15 ≤ IDS .size
 ids-room bs i top h l m = omega (arith, records-few bs h)
 
 -- what stands in the literals of records that use or bind ids
-module _ (bs : List ℕ) (i : ℕ) (h : Sound bs) (l : i < recordCount bs) where
+module _ (bs : List ℕ) (i : ℕ) (h : WellFormed bs) (l : i < recordCount bs) where
   pub use-literal : rowAt bs i .rec .shape ≡ 7 → 4 ≤ length (rowAt bs i .rec .lit)
   use-literal e = omega (arith, fits-use (rowAt bs i) (row-fits bs i (h .fit) l) e)
 

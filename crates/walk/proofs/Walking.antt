@@ -23,7 +23,7 @@ use Rattle.walk.specs.declared.Walk.{Walk}
 use Rattle.walk.specs.declared.Walk.the-variants.{Next, Fault}
 use Rattle.walk.specs.Faults.{Ctx, start, inner, faultsIn, test}
 use Rattle.walk.specs.Words.{idsOf, Bound, ctxOf, childOf}
-use Rattle.walk.specs.Walk.{treesFrom, kidsAt, restAt, treeAt, Sound, Stands, faultOf, shift, Comes}
+use Rattle.walk.specs.Walk.{treesFrom, kidTreesAt, restAt, treeAt, WellFormed, CanStand, faultOf, shift, Comes}
 use Rattle.walk.specs.Walk.{Walked, WalkedIn, Checked}
 use Rattle.walk.proofs.Words.{ids-kept}
 use Rattle.walk.proofs.Bridge.{trees-left, trees-all, tree-count}
@@ -57,7 +57,7 @@ module _ (bs : List ℕ) (n i : ℕ) (at : Context) (ws : List ℕ) where
       Frame (at .top) (end IDS) ws ws′ → Walked bs n i at ws ws′ (Fault i)
   subtree-offends ws′ b e t h = record {
     fault =
-        node-offends (test n) i (rowAt bs i .rec) (kidsAt bs i) (ctxOf ws at)
+        node-offends (test n) i (rowAt bs i .rec) (kidTreesAt bs i) (ctxOf ws at)
         (ap (λ (z : Ctx). test n z (rowAt bs i .rec)) (sym (stands-kept ws ws′ at h)) ∙ sym e ∙ t);
     comes = tt;
     kept = h;
@@ -76,14 +76,14 @@ module _ (bs : List ℕ) (n i : ℕ) (at : Context) (ws : List ℕ) where
       Bound ws (at .top) (inside (rowAt bs i .rec)) ws₁ end → b ≡ test n (ctxOf ws₁ at) (rowAt bs i .rec) → b ≡ false →
       s ≡ rowAt bs i .rec .shape → kids ≡ rowAt bs i .kids →
       WalkedIn bs n (i + 1) kids (below (eqb s 11) end) ws₁ ws₂ r → Walked bs n i at ws ws₂ r
-  unfolding kidsAt restAt size
+  unfolding kidTreesAt restAt size
   subtree-passes ws₁ ws₂ b s kids end r bound e f g h w = record {
     fault =
         w .fault
         ∙ ap (λ (z : Ctx). shift (i + 1) (first (faultsIn (test n) (takeT kids (treesFrom bs (i + 1))) z)))
         (below-is ws₁ s end g (bound .ids))
         ∙ ap (λ (z : ℕ). shift (i + 1) (first (faultsIn (test n) (takeT z (treesFrom bs (i + 1))) under))) h
-        ∙ node-passes (test n) i (rowAt bs i .rec) (kidsAt bs i) (ctxOf ws at)
+        ∙ node-passes (test n) i (rowAt bs i .rec) (kidTreesAt bs i) (ctxOf ws at)
         (ap (λ (z : Ctx). test n z (rowAt bs i .rec)) (sym (stands-kept ws ws₁ at (bound .kept))) ∙ sym e ∙ f);
     comes = came r (w .comes);
     kept = within (at .top) end ws ws₁ ws₂ (bound .least) (bound .kept) (w .kept);
@@ -108,8 +108,8 @@ module _ (bs : List ℕ) (n i : ℕ) (at : Context) (ws : List ℕ) where
   subtree-leaf ws₁ b kids end bound e f h z =
       subtree-passes ws₁ ws₁ b _ 0 end _ bound e f refl (sym z ∙ h) (walked-none bs n (i + 1) _ ws₁)
 
-pub below-stands : (i : ℕ) (at : Context) (d : Bool) (end : ℕ) → Stands i at → end ≤ at .top + 15 →
-    Stands (i + 1) (record { depth = at .depth + 1; def = d; top = end })
+pub below-stands : (i : ℕ) (at : Context) (d : Bool) (end : ℕ) → CanStand i at → end ≤ at .top + 15 →
+    CanStand (i + 1) (record { depth = at .depth + 1; def = d; top = end })
 below-stands i at d end h l = record { shallow = omega (arith, h .shallow); few = omega (arith, h .few) }
 
 -- ---- subtrees in a row
@@ -124,7 +124,7 @@ pub record Walking (bs : List ℕ) (n i count : ℕ) (at : Context) (ws₀ ws : 
   pub kept : Frame (at .top) (end IDS) ws₀ ws
 
 module _ (bs : List ℕ) (n i count : ℕ) (at : Context) (ws₀ : List ℕ) where
-  pub walking-start : count ≤ many (treesFrom bs i) → Stands i at → Walking bs n i count at ws₀ ws₀ i count (at .top)
+  pub walking-start : count ≤ many (treesFrom bs i) → CanStand i at → Walking bs n i count at ws₀ ws₀ i count (at .top)
   walking-start l h = record {
     trees = remains-start bs (test n) i count (ctxOf ws₀ at) l;
     onward = omega arith;
@@ -147,9 +147,9 @@ module _ (bs : List ℕ) (n i count : ℕ) (at : Context) (ws₀ : List ℕ) whe
       pub walking-there : j < recordCount bs
       walking-there = trees-left bs j (omega (arith, h .trees .there))
 
-      pub walking-stands : (c : Context) → c ≡ childOf at (left - 1) top → Stands i at → Stands j c
+      pub walking-stands : (c : Context) → c ≡ childOf at (left - 1) top → CanStand i at → CanStand j c
       walking-stands c e s =
-          subst (λ (z : Context). Stands j z) (sym e)
+          subst (λ (z : Context). CanStand j z) (sym e)
           (record { shallow = omega (arith, s .shallow, h .onward); few = h .few })
 
       pub walking-offends : (ws₁ : List ℕ) (c : Context) (r : Walk) (p : ℕ) → c ≡ childOf at (left - 1) top →
@@ -200,7 +200,7 @@ unfolding takeT many
 take-all nil = refl
 take-all (cons t ts) = ap (cons t) (take-all ts)
 
-module _ (bs : List ℕ) (count : ℕ) (sound : Sound bs) (e : count ≡ treeCount bs) where
+module _ (bs : List ℕ) (count : ℕ) (sound : WellFormed bs) (e : count ≡ treeCount bs) where
   abbrev origin : Context
   origin = record { depth = 1; def = false; top = 0 }
 

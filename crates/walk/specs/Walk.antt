@@ -31,25 +31,25 @@ abbrev pub recAt : List ℕ → ℕ → Rec
 recAt bs i = rowAt bs i .rec
 
 -- the children of record i, what follows its subtree, and the subtree itself
-unfoldable pub kidsAt : List ℕ → ℕ → Trees
-kidsAt bs i = takeT (rowAt bs i .kids) (treesFrom bs (i + 1))
+unfoldable pub kidTreesAt : List ℕ → ℕ → Trees
+kidTreesAt bs i = takeT (rowAt bs i .kids) (treesFrom bs (i + 1))
 
 unfoldable pub restAt : List ℕ → ℕ → Trees
 restAt bs i = dropT (rowAt bs i .kids) (treesFrom bs (i + 1))
 
 abbrev pub treeAt : List ℕ → ℕ → Tree
-treeAt bs i = node (recAt bs i) (kidsAt bs i)
+treeAt bs i = node (recAt bs i) (kidTreesAt bs i)
 
 -- ---- what a walk requires
 
 -- records lie where the directory says, fit their shapes, and close
-pub record Sound (bs : List ℕ) : Type 0 where
+pub record WellFormed (bs : List ℕ) : Type 0 where
   pub laid : Laid bs
   pub fit : check4 bs ≡ none
   pub closed : check6 bs ≡ none
 
 -- record i can stand there: each record before it binds at most 15 ids, and takes the depth up by at most one
-pub record Stands (i : ℕ) (c : Context) : Type 0 where
+pub record CanStand (i : ℕ) (c : Context) : Type 0 where
   pub shallow : c .depth ≤ i + 1
   pub few : c .top ≤ 15 * i
 

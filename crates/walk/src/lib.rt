@@ -21,7 +21,7 @@ ghost use Rattle.record.specs.Record.{Laid};
 ghost use Rattle.regions.specs.Regions.{IDS, end};
 ghost use Rattle.walk.specs.Faults.{reboundAt, unboundAt, anyAt, test};
 ghost use Rattle.walk.specs.Words.{idsOf, argIdsAt, clash, Bound, ctxOf, childOf};
-ghost use Rattle.walk.specs.Walk.{treesFrom, recAt, treeAt, Sound, Stands, Walked, WalkedIn, Checked};
+ghost use Rattle.walk.specs.Walk.{treesFrom, recAt, treeAt, WellFormed, CanStand, Walked, WalkedIn, Checked};
 
 // In place of a check's number: any of the four.
 pub const ANY: u32 = 0;
@@ -99,7 +99,7 @@ fn push_args(lit: &[u8], work: &mut [u32], n: usize, top: usize)
 
 // Puts on top what record i binds in its children. Rules out: a definition's own id; the last argument newest.
 fn enter(forest: &[u8], work: &mut [u32], i: usize, top: usize) -> usize
-    requires { ⌜ Sound (now forest) ⌝ }
+    requires { ⌜ WellFormed (now forest) ⌝ }
     requires { ⌜ (i < recordCount (now forest)) × (top + 15 ≤ IDS .size) × (end IDS ≤ length (now work)) ⌝ }
     ensures { λ r. ⌜ Bound (now (work .entry)) top (inside (recAt (now (forest .entry)) i)) (now (work .exit)) r ⌝ }
 {
@@ -124,7 +124,7 @@ fn id_of(forest: &[u8], i: usize) -> u32
 
 // Puts on top what record i's subtree binds in its later siblings. Rules out: a lambda's arguments; a use's id.
 fn define(forest: &[u8], work: &mut [u32], i: usize, top: usize) -> usize
-    requires { ⌜ Sound (now forest) ⌝ }
+    requires { ⌜ WellFormed (now forest) ⌝ }
     requires { ⌜ (i < recordCount (now forest)) × (top < IDS .size) × (end IDS ≤ length (now work)) ⌝ }
     ensures { λ r. ⌜ Bound (now (work .entry)) top (after (treeAt (now (forest .entry)) i)) (now (work .exit)) r ⌝ }
 {
@@ -150,7 +150,7 @@ fn misplaced(shape: u8, def: bool) -> bool
 
 // Check 9 of record i, with what it binds in its children from top to end.
 fn rebound(forest: &[u8], work: &[u32], i: usize, top: usize, end: usize) -> bool
-    requires { ⌜ Sound (now forest) ⌝ }
+    requires { ⌜ WellFormed (now forest) ⌝ }
     requires { ⌜ (i < recordCount (now forest)) × (top ≤ end) × (end ≤ length (now work)) ⌝ }
     requires { ⌜ idsOf (now work) end ≡ inside (recAt (now forest) i) ++ idsOf (now work) top ⌝ }
     ensures { λ r. ⌜ r ≡ reboundAt (recAt (now (forest .entry)) i) (idsOf (now (work .entry)) top) ⌝ }
@@ -163,7 +163,7 @@ fn rebound(forest: &[u8], work: &[u32], i: usize, top: usize, end: usize) -> boo
 
 // Check 10 of record i.
 fn unbound(forest: &[u8], work: &[u32], i: usize, top: usize) -> bool
-    requires { ⌜ Sound (now forest) ⌝ }
+    requires { ⌜ WellFormed (now forest) ⌝ }
     requires { ⌜ (i < recordCount (now forest)) × (top ≤ length (now work)) ⌝ }
     ensures { λ r. ⌜ r ≡ unboundAt (recAt (now (forest .entry)) i) (idsOf (now (work .entry)) top) ⌝ }
 {
@@ -176,7 +176,7 @@ fn unbound(forest: &[u8], work: &[u32], i: usize, top: usize) -> bool
 // Whether record i fails any of checks 7 to 10.
 // Rules out: false of a record that fails 9 alone; true where the ids that it binds are new.
 fn offends_any(forest: &[u8], work: &[u32], i: usize, at: Context, end: usize) -> bool
-    requires { ⌜ Sound (now forest) ⌝ }
+    requires { ⌜ WellFormed (now forest) ⌝ }
     requires { ⌜ (i < recordCount (now forest)) × (at .top ≤ end) × (end ≤ length (now work)) ⌝ }
     requires { ⌜ idsOf (now work) end ≡ inside (recAt (now forest) i) ++ idsOf (now work) (at .top) ⌝ }
     ensures { λ r. ⌜ r ≡ anyAt (ctxOf (now (work .entry)) at) (recAt (now (forest .entry)) i) ⌝ }
@@ -197,7 +197,7 @@ fn offends_any(forest: &[u8], work: &[u32], i: usize, at: Context, end: usize) -
 // Whether record i fails a check, 7 to 10, or any of them where the number is ANY.
 // Rules out: depth 64 for 7; a definition that is in force in its own value.
 fn offends(forest: &[u8], work: &[u32], number: u32, i: usize, at: Context, end: usize) -> bool
-    requires { ⌜ Sound (now forest) ⌝ }
+    requires { ⌜ WellFormed (now forest) ⌝ }
     requires { ⌜ (i < recordCount (now forest)) × (at .top ≤ end) × (end ≤ length (now work)) ⌝ }
     requires { ⌜ idsOf (now work) end ≡ inside (recAt (now forest) i) ++ idsOf (now work) (at .top) ⌝ }
     ensures { λ r. ⌜ r ≡ test number (ctxOf (now (work .entry)) at) (recAt (now (forest .entry)) i) ⌝ }
@@ -241,8 +241,8 @@ fn child(at: Context, left: usize, top: usize) -> Context
 // The walk of record i's subtree.
 // Rules out: a fault of a later record where this one offends; the record after i's first child.
 pub fn subtree(forest: &[u8], work: &mut [u32], number: u32, i: usize, at: Context) -> Walk
-    requires { ⌜ Sound (now forest) ⌝ }
-    requires { ⌜ (i < recordCount (now forest)) × (end IDS ≤ length (now work)) × Stands i at ⌝ }
+    requires { ⌜ WellFormed (now forest) ⌝ }
+    requires { ⌜ (i < recordCount (now forest)) × (end IDS ≤ length (now work)) × CanStand i at ⌝ }
     ensures { λ r. ⌜ Walked (now (forest .entry)) number i at (now (work .entry)) (now (work .exit)) r ⌝ }
 {
     let top = at.top;
@@ -273,8 +273,8 @@ pub fn subtrees(
     count: usize,
     at: Context,
 ) -> Walk
-    requires { ⌜ Sound (now forest) ⌝ }
-    requires { ⌜ (count ≤ many (treesFrom (now forest) i)) × (end IDS ≤ length (now work)) × Stands i at ⌝ }
+    requires { ⌜ WellFormed (now forest) ⌝ }
+    requires { ⌜ (count ≤ many (treesFrom (now forest) i)) × (end IDS ≤ length (now work)) × CanStand i at ⌝ }
     ensures { λ r. ⌜ WalkedIn (now (forest .entry)) number i count at (now (work .entry)) (now (work .exit)) r ⌝ }
 {
     let mut j = i;
@@ -297,7 +297,7 @@ pub fn subtrees(
 // that one of them fails.
 // Rules out: the place counted in one tree and not in the forest; a check of the first tree only.
 pub fn trees(forest: &[u8], work: &mut [u32], number: u32) -> Place
-    requires { ⌜ Sound (now forest) ⌝ }
+    requires { ⌜ WellFormed (now forest) ⌝ }
     requires { ⌜ end IDS ≤ length (now work) ⌝ }
     ensures { λ r. ⌜ Checked (now (forest .entry)) number (now (work .entry)) (now (work .exit)) r ⌝ }
 {

@@ -8,7 +8,7 @@ use Rattle.model.specs.Forest.{recordCount}
 use Rattle.model.specs.Lister.{opcodeShown}
 use Rattle.key.specs.declared.Node.{Node}
 use Rattle.key.specs.Key.{partsOf}
-use Rattle.symbols.specs.Symbols.{recOf, nodeOf}
+use Rattle.symbols.specs.Symbols.{recOf, modelNode}
 use Rattle.symbols.proofs.Same.{key-opcode}
 use Rattle.lines.proofs.opcode_shown.Statement.{statement}
 use Rattle.lines.proofs.opcode_shown.Tie as tie
@@ -18,9 +18,9 @@ module _ (bs : List ℕ) {n m : Node} (e : n ≡ m) where
   known : partsOf n .source < recordCount bs → partsOf m .source < recordCount bs
   known = subst (λ (z : Node). partsOf z .source < recordCount bs) e
 
-  shown : {r : ℕ} → r ≡ opcodeShown (nodeOf bs m) (recOf bs m .opcode) →
-      r ≡ opcodeShown (nodeOf bs n) (recOf bs n .opcode)
-  shown f = f ∙ ap (λ (z : Node). opcodeShown (nodeOf bs z) (recOf bs z .opcode)) (sym e)
+  shown : {r : ℕ} → r ≡ opcodeShown (modelNode bs m) (recOf bs m .opcode) →
+      r ≡ opcodeShown (modelNode bs n) (recOf bs n .opcode)
+  shown f = f ∙ ap (λ (z : Node). opcodeShown (modelNode bs z) (recOf bs z .opcode)) (sym e)
 
 opcode-requires : tie.Need-opcode-requires
 opcode-requires c κs =

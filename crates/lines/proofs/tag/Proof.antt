@@ -6,13 +6,13 @@ use borrow.Author.Needs.{needs}
 use Rattle.model.specs.Text.{text}
 use Rattle.model.specs.Lister.{tagOf}
 use Rattle.key.specs.declared.Node.{Node}
-use Rattle.symbols.specs.Symbols.{nodeOf}
+use Rattle.symbols.specs.Symbols.{modelNode}
 use Rattle.lines.proofs.tag.Statement.{statement}
 use Rattle.lines.proofs.tag.Tie as tie
 
 -- the letter of the node that n is
-as-node : (bs : List ℕ) {n m : Node} → n ≡ m → tagOf (nodeOf bs m) ≡ tagOf (nodeOf bs n)
-as-node bs e = ap (λ (z : Node). tagOf (nodeOf bs z)) (sym e)
+as-node : (bs : List ℕ) {n m : Node} → n ≡ m → tagOf (modelNode bs m) ≡ tagOf (modelNode bs n)
+as-node bs e = ap (λ (z : Node). tagOf (modelNode bs z)) (sym e)
 
 pub tag-spec : {M : Type 1} → statement M
 unfolding tagOf text

@@ -32,7 +32,7 @@ use Rattle.theory.proofs.Acceptance.Records.{kind-shape, def-child, fit
 use Rattle.theory.proofs.Acceptance.Records.{op-lambda, lam-rec}
 use Rattle.theory.specs.Good.{symCount, scopeCount}
 use Rattle.theory.specs.Inv.{keys}
-use Rattle.theory.specs.Sound.{RecHas, OptsHave, NodeSound, Sound, Room, thunks, Pays}
+use Rattle.theory.specs.Sound.{RecHas, OptsHave, NodeSound, StateSound, Room, thunks, Pays}
 use Rattle.theory.proofs.Bounds.Sound.{every-take, every-drop}
 use Rattle.theory.proofs.Bounds.Sound.{room-less, under-more, Keeps, keeps-none, keeps-then, keeps-less}
 use Rattle.theory.proofs.Bounds.Sound.{KeepsOne, KeepsArgs, KeepsAll}
@@ -89,7 +89,7 @@ plainKids op j (cons t ts) =
 
 abbrev pub KidsKeep : (ℕ → Type 0) → List ℕ → ℕ → Trees → Kids → Type 0
 KidsKeep B ids op ts kids =
-    (cur : ℕ) (env : Env) (st : State) (k c : ℕ) → Sound B st → cur < scopeCount st → EnvLow ids env (symCount st) →
+    (cur : ℕ) (env : Env) (st : State) (k c : ℕ) → StateSound B st → cur < scopeCount st → EnvLow ids env (symCount st) →
     Room st k c → Pays op c → Holds (KeepsAll B st (k + many ts) (c + plainKids op 0 ts) (many ts) op 0)
     (kids cur env st)
 
@@ -172,7 +172,7 @@ use-bound r ts ids known e =
 
 module _ (B : ℕ → Type 0) (b0 : B 0) (b1 : B 1) (b2 : B 2) (at cur : ℕ) (r : Rec) (ts : Trees) (has : RecHas B r)
     (fine : Fine (node r ts)) (ids : List ℕ) (known : Clear (unbound (node r ts) ids)) (env : Env) (kids : Kids)
-    (kk : KidsKeep B (inside r ++ ids) (r .opcode) ts kids) (st : State) (k c : ℕ) (sound : Sound B st)
+    (kk : KidsKeep B (inside r ++ ids) (r .opcode) ts kids) (st : State) (k c : ℕ) (sound : StateSound B st)
     (low : cur < scopeCount st) (envs : EnvLow ids env (symCount st)) (room : Room st (suc k) (suc c)) where
   abbrev Post : ℕ × State → Type 0
   Post = KeepsOne B st (suc k) (suc c)
@@ -330,7 +330,7 @@ module _ (B : ℕ → Type 0) (b0 : B 0) (b1 : B 1) (b2 : B 2) (at cur : ℕ) (r
           opened : scopeCount (openScope cur (some (md .0)) (md .2 .tables) (md .2)) ≡ suc (scopeCount (md .2))
           opened = open-more cur (some (md .0)) (md .2 .tables) (md .2)
 
-          sound2 : Sound B (openScope cur (some (md .0)) (md .2 .tables) (md .2))
+          sound2 : StateSound B (openScope cur (some (md .0)) (md .2 .tables) (md .2))
           sound2 =
               open-sound B cur (some (md .0)) (md .2 .tables) (md .2) (w .keeps .sound)
               (omega (arith, w .keeps .more-scopes)) (w .low)

@@ -5,7 +5,7 @@
 -- Assumes nothing.
 use mathlib.Core.Path.{_≡_, subst}
 use mathlib.Core.List.{List}
-use Prim.Native.Nat.{ℕ, _≤_, _<_}
+use Prim.Native.Nat.{ℕ, _+_, _≤_, _<_}
 use native.Mathlib.Omega.{arith}
 use Rattle.model.specs.Answer.{refused, good, _>>=_}
 use Rattle.model.specs.Tree.{Tree, Trees, node, nil, cons, many}
@@ -17,8 +17,8 @@ use Rattle.laws.proofs.Apart.{good-inj, refused-good}
 use Rattle.laws.proofs.Holds.{Holds}
 use Rattle.laws.specs.Members.{In}
 use Rattle.theory.proofs.Acceptance.Accept.{accepted}
-use Rattle.theory.specs.Good.{symCount, scopeCount, kidsAt}
-use Rattle.theory.specs.Sound.{TreeHas, TreesHave, Sound, Room, Any}
+use Rattle.theory.specs.Good.{symCount, scopeCount, symKids}
+use Rattle.theory.specs.Sound.{TreeHas, TreesHave, StateSound, Room, Any}
 use Rattle.theory.proofs.Bounds.Sound.{room-less, KeepsAll}
 use Rattle.theory.proofs.Bounds.Sound.{slots-limit, scopes-limit}
 use Rattle.theory.proofs.Bounds.Kinds.{plainKids, last-under}
@@ -30,10 +30,10 @@ pub record Limits (st : State) : Type 0 where
   pub symbols : symCount st ≤ 512
   pub readings : st .readings ≤ 2048
   pub scopes : scopeCount st ≤ 2049
-  pub slots : slotsIn (st .syms) ≤ 2560
-  pub kids-low : (i k : ℕ) → i < symCount st → In k (kidsAt (st .syms) i) → k < i
+  pub slots : slotsIn (st .syms) ≤ 2048 + 512
+  pub kids-low : (i k : ℕ) → i < symCount st → In k (symKids (st .syms) i) → k < i
 
-sound-limits : (B : ℕ → Type 0) (st : State) (k c : ℕ) → Sound B st → Room st k c → Limits st
+sound-limits : (B : ℕ → Type 0) (st : State) (k c : ℕ) → StateSound B st → Room st k c → Limits st
 sound-limits B st k c h r = record {
   symbols = h .few-symbols;
   readings = h .few-readings;
@@ -46,7 +46,7 @@ sound-limits B st k c h r = record {
 
 -- what is left of an accepted forest
 pub record Leaves (B : ℕ → Type 0) (o : ℕ × State) : Type 0 where
-  pub sound : Sound B (o .1)
+  pub sound : StateSound B (o .1)
   pub room : Room (o .1) 0 0
   pub root-low : o .0 < symCount (o .1)
 

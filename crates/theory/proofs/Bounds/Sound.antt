@@ -4,12 +4,12 @@
 -- Assumes nothing.
 use mathlib.Core.Path.{_≡_, refl, _∙_}
 use mathlib.Core.List.{List}
-use Prim.Native.Nat.{ℕ, _≤_, _<_}
+use Prim.Native.Nat.{ℕ, _+_, _≤_, _<_}
 use native.Mathlib.Omega.{arith}
 use lib.ListN.{length, take, drop, take-append-drop}
 use Rattle.model.specs.Tree.{Rec, node}
 use Rattle.model.specs.Intern.{Node, constant, unparsed, argument, func, operation, Sym, State}
-use Rattle.theory.specs.Sound.{thunks, NodeSound, SymSound, Sound, Room}
+use Rattle.theory.specs.Sound.{thunks, NodeSound, SymSound, StateSound, Room}
 use Rattle.laws.specs.Slots.{slotsIn}
 use Rattle.laws.specs.Members.{Every, Under}
 use Rattle.laws.proofs.Members.{in-left, in-right}
@@ -30,23 +30,23 @@ room-less st k c j d lj ld h = record { slots-paid = omega arith; scopes-paid = 
 
 -- ---- the limits
 
-pub slots-limit : (B : ℕ → Type 0) (st : State) (k c : ℕ) → Sound B st → Room st k c → slotsIn (st .syms) ≤ 2560
+pub slots-limit : (B : ℕ → Type 0) (st : State) (k c : ℕ) → StateSound B st → Room st k c → slotsIn (st .syms) ≤ 2048 + 512
 slots-limit B st k c h r = omega (arith, h .few-symbols, h .few-readings, r .slots-paid)
 
-pub scopes-limit : (B : ℕ → Type 0) (st : State) (k c : ℕ) → Sound B st → Room st k c → scopeCount st ≤ 2049
+pub scopes-limit : (B : ℕ → Type 0) (st : State) (k c : ℕ) → StateSound B st → Room st k c → scopeCount st ≤ 2049
 scopes-limit B st k c h r = omega (arith, h .few-readings, r .scopes-paid)
 
 -- ---- from one state to a later one
 
 -- st' is sound, with room for k slots and c scopes, has at least what st has, and as many open tables
 pub record Keeps (B : ℕ → Type 0) (st st' : State) (k c : ℕ) : Type 0 where
-  pub sound : Sound B st'
+  pub sound : StateSound B st'
   pub room : Room st' k c
   pub more-syms : symCount st ≤ symCount st'
   pub more-scopes : scopeCount st ≤ scopeCount st'
   pub tables-kept : length (st' .tables) ≡ length (st .tables)
 
-pub keeps-none : (B : ℕ → Type 0) (st : State) (k c : ℕ) → Sound B st → Room st k c → Keeps B st st k c
+pub keeps-none : (B : ℕ → Type 0) (st : State) (k c : ℕ) → StateSound B st → Room st k c → Keeps B st st k c
 keeps-none B st k c h r =
     record { sound = h; room = r; more-syms = omega arith; more-scopes = omega arith; tables-kept = refl }
 

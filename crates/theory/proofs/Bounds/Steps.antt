@@ -27,14 +27,14 @@ use Rattle.theory.specs.Inv.{InAny}
 use Rattle.theory.proofs.Interning.Inv.{lt-or}
 use Rattle.theory.proofs.Interning.Push.{unionDeps-from, one-more}
 use Rattle.theory.proofs.Interning.Finish.{lookup-found}
-use Rattle.theory.specs.Sound.{RecHas, thunks, NodeSound, SymSound, scopeOf, Sound, Room}
+use Rattle.theory.specs.Sound.{RecHas, thunks, NodeSound, SymSound, scopeOf, StateSound, Room}
 use Rattle.theory.proofs.Bounds.Sound.{room-less, keeps-none, keeps-then, keeps-less, KeepsOne, KeepsArgs}
 use Rattle.theory.proofs.Bounds.Sound.{sym-more}
 
 -- ---- a new symbol
 
 -- the scopes from `cur` outward
-outward-low : (B : ℕ → Type 0) (cur : ℕ) (st : State) → Sound B st → cur < scopeCount st →
+outward-low : (B : ℕ → Type 0) (cur : ℕ) (st : State) → StateSound B st → cur < scopeCount st →
     Under (scopeCount st) (cur ∷ scopeOf st cur .around)
 outward-low B cur st h l x (inl e) = omega arith
 outward-low B cur st h l x (inr i) = omega (arith, h .around-low cur l x i)
@@ -65,7 +65,7 @@ enter-length n [] = refl
 enter-length n (t ∷ ts) = refl
 
 module _ (B : ℕ → Type 0) (at cur : ℕ) (r : Rec) (has : RecHas B r) where
-  push-keeps : (ks deps : List ℕ) (b : Bool) (nd : Node) (st : State) (k c : ℕ) → Sound B st → cur < scopeCount st →
+  push-keeps : (ks deps : List ℕ) (b : Bool) (nd : Node) (st : State) (k c : ℕ) → StateSound B st → cur < scopeCount st →
       symCount st < 512 → Under (symCount st) ks → Under (suc (symCount st)) deps →
       NodeSound B (symCount st) (scopeCount st) r ks nd →
       Room st (k + length ks) c → KeepsOne B st (suc k) c (symCount st, push cur r ks deps b nd st)
@@ -134,7 +134,7 @@ module _ (B : ℕ → Type 0) (at cur : ℕ) (r : Rec) (has : RecHas B r) where
       kept true = enter-length n (st .tables)
       kept false = refl
 
-  alloc-keeps : (ks deps : List ℕ) (b : Bool) (nd : Node) (st : State) (k c : ℕ) → Sound B st → cur < scopeCount st →
+  alloc-keeps : (ks deps : List ℕ) (b : Bool) (nd : Node) (st : State) (k c : ℕ) → StateSound B st → cur < scopeCount st →
       Under (symCount st) ks → Under (suc (symCount st)) deps → NodeSound B (symCount st) (scopeCount st) r ks nd →
       Room st (k + length ks) c → Holds (KeepsOne B st (suc k) c) (alloc at cur r ks deps b nd st)
   unfolding alloc
@@ -145,7 +145,7 @@ module _ (B : ℕ → Type 0) (at cur : ℕ) (r : Rec) (has : RecHas B r) where
   -- the symbol of a key, found or made: room for j slots is left, if there is room for all of them before or for the
   -- new ones
   pub finish-keeps : (ks own : List ℕ) (nd : Node) (st : State) (k c j : ℕ) → j ≤ k + length ks → j ≤ suc k →
-      Sound B st → cur < scopeCount st → Under (symCount st) ks → NodeSound B (symCount st) (scopeCount st) r ks nd →
+      StateSound B st → cur < scopeCount st → Under (symCount st) ks → NodeSound B (symCount st) (scopeCount st) r ks nd →
       Room st (k + length ks) c → Holds (KeepsOne B st j c) (finish at cur r ks own nd st)
   unfolding finish
   finish-keeps ks own nd st k c j lj ls h cl kl ns rm = go (lookup (st .syms) r ks (st .tables)) refl
@@ -177,7 +177,7 @@ module _ (B : ℕ → Type 0) (at cur : ℕ) (r : Rec) (has : RecHas B r) where
 
   -- ---- arguments
 
-  pub allocArgs-keeps : (xs : List (ℕ × List ℕ)) (st : State) (k c : ℕ) → Sound B st → cur < scopeCount st →
+  pub allocArgs-keeps : (xs : List (ℕ × List ℕ)) (st : State) (k c : ℕ) → StateSound B st → cur < scopeCount st →
       Room st k c → Holds (KeepsArgs B st k c (length xs)) (allocArgs at cur r xs st)
   unfolding allocArgs
   allocArgs-keeps [] st k c h cl rm =
@@ -205,8 +205,8 @@ module _ (B : ℕ → Type 0) (at cur : ℕ) (r : Rec) (has : RecHas B r) where
 
 -- ---- projections
 
-remember-sound : (B : ℕ → Type 0) (p a b : ℕ) (st : State) → a < symCount st → b < symCount st → Sound B st →
-    Sound B (remember p a b st)
+remember-sound : (B : ℕ → Type 0) (p a b : ℕ) (st : State) → a < symCount st → b < symCount st → StateSound B st →
+    StateSound B (remember p a b st)
 unfolding recall
 remember-sound B p a b st la lb h = record {
   few-symbols = h .few-symbols;
@@ -259,7 +259,7 @@ module _ (B : ℕ → Type 0) (b0 : B 0) (b1 : B 1) (b2 : B 2) (at cur : ℕ) (r
   one-under p n l x (inr i) = absurd i
 
   -- one projection: a slot is taken, and a symbol pays for it
-  projection-keeps : (j : ℕ) → B j → (p : ℕ) (st : State) (k c : ℕ) → Sound B st → cur < scopeCount st →
+  projection-keeps : (j : ℕ) → B j → (p : ℕ) (st : State) (k c : ℕ) → StateSound B st → cur < scopeCount st →
       p < symCount st →
       Room st (suc k) c → Holds (KeepsOne B st (suc k) c)
       (finish at cur (rec (r .shape) (r .opcode) 0 (j ∷ [])) (p ∷ []) [] (operation []) st)
@@ -268,7 +268,7 @@ module _ (B : ℕ → Type 0) (b0 : B 0) (b1 : B 1) (b2 : B 2) (at cur : ℕ) (r
       (one-under p (symCount st) pl) (λ x i. absurd i, omega arith, sym (field-thunks (r .opcode) op (p ∷ [])))
       (room-less st (suc k) c (k + 1) c (omega arith) (omega arith) rm)
 
-  pub projections-keep : (i p : ℕ) (st : State) (k c : ℕ) → Sound B st → cur < scopeCount st → p < symCount st →
+  pub projections-keep : (i p : ℕ) (st : State) (k c : ℕ) → StateSound B st → cur < scopeCount st → p < symCount st →
       Room st (suc k) c → Holds (KeepsOne B st (suc k) c) (pairProjection at cur r i p st)
   unfolding pairProjection newProjections
   projections-keep i p st k c h cl pl rm = go (recall (st .memo) p) refl
@@ -308,8 +308,8 @@ last-scope scs s = getD-append-seam scs s [] rootScope
 
 -- a scope opens, with tables that hold no more than those there are
 pub open-sound : (B : ℕ → Type 0) (cur : ℕ) (args : Option (List ℕ)) (ts : List (List ℕ)) (st : State) →
-    Sound B st → cur < scopeCount st → Under (symCount st) (argsIn args) → 1 ≤ length ts →
-    ((i : ℕ) → InAny i ts → InAny i (st .tables)) → Sound B (openScope cur args ts st)
+    StateSound B st → cur < scopeCount st → Under (symCount st) (argsIn args) → 1 ≤ length ts →
+    ((i : ℕ) → InAny i ts → InAny i (st .tables)) → StateSound B (openScope cur args ts st)
 open-sound B cur args ts st h cl al to tl = record {
   few-symbols = h .few-symbols;
   few-readings = h .few-readings;
@@ -350,7 +350,7 @@ pub open-more : (cur : ℕ) (args : Option (List ℕ)) (ts : List (List ℕ)) (s
 open-more cur args ts st = simp length-append (omega arith)
 
 -- a reading pays for a slot and a scope
-pub read-sound : (B : ℕ → Type 0) (st : State) → st .readings < 2048 → Sound B st → Sound B (read st)
+pub read-sound : (B : ℕ → Type 0) (st : State) → st .readings < 2048 → StateSound B st → StateSound B (read st)
 read-sound B st l h = record {
   few-symbols = h .few-symbols;
   few-readings = l;

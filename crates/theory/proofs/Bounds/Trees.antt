@@ -26,7 +26,7 @@ use Rattle.laws.specs.Members.{Under}
 use Rattle.theory.specs.Checked.{Fine, Fines, CheckedIn}
 use Rattle.theory.specs.Good.{argsIn, symCount, scopeCount}
 use Rattle.theory.proofs.Interning.Inv.{any-opened, any-closed}
-use Rattle.theory.specs.Sound.{TreeHas, TreesHave, scopeOf, Sound, Room, thunks, Pays}
+use Rattle.theory.specs.Sound.{TreeHas, TreesHave, scopeOf, StateSound, Room, thunks, Pays}
 use Rattle.theory.proofs.Bounds.Sound.{room-less, keeps-none}
 use Rattle.theory.proofs.Bounds.Sound.{keeps-then, keeps-less, KeepsOne, KeepsAll}
 use Rattle.theory.proofs.Bounds.Steps.{open-sound, open-room, open-more, read-sound, read-room}
@@ -72,15 +72,15 @@ pub record Scoped (B : ℕ → Type 0) (t : Bool) (st : State) (k c : ℕ) (o : 
   pub one : KeepsOne B st k (scopeFree t c) o
   pub opened : t ≡ true → scopeCount st < scopeCount (o .1)
 
-pub thunk-sound : (B : ℕ → Type 0) (cur : ℕ) (st : State) → Sound B st → cur < scopeCount st →
-    Sound B (openThunk cur st)
+pub thunk-sound : (B : ℕ → Type 0) (cur : ℕ) (st : State) → StateSound B st → cur < scopeCount st →
+    StateSound B (openThunk cur st)
 thunk-sound B cur st h l =
     open-sound B cur none ([] ∷ st .tables) st h l (λ x i. absurd i) (omega arith)
     (λ i k. any-opened i (st .tables) k)
 
-scoped-keeps : (B : ℕ → Type 0) (t : Bool) (cur : ℕ) (child : ℕ → State → Out) (st : State) (k c : ℕ) → Sound B st →
+scoped-keeps : (B : ℕ → Type 0) (t : Bool) (cur : ℕ) (child : ℕ → State → Out) (st : State) (k c : ℕ) → StateSound B st →
     cur < scopeCount st → Room st k c → (t ≡ true → 1 ≤ c) →
-    ((d : ℕ) (s : State) (e : ℕ) → Sound B s → d < scopeCount s → symCount s ≡ symCount st → Room s k e →
+    ((d : ℕ) (s : State) (e : ℕ) → StateSound B s → d < scopeCount s → symCount s ≡ symCount st → Room s k e →
     Holds (KeepsOne B s (suc k) (suc e)) (child d s)) →
     Holds (Scoped B t st (suc k) c) (internScoped t cur child st)
 unfolding internScoped
@@ -150,7 +150,7 @@ mutual
 
   pub intern-keeps : (B : ℕ → Type 0) → B 0 → B 1 → B 2 → (t : Tree) (ids : List ℕ) → TreeHas B t → Fine t →
       Clear (unbound t ids) →
-      (at cur : ℕ) (env : Env) (st : State) (k c : ℕ) → Sound B st → cur < scopeCount st →
+      (at cur : ℕ) (env : Env) (st : State) (k c : ℕ) → StateSound B st → cur < scopeCount st →
       EnvLow ids env (symCount st) →
       Room st k c → Holds (KeepsOne B st (suc k) (suc c)) (intern t at cur env st)
   intern-keeps B b0 b1 b2 (node r ts) ids has fine known at cur env st k c h l en rm =
@@ -176,7 +176,7 @@ mutual
 
   pub all-keep : (B : ℕ → Type 0) → B 0 → B 1 → B 2 → (ts : Trees) (ids : List ℕ) → TreesHave B ts → Fines ts →
       Clear (unboundIn ts ids) →
-      (op j at cur : ℕ) (env : Env) (st : State) (k c : ℕ) → Sound B st → cur < scopeCount st →
+      (op j at cur : ℕ) (env : Env) (st : State) (k c : ℕ) → StateSound B st → cur < scopeCount st →
       EnvLow ids env (symCount st) →
       Room st k c → Pays op c →
       Holds (KeepsAll B st (k + many ts) (c + plainKids op j ts) (many ts) op j) (internAll ts op j at cur env st)
@@ -209,7 +209,7 @@ mutual
 -- a tree as an operand, in its own thunk or not
 pub child-keeps : (B : ℕ → Type 0) → B 0 → B 1 → B 2 → (t : Tree) (ids : List ℕ) → TreeHas B t → Fine t →
     Clear (unbound t ids) →
-    (op j at cur : ℕ) (env : Env) (st : State) (k c : ℕ) → Sound B st → cur < scopeCount st →
+    (op j at cur : ℕ) (env : Env) (st : State) (k c : ℕ) → StateSound B st → cur < scopeCount st →
     EnvLow ids env (symCount st) →
     Room st k c → Pays op c →
     Holds (Scoped B (thunked op j) st (suc k) c) (internScoped (thunked op j) cur (λ d s. intern t at d env s) st)
@@ -220,7 +220,7 @@ child-keeps B b0 b1 b2 t ids has fine known op j at cur env st k c h l en rm ps 
 
 -- ---- forests
 
-pub start-sound : (B : ℕ → Type 0) → Sound B start
+pub start-sound : (B : ℕ → Type 0) → StateSound B start
 unfolding start recall
 start-sound B = record {
   few-symbols = omega arith;

@@ -33,7 +33,7 @@ use Rattle.theory.proofs.Meaning.Mean.{Val, bindSyms, meanAll, mean}
 use Rattle.theory.proofs.Meaning.Coincide.{mean-lam, mean-plain}
 use Rattle.theory.specs.Checked.{FitsWith, Checked, CheckedIn}
 use Rattle.theory.proofs.Acceptance.Checked.{plain-join, nil-checked}
-use Rattle.theory.specs.Good.{noArg, argsAt, out, PairOk, PairsOk, Plain, Lam, NodeOk, Goods, depsAt, kidsAt, nodeAt, recAt, scopeAt}
+use Rattle.theory.specs.Good.{noArg, argsAt, out, PairOk, PairsOk, Plain, Lam, NodeOk, Goods, depsAt, symKids, nodeAt, recAt, scopeAt}
 use Rattle.theory.proofs.Interning.Good.{lam-of}
 use Rattle.theory.proofs.Building.Written.{use-unfold, use-checked, plain-unfold, plain-checked, lam-unfold}
 use Rattle.theory.proofs.Building.Written.{lam-checked}
@@ -41,9 +41,9 @@ use Rattle.theory.proofs.Building.Numbered.{numbered, numbered-opts, nu
 use Rattle.theory.proofs.Building.Numbered.{lam-fits, lam-agrees}
 use Rattle.theory.proofs.Building.Given.{Covers, EnvFor, env-lower, IdsOk, Stand, Small, Built, Builds}
 use Rattle.theory.proofs.Building.Given.{none-given, lastIn, InBody, in-body}
-use Rattle.theory.proofs.Building.Scopes.{Sound, scope-built}
+use Rattle.theory.proofs.Building.Scopes.{GraphSound, scope-built}
 
-module _ (g : Graph) (n : ℕ) (sound : Sound g n) where
+module _ (g : Graph) (n : ℕ) (sound : GraphSound g n) where
   abbrev fin : List Sym
   fin = g .syms
 
@@ -82,7 +82,7 @@ module _ (g : Graph) (n : ℕ) (sound : Sound g n) where
   -- ---- a symbol that binds nothing
 
   plain-built : (env : Env) (last s : ℕ) (ts : Trees) → s < n → Plain fin s → noArg (nodeAt fin s) ≡ true →
-      BuiltAll env last (kidsAt fin s) ts → Built fin env last s (node (recAt fin s) ts)
+      BuiltAll env last (symKids fin s) ts → Built fin env last s (node (recAt fin s) ts)
   unfolding size
   plain-built env last s ts l p na q = record {
     means = λ ρ ms st d.
@@ -96,7 +96,7 @@ module _ (g : Graph) (n : ℕ) (sound : Sound g n) where
       fits : FitsWith (recAt fin s) (many ts)
       fits = rw (q .count) (p .fits-is)
 
-  leaf-built : (env : Env) (last s : ℕ) → s < n → Plain fin s → noArg (nodeAt fin s) ≡ true → kidsAt fin s ≡ [] →
+  leaf-built : (env : Env) (last s : ℕ) → s < n → Plain fin s → noArg (nodeAt fin s) ≡ true → symKids fin s ≡ [] →
       Built fin env last s (node (recAt fin s) nil)
   leaf-built env last s l p na e = plain-built env last s nil l p na (rw e (built-nil env last))
 
@@ -155,7 +155,7 @@ module _ (g : Graph) (n : ℕ) (sound : Sound g n) where
           node (rec 12 0xD9 (length xs) (argLit last xs))
           (cons (processScope g f k b (argEnv last xs env) (lastIn last xs)) nil)
 
-      lambda-built : Built fin env last s (lambdaOf (getD (kidsAt fin s) 0 0))
+      lambda-built : Built fin env last s (lambdaOf (getD (symKids fin s) 0 0))
       unfolding lm unfoldAll meanAll size many
       lambda-built = rw (lm .kids-is) (record { means = means; checked = checked })
         where
@@ -195,7 +195,7 @@ module _ (g : Graph) (n : ℕ) (sound : Sound g n) where
               standing : Stand fin (argEnv last xs env) inner σ
               standing = inside .stands ρ ms st d
 
-              kids : meanAll (mean fin) (kidsAt fin s) σ (suc d) ≡ unfoldAll (cons body nil) inner (suc d)
+              kids : meanAll (mean fin) (symKids fin s) σ (suc d) ≡ unfoldAll (cons body nil) inner (suc d)
               kids =
                   ap (λ (z : List ℕ). meanAll (mean fin) z σ (suc d)) (lm .kids-is)
                   ∙ sym (ap (λ (u : Unfolded). more u done) (right-body .means σ inner standing (suc d)))
@@ -231,7 +231,7 @@ module _ (g : Graph) (n : ℕ) (sound : Sound g n) where
     node-built e cov sc (func xs b) q k = lambda-built xs b q cov
     node-built e cov sc (operation brs) q k =
         plain-built env last s _ l (k .0) (ap noArg q)
-        (kids-built sc (recAt fin s .opcode) 0 (kidsAt fin s) brs (sound .good s l .low)
+        (kids-built sc (recAt fin s .opcode) 0 (symKids fin s) brs (sound .good s l .low)
         (λ i m a d. cov a (k .0 .cover i a m d)) (k .1))
 
     step-built : (sc : ℕ) → Covers fin env s → Built fin env last s (buildStep g f s sc env last)
@@ -275,7 +275,7 @@ pub root-built : (g : Graph) (n : ℕ) → Goods (g .syms) (g .scopes) n →
     (r : ℕ) → r < n → PairOk (g .syms) (g .scopes) r 0 → ((a : ℕ) → In a (depsAt (g .syms) r) → ⊥) →
     Built (g .syms) [] 0 r (processScope g (buildValue g) r 0 [] 0)
 root-built g n good placed scoped r l pair closed =
-    let sound : Sound g n = record { good = good; placed = placed; scoped = scoped } in
+    let sound : GraphSound g n = record { good = good; placed = placed; scoped = scoped } in
     scope-built g n sound (buildValue g) r 0 l (λ k lk. value-built g n sound k (omega arith)) pair [] 0
     (record {
       ids-low = λ t i e. absurd (none-given t i e);

@@ -20,14 +20,14 @@ use Rattle.laws.specs.Members.{In, Every}
 use Rattle.laws.proofs.Walks.{under-holds, every-none, every-if, every-rel, visit-every, body-every, collect-every}
 use Rattle.laws.proofs.Walks.{order-every}
 use Rattle.laws.specs.ArgLists.{ArgList, symsIn}
-use Rattle.theory.specs.Good.{NodeOk, Goods, depsAt, kidsAt, nodeAt}
+use Rattle.theory.specs.Good.{NodeOk, Goods, depsAt, symKids, nodeAt}
 use Rattle.theory.proofs.Interning.Good.{lam-cover}
 
 -- ---- reached by children
 
 pub data Below (ss : List Sym) (r : ℕ) : ℕ → Type 0 where
   here : Below ss r r
-  kid : (y k : ℕ) → Below ss r y → In k (kidsAt ss y) → Below ss r k
+  kid : (y k : ℕ) → Below ss r y → In k (symKids ss y) → Below ss r k
 
 below-then : (ss : List Sym) (r y s : ℕ) → Below ss r y → Below ss y s → Below ss r s
 below-then ss r y s h here = h
@@ -96,7 +96,7 @@ module _ (ss : List Sym) (scs : List Scope) (n : ℕ) (good : Goods ss scs n) (r
   below-low s here = omega arith
   below-low s (kid y k b m) = let l = below-low y b in omega (arith, l, good y (omega (arith, l, low)) .low k m)
 
-  kid-deps : (y k a : ℕ) → y ≤ r → In k (kidsAt ss y) → In a (depsAt ss k) → In a (depsAt ss y) ⊎ BoundUpTo ss r a
+  kid-deps : (y k a : ℕ) → y ≤ r → In k (symKids ss y) → In a (depsAt ss k) → In a (depsAt ss y) ⊎ BoundUpTo ss r a
   kid-deps y k a l m d = go (nodeAt ss y) refl (good y (omega (arith, l, low)) .node-is)
     where
       go : (nd : Node) → nodeAt ss y ≡ nd → NodeOk ss scs y nd → In a (depsAt ss y) ⊎ BoundUpTo ss r a

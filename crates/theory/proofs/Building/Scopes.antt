@@ -39,7 +39,7 @@ use Rattle.theory.proofs.Building.Given.{env-def, ids-def, stand-def}
 -- ---- what building rests on
 
 -- symbols are good; one that depends on an argument lies within the scope that has it; a lambda's body has a scope
-pub record Sound (g : Graph) (n : ℕ) : Type 0 where
+pub record GraphSound (g : Graph) (n : ℕ) : Type 0 where
   pub good : Goods (g .syms) (g .scopes) n
   pub placed : (s a b : ℕ) → s < n → noArg (nodeAt (g .syms) s) ≡ true → In a (depsAt (g .syms) s) →
       b < length (g .scopes) → In a (argsAt (g .scopes) b) → In b (out (g .scopes) (scopeAt (g .syms) s))
@@ -52,7 +52,7 @@ no-arg argument e = e
 no-arg (func xs b) e = refl
 no-arg (operation brs) e = refl
 
-module _ (g : Graph) (n : ℕ) (sound : Sound g n) where
+module _ (g : Graph) (n : ℕ) (sound : GraphSound g n) where
   abbrev fin : List Sym
   fin = g .syms
 

@@ -36,7 +36,7 @@ use Rattle.theory.proofs.Interning.Fresh.{ArgsMade, allocArgs-keeps, bi
 use Rattle.theory.proofs.Interning.Fresh.{bindArgs-cases, env-bind, EnvSem, Binds, bindSyms-binds, sem-bind}
 use Rattle.theory.proofs.Interning.Scopes.{open-grows, open-is, open-inv}
 use Rattle.theory.proofs.Interning.Lambda.{lamOf, argsWith, withArgs, BodyRead, LamDone, finish-lambda}
-use Rattle.theory.proofs.Interning.Keep.{Symbols, Unfolding, AllStand, Kept, KeptAll, one-last, last-in}
+use Rattle.theory.proofs.Interning.Keep.{Symbols, Unfolding, AllStand, KeepsMeaning, KeepsMeanings, one-last, last-in}
 
 -- ---- the arguments and the body's scope
 
@@ -132,7 +132,7 @@ lambdaOf r ts ms d = lamOf r (optsIn (boundBy r)) (unfoldAll ts (bindFrom (suc d
 abbrev pub BodyKeeps : Kids → Rec → Env → Trees → Type 0
 BodyKeeps kids r env ts =
     (c : ℕ) (e : Env) (B : Args) (s : State) → keys e ≡ argIds r ++ keys env →
-    Holds (KeptAll s B c e (r .opcode) 0 false ts) (kids c e s)
+    Holds (KeepsMeanings s B c e (r .opcode) 0 false ts) (kids c e s)
 
 -- `apart`: the lambda's ids are not in force outside, by check 9
 module _
@@ -141,7 +141,7 @@ module _
   -- after the arguments md, the body os has been read in its scope
   abbrev Body : Symbols → Symbols → Type 0
   Body md os =
-      KeptAll (opened cur md) (withArgs r (md .0) A) (scopeCount (md .2)) (withArgs r (md .0) env)
+      KeepsMeanings (opened cur md) (withArgs r (md .0) A) (scopeCount (md .2)) (withArgs r (md .0) env)
       (r .opcode) 0 false ts os
 
   module _
@@ -185,7 +185,7 @@ module _
   -- the arguments are made, the body has been read, and the lambda's symbol is found or made
   lambda-kept : {st : State} {md os : Symbols} {o : ℕ × State} → ArgsDone st A cur r md → Body md os →
       LamDone (os .2) (o .1) A cur (scopeCount (md .2)) r (md .0) (last (os .0)) (o .0) →
-      Kept st A cur env (lambdaOf r ts) o
+      KeepsMeaning st A cur env (lambdaOf r ts) o
   lambda-kept {st} {md} {os} {o} made body done = record {
     grows =
         grow-then st (md .2) (o .1) (made .step .grows)
@@ -201,13 +201,13 @@ module _
       lambda : Unfoldeds → Unfolded
       lambda u = lamOf r (optsIn (boundBy r)) u
 
-  pub internFunc-keeps : (st : State) → Holds (Kept st A cur env (lambdaOf r ts)) (internFunc at cur r env kids st)
+  pub internFunc-keeps : (st : State) → Holds (KeepsMeaning st A cur env (lambdaOf r ts)) (internFunc at cur r env kids st)
   unfolding internFunc argIds
   internFunc-keeps st =
       holds-bind (ArgsDone st A cur r) P (allocArgs at cur r (boundBy r) st) _ (args-done at cur r st A) after-made
     where
       P : ℕ × State → Type 0
-      P o = Kept st A cur env (lambdaOf r ts) o
+      P o = KeepsMeaning st A cur env (lambdaOf r ts) o
 
       after-made : (md : Symbols) → ArgsDone st A cur r md → Holds P
           (kids (scopeCount (md .2)) (withArgs r (md .0) env) (opened cur md) >>= λ os.

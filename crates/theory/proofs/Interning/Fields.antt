@@ -29,7 +29,7 @@ use Rattle.theory.proofs.Interning.Good.{plain-of}
 use Rattle.theory.specs.Inv.{Args, argSyms, FieldOk, Inv}
 use Rattle.theory.proofs.Interning.Inv.{env-later, grow-none, grow-same}
 use Rattle.theory.proofs.Interning.Finish.{Result, Made, Step, finish-plain, step-then, result-later}
-use Rattle.theory.proofs.Interning.Keep.{Symbols, Kept, KeptAll, PlainRec, madeOf, one-last, last-in}
+use Rattle.theory.proofs.Interning.Keep.{Symbols, KeepsMeaning, KeepsMeanings, PlainRec, madeOf, one-last, last-in}
 use Rattle.theory.proofs.Interning.Keep.{made-stands, finish-keeps, internGeneral-keeps}
 
 -- ---- field j of a symbol
@@ -183,10 +183,10 @@ pairProjection-keeps at cur A r i p st e f =
 -- `reads`: the input may be read from any state
 module _
     (at cur : ℕ) (r : Rec) (env : Env) (A : Args) (ts : Trees) (kids : Kids)
-    (reads : (s : State) → Holds (KeptAll s A cur env (r .opcode) 0 false ts) (kids cur env s))
+    (reads : (s : State) → Holds (KeepsMeanings s A cur env (r .opcode) 0 false ts) (kids cur env s))
     (plain : PlainRec r (many ts)) (one : many ts ≡ 1) (is : r ≡ fieldRec (getD (r .lit) 0 0)) where
-  pub internField-keeps : (st : State) (os : Symbols) → KeptAll st A cur env (r .opcode) 0 false ts os →
-      Holds (Kept st A cur env (madeOf r ts)) (internField at cur r env kids (os .0) (os .2))
+  pub internField-keeps : (st : State) (os : Symbols) → KeepsMeanings st A cur env (r .opcode) 0 false ts os →
+      Holds (KeepsMeaning st A cur env (madeOf r ts)) (internField at cur r env kids (os .0) (os .2))
   unfolding internField
   internField-keeps st os k =
       go (eqb (getD (r .lit) 0 0) 1) refl (eqb (getD (r .lit) 0 0) 2) refl
@@ -199,7 +199,7 @@ module _
       p = last (os .0)
 
       P : ℕ × State → Type 0
-      P o = Kept st A cur env (madeOf r ts) o
+      P o = KeepsMeaning st A cur env (madeOf r ts) o
 
       input : os .0 ≡ p ∷ []
       input = one-last (os .0) (k .count ∙ one)
@@ -215,7 +215,7 @@ module _
       -- of a Tuple: the input is read again
       again : Holds P (internGeneral at cur r (kids cur env (os .2)))
       again =
-          holds-map (Kept (os .2) A cur env (madeOf r ts)) P (internGeneral at cur r (kids cur env (os .2)))
+          holds-map (KeepsMeaning (os .2) A cur env (madeOf r ts)) P (internGeneral at cur r (kids cur env (os .2)))
           (internGeneral-keeps at cur r env A ts (os .2) (kids cur env (os .2)) plain (reads (os .2))) λ o s.
           step-then (k .step) s
           (λ fin scs ok w. env-later fin (symCount st) (symCount (os .2)) env A (k .step .grows .more-syms) ok)

@@ -24,7 +24,7 @@ use Rattle.laws.proofs.Apart.{none-some}
 use Rattle.laws.proofs.Holds.{Holds, holds-guard}
 use Rattle.laws.specs.Members.{In}
 use Rattle.laws.proofs.Members.{and-both, same-true, sameRec-true, without-keeps, without-cases}
-use Rattle.theory.specs.Good.{recAt, kidsAt, depsAt, nodeAt, symCount, isPlain, noArg, PairsOk, Plain, NodeOk, SymOk}
+use Rattle.theory.specs.Good.{recAt, symKids, depsAt, nodeAt, symCount, isPlain, noArg, PairsOk, Plain, NodeOk, SymOk}
 use Rattle.theory.proofs.Interning.Good.{plain-of}
 use Rattle.theory.specs.Inv.{Args, argSyms, InAny, Inv, Fits, Grow}
 use Rattle.theory.proofs.Interning.Inv.{grow-none, grow-then, fits-back}
@@ -58,11 +58,11 @@ module _ (ss : List Sym) (r : Rec) (ks : List ℕ) where
       go none k rest e = (inr (rest e .0), rest e .1)
 
   -- what has the key has its record and children
-  pub isKey-true : (i : ℕ) → isKey ss r ks i ≡ true → (recAt ss i ≡ r) × (kidsAt ss i ≡ ks)
+  pub isKey-true : (i : ℕ) → isKey ss r ks i ≡ true → (recAt ss i ≡ r) × (symKids ss i ≡ ks)
   unfolding isKey
   isKey-true i e =
-      let p = and-both (sameRec (recAt ss i) r) (same (kidsAt ss i) ks) e in
-      (sameRec-true (recAt ss i) r (p .0), same-true (kidsAt ss i) ks (p .1))
+      let p = and-both (sameRec (recAt ss i) r) (same (symKids ss i) ks) e in
+      (sameRec-true (recAt ss i) r (p .0), same-true (symKids ss i) ks (p .1))
 
 -- ---- what a step owes
 
@@ -81,7 +81,7 @@ result-later m l h = record { low = omega (arith, h .low); within = h .within }
 pub record Made (fin : List Sym) (n : ℕ) (A : Args) (r : Rec) (ks : List ℕ) (s : ℕ) : Type 0 where
   pub result : Result fin n A s
   pub rec-is : recAt fin s ≡ r
-  pub kids-is : kidsAt fin s ≡ ks
+  pub kids-is : symKids fin s ≡ ks
   pub made-is : noArg (nodeAt fin s) ≡ true
 
 -- a node for a plain record with these children
@@ -154,7 +154,7 @@ module _ (cur : ℕ) (r : Rec) (ks : List ℕ) (st : State) (A : Args) (fin : Li
       w : InAny i (st .tables) × (isKey (st .syms) r ks i ≡ true)
       w = lookup-found (st .syms) r ks (st .tables) i e
 
-      key : (recAt (st .syms) i ≡ r) × (kidsAt (st .syms) i ≡ ks)
+      key : (recAt (st .syms) i ≡ r) × (symKids (st .syms) i ≡ ks)
       key = isKey-true (st .syms) r ks i (w .1)
 
       low : i < symCount st
@@ -166,7 +166,7 @@ module _ (cur : ℕ) (r : Rec) (ks : List ℕ) (st : State) (A : Args) (fin : Li
       rec-is : recAt fin i ≡ r
       rec-is = sym (ap (λ (z : Sym). z .rec) (f .syms-fit i low)) ∙ key .0
 
-      kids-is : kidsAt fin i ≡ ks
+      kids-is : symKids fin i ≡ ks
       kids-is = sym (ap (λ (z : Sym). z .kids) (f .syms-fit i low)) ∙ key .1
 
       plain : Plain fin i

@@ -10,7 +10,7 @@ use mathlib.Core.List.{List, [], _∷_}
 use Prim.Native.Nat.{ℕ}
 use Rattle.model.specs.Binding.{kind}
 use Rattle.model.specs.Intern.{Node, constant, unparsed, argument, func, operation, Sym, Scope}
-use Rattle.theory.specs.Good.{recAt, kidsAt, depsAt, nodeAt, isPlain, noArg, Plain, Lam, NodeOk, SymOk}
+use Rattle.theory.specs.Good.{recAt, symKids, depsAt, nodeAt, isPlain, noArg, Plain, Lam, NodeOk, SymOk}
 use Rattle.laws.proofs.Apart.{false-true}
 use Rattle.laws.specs.Members.{In}
 use Rattle.laws.proofs.Members.{clash}
@@ -24,7 +24,7 @@ unfolding kind
 lambda-not-plain s e = rw e
 
 module _ (fin : List Sym) (scs : List Scope) (i : ℕ) where
-  pub arg-of : SymOk fin scs i → nodeAt fin i ≡ argument → (depsAt fin i ≡ i ∷ []) × (kidsAt fin i ≡ [])
+  pub arg-of : SymOk fin scs i → nodeAt fin i ≡ argument → (depsAt fin i ≡ i ∷ []) × (symKids fin i ≡ [])
   arg-of ok e = rw e at (ok .node-is)
 
   pub plain-of : SymOk fin scs i → isPlain (kind (recAt fin i .shape)) ≡ true → noArg (nodeAt fin i) ≡ true →
@@ -42,7 +42,7 @@ module _ (fin : List Sym) (scs : List Scope) (i : ℕ) where
   lam-of xs b ok e = rw e at (ok .node-is)
 
   -- what a lambda's child depends on
-  pub lam-cover : (xs : ArgList) (b : ℕ) → Lam fin scs i xs b → (k a : ℕ) → In k (kidsAt fin i) → In a (depsAt fin k) →
+  pub lam-cover : (xs : ArgList) (b : ℕ) → Lam fin scs i xs b → (k a : ℕ) → In k (symKids fin i) → In a (depsAt fin k) →
       In a (depsAt fin i) ⊎ In a (symsIn xs)
   lam-cover xs b h k a lk la = go (rw (h .kids-is) at lk)
     where

@@ -27,7 +27,7 @@ use Rattle.theory.specs.Good.{argsIn, PairOk, depsAt, symCount}
 use Rattle.theory.specs.Inv.{Inv, EnvOk, Fits}
 use Rattle.theory.proofs.Interning.Finish.{Result}
 use Rattle.theory.proofs.Interning.Scopes.{pair-of}
-use Rattle.theory.proofs.Interning.Keep.{Symbols, AllStand, KeptAll, last-in}
+use Rattle.theory.proofs.Interning.Keep.{Symbols, AllStand, KeepsMeanings, last-in}
 use Rattle.theory.proofs.Interning.Walk.{internAll-keeps}
 
 -- ---- the start
@@ -60,7 +60,7 @@ start-inv fin scs e = record {
 -- ---- what interning leaves
 
 -- s is the symbol of tree t, which depends on no argument and may be built in the outermost scope
-pub record Ready (st : State) (s : ℕ) (t : Tree) : Type 0 where
+pub record RootInterned (st : State) (s : ℕ) (t : Tree) : Type 0 where
   pub inv : Inv (st .syms) (st .scopes) st [] 0
   pub low : s < symCount st
   pub closed : (a : ℕ) → In a (depsAt (st .syms) s) → ⊥
@@ -78,8 +78,8 @@ last-means fin ρ d (k ∷ []) (cons t (cons u ts)) l e = cc
 last-means fin ρ d (k ∷ j ∷ ks) (cons t nil) l e = cc
 last-means fin ρ d (k ∷ j ∷ ks) (cons t (cons u ts)) l e = last-means fin ρ d (j ∷ ks) (cons u ts) (omega arith) (cc)
 
-kept-ready : (ts : Trees) → 1 ≤ many ts → (os : Symbols) → KeptAll start [] 0 [] 0 0 false ts os →
-    Ready (os .2) (last (os .0)) (root ts)
+kept-ready : (ts : Trees) → 1 ≤ many ts → (os : Symbols) → KeepsMeanings start [] 0 [] 0 0 false ts os →
+    RootInterned (os .2) (last (os .0)) (root ts)
 unfolding start
 kept-ready ts l os k = record {
   inv = w .0;
@@ -108,18 +108,18 @@ kept-ready ts l os k = record {
 -- ---- forests
 
 forest-ready : (ts : Trees) → CheckedIn ts false [] → 1 ≤ many ts →
-    Holds (λ os. Ready (os .2) (last (os .0)) (root ts)) (internForest ts)
+    Holds (λ os. RootInterned (os .2) (last (os .0)) (root ts)) (internForest ts)
 unfolding internForest
 forest-ready ts c l =
-    holds-map (KeptAll start [] 0 [] 0 0 false ts) _ (internForest ts) (internAll-keeps ts 0 0 0 0 [] [] false start c)
+    holds-map (KeepsMeanings start [] 0 [] 0 0 false ts) _ (internForest ts) (internAll-keeps ts 0 0 0 0 [] [] false start c)
     (kept-ready ts l)
 
 pub interned-ready : (bs : List ℕ) (ts : Trees) → accept bs ≡ good ts →
-    Holds (λ o. Ready (o .1) (o .0) (root ts)) (interned bs)
+    Holds (λ o. RootInterned (o .1) (o .0) (root ts)) (interned bs)
 unfolding interned _>>=_ internLast
 interned-ready bs ts e = rw e (go (internForest ts) (forest-ready ts (accepted bs ts e .0) (accepted bs ts e .1)))
   where
-    go : (m : Outs) → Holds (λ os. Ready (os .2) (last (os .0)) (root ts)) m →
-        Holds (λ o. Ready (o .1) (o .0) (root ts)) (internLast m)
+    go : (m : Outs) → Holds (λ os. RootInterned (os .2) (last (os .0)) (root ts)) m →
+        Holds (λ o. RootInterned (o .1) (o .0) (root ts)) (internLast m)
     go (refused n p) h = tt
     go (good os) h = h

@@ -53,7 +53,7 @@ EachMeans fin env ks ts =
     (ρ : Val) (ms : Meaning) → EnvSem fin env ms ρ → (d : ℕ) → meanAll (mean fin) ks ρ d ≡ unfoldAll ts ms d
 
 -- symbol s depends on arguments in force only, and stands for u
-pub record Stands (fin : List Sym) (n : ℕ) (A : Args) (env : Env) (s : ℕ) (u : Unfolding) : Type 0 where
+pub record StandsFor (fin : List Sym) (n : ℕ) (A : Args) (env : Env) (s : ℕ) (u : Unfolding) : Type 0 where
   pub result : Result fin n A s
   pub means : Means fin env s u
 
@@ -72,12 +72,12 @@ abbrev pub InForce : State → Env → Args → List Sym → List Scope → Type
 InForce st env A fin scs = EnvOk fin (symCount st) env A
 
 -- from state st, a symbol that stands for u has been found or made
-abbrev pub Kept : State → Args → ℕ → Env → Unfolding → ℕ × State → Type 0
-Kept st A cur env u o =
-    Step st (o .1) A cur (InForce st env A) (λ fin scs. Stands fin (symCount (o .1)) A env (o .0) u)
+abbrev pub KeepsMeaning : State → Args → ℕ → Env → Unfolding → ℕ × State → Type 0
+KeepsMeaning st A cur env u o =
+    Step st (o .1) A cur (InForce st env A) (λ fin scs. StandsFor fin (symCount (o .1)) A env (o .0) u)
 
 -- from state st, symbols of the operands ts have been found or made
-pub record KeptAll
+pub record KeepsMeanings
     (st : State) (A : Args) (cur : ℕ) (env : Env) (op j : ℕ) (b : Bool) (ts : Trees) (os : Symbols) : Type 0 where
   pub count : length (os .0) ≡ many ts
   pub step : Step st (os .2) A cur (InForce st env A)
@@ -87,7 +87,7 @@ pub record KeptAll
 abbrev pub KidsKeep : Kids → ℕ → Bool → Trees → Type 0
 KidsKeep kids op b ts =
     (c : ℕ) (env : Env) (A : Args) (st : State) → CheckedIn ts b (keys env) →
-    Holds (KeptAll st A c env op 0 b ts) (kids c env st)
+    Holds (KeepsMeanings st A c env op 0 b ts) (kids c env st)
 
 -- ---- lists of one, and the last of a list
 
@@ -121,10 +121,10 @@ one-means fin env ks (cons t (cons u ts)) lk lt h ρ ms e d = absurd (omega arit
 -- b tells a block, with some children, from a definition, with one
 pub internLast-keeps : (cur op : ℕ) (env : Env) (A : Args) (b : Bool) (ts : Trees) (st : State) (m : Outs) →
     1 ≤ many ts → (b ≡ false → many ts ≡ 1) →
-    Holds (KeptAll st A cur env op 0 b ts) m → Holds (Kept st A cur env (unfoldLast ts)) (internLast m)
+    Holds (KeepsMeanings st A cur env op 0 b ts) m → Holds (KeepsMeaning st A cur env (unfoldLast ts)) (internLast m)
 unfolding internLast
 internLast-keeps cur op env A b ts st m l one h =
-    holds-bind (KeptAll st A cur env op 0 b ts) (Kept st A cur env (unfoldLast ts)) m _ h λ os k.
+    holds-bind (KeepsMeanings st A cur env op 0 b ts) (KeepsMeaning st A cur env (unfoldLast ts)) m _ h λ os k.
     step-gives (k .step) λ fin scs w. record {
       result = w .results (last (os .0)) (last-in (os .0) (omega (arith, k .count)));
       means = means fin (os .0) b (k .count) one (w .each-means) (w .last-means);
@@ -151,7 +151,7 @@ madeOf r ts ms d = made r (unfoldAll ts ms d)
 -- its symbol stands for the record and the children
 pub made-stands : {fin : List Sym} {scs : List Scope} {n m : ℕ} {A : Args} {env : Env} {r : Rec} {op s : ℕ} {ts : Trees}
     {ks brs : List ℕ} → PlainRec r (many ts) → SymOk fin scs s → AllStand fin scs n A env op 0 false ts ks brs →
-    Made fin m A r ks s → Stands fin m A env s (madeOf r ts)
+    Made fin m A r ks s → StandsFor fin m A env s (madeOf r ts)
 made-stands {fin} {scs} {r} {s} p ok w m = record {
   result = m .result;
   means = λ ρ ms e d.
@@ -182,19 +182,19 @@ NodeFits r os nd =
 
 -- the symbol of a record whose children have been read
 pub finish-keeps : (at : ℕ) {st : State} {A : Args} {cur : ℕ} {env : Env} {r : Rec} {ts : Trees} {os : Symbols}
-    (nd : Node) → PlainRec r (many ts) → KeptAll st A cur env (r .opcode) 0 false ts os → NodeFits r os nd →
-    Holds (Kept st A cur env (madeOf r ts)) (finish at cur r (os .0) [] nd (os .2))
+    (nd : Node) → PlainRec r (many ts) → KeepsMeanings st A cur env (r .opcode) 0 false ts os → NodeFits r os nd →
+    Holds (KeepsMeaning st A cur env (madeOf r ts)) (finish at cur r (os .0) [] nd (os .2))
 finish-keeps at {st} {A} {cur} {env} {r} {ts} {os} nd p k right =
-    holds-map _ (Kept st A cur env (madeOf r ts)) (finish at cur r (os .0) [] nd (os .2))
+    holds-map _ (KeepsMeaning st A cur env (madeOf r ts)) (finish at cur r (os .0) [] nd (os .2))
     (finish-plain at cur r (os .0) nd (os .2) A (p .kind-is) (rw (k .count) (p .fits-is)) (p .agrees-is)) λ o s.
     step-then (k .step) s (λ fin scs ok w. (w .results, right fin scs (w .pairs)))
     (λ fin scs inv w m. made-stands p (inv .good (o .0) (m .result .low)) w m)
 
 pub internGeneral-keeps : (at cur : ℕ) (r : Rec) (env : Env) (A : Args) (ts : Trees) (st : State) (m : Outs) →
-    PlainRec r (many ts) → Holds (KeptAll st A cur env (r .opcode) 0 false ts) m →
-    Holds (Kept st A cur env (madeOf r ts)) (internGeneral at cur r m)
+    PlainRec r (many ts) → Holds (KeepsMeanings st A cur env (r .opcode) 0 false ts) m →
+    Holds (KeepsMeaning st A cur env (madeOf r ts)) (internGeneral at cur r m)
 unfolding internGeneral
 internGeneral-keeps at cur r env A ts st m p h =
-    holds-bind (KeptAll st A cur env (r .opcode) 0 false ts) (Kept st A cur env (madeOf r ts)) m _ h λ os k.
+    holds-bind (KeepsMeanings st A cur env (r .opcode) 0 false ts) (KeepsMeaning st A cur env (madeOf r ts)) m _ h λ os k.
     finish-keeps at (nodeOf r (os .1)) p k λ fin scs w.
     nodeOf-plain fin scs r (os .0) (os .1) (rw (k .count) (p .fits-is)) w

@@ -33,7 +33,7 @@ use Rattle.laws.proofs.ArgLists.{withOpts-syms, withOpts-opts, withOpts-length}
 use Rattle.theory.proofs.Meaning.Mean.{Val, bindSyms, meanAll, mean}
 use Rattle.theory.proofs.Meaning.Coincide.{mean-lam, coincide, bindSyms-other, AgreeOn}
 use Rattle.theory.proofs.Acceptance.Records.{LamRec}
-use Rattle.theory.specs.Good.{isPlain, noArg, argsIn, out, depsAt, kidsAt, nodeAt, recAt, scopeCount, symCount, Plain, Lam, NodeOk, SymOk}
+use Rattle.theory.specs.Good.{isPlain, noArg, argsIn, out, depsAt, symKids, nodeAt, recAt, scopeCount, symCount, Plain, Lam, NodeOk, SymOk}
 use Rattle.theory.proofs.Interning.Good.{lambda-not-plain}
 use Rattle.theory.proofs.Interning.Good.{lam-of}
 use Rattle.theory.specs.Inv.{Args, HasArg, argSyms, LamApart, Inv, Fits, Grow}
@@ -145,7 +145,7 @@ module _
 
   module _
       {i : ℕ} {xs : List (ℕ × List ℕ)} {b : ℕ}
-      (low : i < symCount st) (nd : nodeAt fin i ≡ func xs b) (re : recAt fin i ≡ r) (ke : kidsAt fin i ≡ k ∷ []) where
+      (low : i < symCount st) (nd : nodeAt fin i ≡ func xs b) (re : recAt fin i ≡ r) (ke : symKids fin i ≡ k ∷ []) where
     the-lambda : Lam fin scs i xs b
     the-lambda = lam-of fin scs i xs b (pre .inv .good i low) nd
 
@@ -188,7 +188,7 @@ module _
             bindSyms-other (suc d) 0 xs ρ a (body-not-own a h) e
             ∙ sym (bindSyms-other (suc d) 0 (argsWith r as') ρ a n e)
 
-        bodies : meanAll (mean fin) (kidsAt fin i) own (suc d) ≡ meanAll (mean fin) (k ∷ []) new (suc d)
+        bodies : meanAll (mean fin) (symKids fin i) own (suc d) ≡ meanAll (mean fin) (k ∷ []) new (suc d)
         bodies = rw ke
             (ap (λ (u : Unfolded). more u done)
             (coincide fin scs (symCount st) (pre .inv .good) k (pre .body .low) own new agree (suc d)))
@@ -208,7 +208,7 @@ module _
     rec-is : recAt fin (symCount st) ≡ r
     rec-is = ap (λ (z : Sym). z .rec) made-is
 
-    kids-is : kidsAt fin (symCount st) ≡ k ∷ []
+    kids-is : symKids fin (symCount st) ≡ k ∷ []
     kids-is = ap (λ (z : Sym). z .kids) made-is
 
     deps-is : depsAt fin (symCount st) ≡ lamDeps st as' k

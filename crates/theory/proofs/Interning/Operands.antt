@@ -33,8 +33,8 @@ use Rattle.theory.proofs.Interning.Inv.{fits-back, grow-none, grow-then
 use Rattle.theory.proofs.Interning.Finish.{Result, Results, Step, step-gives, step-then, result-later}
 use Rattle.theory.proofs.Interning.Fresh.{sem-one}
 use Rattle.theory.proofs.Interning.Scopes.{open-grows, open-is, open-inv, leave-inv, pair-of}
-use Rattle.theory.proofs.Interning.Keep.{Symbols, Unfolding, Means, EachMeans, Stands, AllStand, InForce, Kept}
-use Rattle.theory.proofs.Interning.Keep.{KeptAll}
+use Rattle.theory.proofs.Interning.Keep.{Symbols, Unfolding, Means, EachMeans, StandsFor, AllStand, InForce, KeepsMeaning}
+use Rattle.theory.proofs.Interning.Keep.{KeepsMeanings}
 
 -- ---- a child, in its own thunk or not
 
@@ -42,7 +42,7 @@ use Rattle.theory.proofs.Interning.Keep.{KeptAll}
 abbrev pub KeptIn : Bool → State → Args → ℕ → Env → Unfolding → ℕ × State → Type 0
 KeptIn t st A cur env u o =
     Step st (o .1) A cur (InForce st env A)
-    (λ fin scs. Stands fin (symCount (o .1)) A env (o .0) u × (t ≡ true → PairOk fin scs (o .0) (scopeCount st)))
+    (λ fin scs. StandsFor fin (symCount (o .1)) A env (o .0) u × (t ≡ true → PairOk fin scs (o .0) (scopeCount st)))
 
 module _ (cur : ℕ) (st : State) (A : Args) where
   pub thunk-opens : (fin : List Sym) (scs : List Scope) → Fits fin scs (openThunk cur st) → Inv fin scs st A cur →
@@ -63,7 +63,7 @@ module _ (cur : ℕ) (st : State) (A : Args) where
       is = open-is fin scs cur none ([] ∷ st .tables) st (inv .cur-low) f
 
 module _ (cur : ℕ) (st : State) (A : Args) (env : Env) (u : Unfolding) where
-  thunk-kept : (o : ℕ × State) → Kept (openThunk cur st) A (scopeCount st) env u o →
+  thunk-kept : (o : ℕ × State) → KeepsMeaning (openThunk cur st) A (scopeCount st) env u o →
       KeptIn true st A cur env u (o .0, closeThunk (o .1))
   thunk-kept o k = record {
     grows = grow-then st (o .1) (closeThunk (o .1)) grows closes;
@@ -82,14 +82,14 @@ module _ (cur : ℕ) (st : State) (A : Args) (env : Env) (u : Unfolding) where
       closes = grow-same (o .1) (closeThunk (o .1)) refl refl
 
   pub internScoped-keeps : (t : Bool) (child : ℕ → State → Out) →
-      ((c : ℕ) (s : State) → Holds (Kept s A c env u) (child c s)) →
+      ((c : ℕ) (s : State) → Holds (KeepsMeaning s A c env u) (child c s)) →
       Holds (KeptIn t st A cur env u) (internScoped t cur child st)
   unfolding internScoped
   internScoped-keeps false child h =
-      holds-map (Kept st A cur env u) (KeptIn false st A cur env u) (child cur st) (h cur st) λ o k.
+      holds-map (KeepsMeaning st A cur env u) (KeptIn false st A cur env u) (child cur st) (h cur st) λ o k.
       step-gives k λ fin scs w. (w, λ e. absurd (clash false e refl))
   internScoped-keeps true child h =
-      holds-bind (Kept (openThunk cur st) A (scopeCount st) env u) (KeptIn true st A cur env u)
+      holds-bind (KeepsMeaning (openThunk cur st) A (scopeCount st) env u) (KeptIn true st A cur env u)
       (child (scopeCount st) (openThunk cur st)) _ (h (scopeCount st) (openThunk cur st)) thunk-kept
 
 -- ---- an id bound by a definition
@@ -146,7 +146,7 @@ bindDef-env {fin} {n} {env} {A} t {s} res h = go (isDef t)
 -- ---- no children; a child, and then the others
 
 pub nil-keeps : (op j cur : ℕ) (env : Env) (A : Args) (b : Bool) (st : State) →
-    KeptAll st A cur env op j b nil ([], [], st)
+    KeepsMeanings st A cur env op j b nil ([], [], st)
 unfolding many unfoldAt meanAll
 nil-keeps op j cur env A b st = record {
   count = refl;
@@ -172,7 +172,7 @@ isDef-is t ts b ids c = go t (checked-head t ts b ids c)
 -- s stands for the first child t, and ks for the others, where t is bound if it is a definition
 module _
     {fin : List Sym} {scs : List Scope} {n m : ℕ} {A : Args} {env : Env} {op j : ℕ} {b : Bool} {ts : Trees} {s : ℕ}
-    {ks brs : List ℕ} (t : Tree) (def : isDef t ≡ (b && not (isNil ts))) (h : Stands fin n A env s (unfoldAt t))
+    {ks brs : List ℕ} (t : Tree) (def : isDef t ≡ (b && not (isNil ts))) (h : StandsFor fin n A env s (unfoldAt t))
     (k : AllStand fin scs m A (bindDef t s env) op (suc j) b ts ks brs) where
   cons-pairs : (sc : ℕ) → (thunked op j ≡ true → PairOk fin scs s sc) →
       PairsOk fin scs op j (s ∷ ks) (branch (thunked op j) sc brs)
@@ -207,8 +207,8 @@ module _
 pub cons-keeps : (op j cur : ℕ) (env : Env) (A : Args) (b : Bool) (t : Tree) (ts : Trees) (st : State) →
     CheckedIn (cons t ts) b (keys env) →
     (o : ℕ × State) (os : Symbols) → KeptIn (thunked op j) st A cur env (unfoldAt t) o →
-    KeptAll (o .1) A cur (bindDef t (o .0) env) op (suc j) b ts os →
-    KeptAll st A cur env op j b (cons t ts) (o .0 ∷ os .0, branch (thunked op j) (scopeCount st) (os .1), os .2)
+    KeepsMeanings (o .1) A cur (bindDef t (o .0) env) op (suc j) b ts os →
+    KeepsMeanings st A cur env op j b (cons t ts) (o .0 ∷ os .0, branch (thunked op j) (scopeCount st) (os .1), os .2)
 unfolding many
 cons-keeps op j cur env A b t ts st c o os h k = record {
   count = ap suc (k .count);

@@ -17,7 +17,7 @@ use Rattle.model.specs.Intern.{Node, func, Sym, Scope, State, symAt, noSym, cli
 use Rattle.laws.specs.Members.{In}
 use Rattle.laws.proofs.Members.{union-left, union-right, union-cases}
 use Rattle.laws.specs.ArgLists.{ArgList}
-use Rattle.theory.specs.Good.{recAt, kidsAt, depsAt, scopeAt, nodeAt, symCount, scopeCount, noArg, argsAt, out, SymOk}
+use Rattle.theory.specs.Good.{recAt, symKids, depsAt, scopeAt, nodeAt, symCount, scopeCount, noArg, argsAt, out, SymOk}
 use Rattle.theory.specs.Inv.{Args, argSyms, InAny, FieldOk, LamApart, Inv, Fits, Grow}
 use Rattle.theory.proofs.Interning.Inv.{has-arg, lt-or}
 use Rattle.theory.proofs.Interning.Inv.{out-low, climb-stays, climb-same}
@@ -58,7 +58,7 @@ push-is fin scs cur r ks deps b nd st f =
 -- the same by its parts
 pub record PartsAt (fin : List Sym) (i : ℕ) (y : Sym) : Type 0 where
   pub rec-is : recAt fin i ≡ y .rec
-  pub kids-is : kidsAt fin i ≡ y .kids
+  pub kids-is : symKids fin i ≡ y .kids
   pub deps-is : depsAt fin i ≡ y .deps
   pub scope-is : scopeAt fin i ≡ y .scope
   pub node-is : nodeAt fin i ≡ y .node

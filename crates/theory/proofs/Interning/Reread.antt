@@ -29,14 +29,14 @@ use Rattle.laws.specs.Members.{In}
 use Rattle.laws.proofs.Members.{in-or-not}
 use Rattle.theory.specs.Good.{symCount}
 use Rattle.theory.specs.Inv.{keys}
-use Rattle.theory.specs.Sound.{Sound}
+use Rattle.theory.specs.Sound.{StateSound}
 use Rattle.theory.proofs.Interning.Reread.Later.{withReadings, Tabled, Low, later-none, Calm}
 use Rattle.theory.proofs.Interning.Reread.Kinds.{EnvFits, CalmAll, RereadsAll}
 use Rattle.theory.proofs.Interning.Reread.Walk.{internAll-rereads}
 
 -- ---- what is asked
 
-pub sound-tabled : {B : ℕ → Type 0} {s : State} → Sound B s → Tabled s
+pub sound-tabled : {B : ℕ → Type 0} {s : State} → StateSound B s → Tabled s
 sound-tabled h =
     record { some-table = h .tables-open; entries-low = h .tables-low; memo-low = h .memo-low }
 

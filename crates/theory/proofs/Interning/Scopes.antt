@@ -17,7 +17,7 @@ use Rattle.model.specs.Binding.{argIds}
 use Rattle.model.specs.Intern.{func, Sym, Scope, State, rootScope, openScope}
 use Rattle.laws.specs.Members.{In}
 use Rattle.laws.specs.ArgLists.{ArgList, symsIn}
-use Rattle.theory.specs.Good.{recAt, kidsAt, depsAt, scopeAt, nodeAt, symCount, scopeCount, noArg, argsIn, argsAt, aroundAt, out, PairOk}
+use Rattle.theory.specs.Good.{recAt, symKids, depsAt, scopeAt, nodeAt, symCount, scopeCount, noArg, argsIn, argsAt, aroundAt, out, PairOk}
 use Rattle.theory.proofs.Interning.Good.{lam-of}
 use Rattle.theory.specs.Inv.{Args, HasArg, InAny, Chain, LamApart, Inv, Fits, Grow}
 use Rattle.theory.proofs.Interning.Inv.{fits-back, lt-or}
@@ -129,7 +129,7 @@ open-inv fin scs cur o ts st A B n f h tables new olds args-old split = record {
         apart i a (inr k) d =
             absurd (omega (arith, new a k .0, old, lam-of fin scs x xs b (h .good x l) e .args-low a d))
 
-        ids-apart : (i a k : ℕ) → HasArg i a A ⊎ In a (argsIn o) → In k (kidsAt fin x) → In a (depsAt fin k) →
+        ids-apart : (i a k : ℕ) → HasArg i a A ⊎ In a (argsIn o) → In k (symKids fin x) → In a (depsAt fin k) →
             In i (argIds (recAt fin x)) → ⊥
         ids-apart i a k (inl g) lk la li = was .ids-apart i a k g lk la li
         ids-apart i a k (inr g) lk la li =

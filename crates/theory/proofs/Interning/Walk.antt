@@ -30,7 +30,7 @@ use Rattle.theory.proofs.Acceptance.Records.{lam-rec}
 use Rattle.theory.specs.Good.{isPlain}
 use Rattle.theory.specs.Inv.{Args, keys, Inv}
 use Rattle.theory.proofs.Interning.Inv.{grow-none, grow-then, grow-same}
-use Rattle.theory.proofs.Interning.Keep.{Unfolding, Kept, KeptAll, KidsKeep, PlainRec, madeOf, internLast-keeps}
+use Rattle.theory.proofs.Interning.Keep.{Unfolding, KeepsMeaning, KeepsMeanings, KidsKeep, PlainRec, madeOf, internLast-keeps}
 use Rattle.theory.proofs.Interning.Keep.{internGeneral-keeps}
 use Rattle.theory.proofs.Interning.Fields.{internField-keeps}
 use Rattle.theory.proofs.Interning.Body.{BodyKeeps, internFunc-keeps}
@@ -57,7 +57,7 @@ module _
     (kids : Kids) (keep : KidsKeep kids (r .opcode) (isBlock r) ts) (st : State) where
   -- the children of a record that binds no arguments, read from any state
   kids-keep : inside r ≡ [] → (t : Bool) → isBlock r ≡ t → (s : State) →
-      Holds (KeptAll s A cur env (r .opcode) 0 t ts) (kids cur env s)
+      Holds (KeepsMeanings s A cur env (r .opcode) 0 t ts) (kids cur env s)
   kids-keep e t f s = rw f at (keep cur env A s (rw e at (checked-kids r ts b (keys env) c)))
 
   plain-rec : isPlain (kind (r .shape)) ≡ true → PlainRec r (many ts)
@@ -68,7 +68,7 @@ module _
   abbrev unfoldBy : Kind → Unfolding
   unfoldBy k = unfoldKind k r (unfoldAll ts) (unfoldLast ts)
 
-  valUse-keeps : kind (r .shape) ≡ valUse → Kept st A cur env (unfoldBy valUse) (resolve env (idOf r), st)
+  valUse-keeps : kind (r .shape) ≡ valUse → KeepsMeaning st A cur env (unfoldBy valUse) (resolve env (idOf r), st)
   unfolding unfoldKind
   valUse-keeps e = record {
     grows = grow-none st;
@@ -88,7 +88,7 @@ module _
           isIn-true (idOf r) (keys env) (not-false (isIn (idOf r) (keys env)) u)
 
   lambda-keeps : kind (r .shape) ≡ lambda →
-      Holds (Kept st A cur env (unfoldBy lambda)) (internKind lambda at cur r env kids st)
+      Holds (KeepsMeaning st A cur env (unfoldBy lambda)) (internKind lambda at cur r env kids st)
   unfolding internKind unfoldKind inside
   lambda-keeps e =
       internFunc-keeps at cur r env A ts kids reads (lam-rec r (many ts) shape (c .fine .0) (c .fine .1))
@@ -111,10 +111,10 @@ module _
           anyIn-false i own (keys env) free (in-right i (after (node r ts)) (inside r) (rw args g)) h
 
   field-keeps : kind (r .shape) ≡ field →
-      Holds (Kept st A cur env (unfoldBy field)) (internKind field at cur r env kids st)
+      Holds (KeepsMeaning st A cur env (unfoldBy field)) (internKind field at cur r env kids st)
   unfolding internKind unfoldKind inside
   field-keeps e =
-      holds-bind (KeptAll st A cur env (r .opcode) 0 false ts) (Kept st A cur env (madeOf r ts)) (kids cur env st) _
+      holds-bind (KeepsMeanings st A cur env (r .opcode) 0 false ts) (KeepsMeaning st A cur env (madeOf r ts)) (kids cur env st) _
       (reads st)
       (internField-keeps at cur r env A ts kids reads (plain-rec (ap isPlain e))
       (field-child r (many ts) shape (c .fine .0)) (field-rec r (many ts) shape (c .fine .0) (c .fine .1)) st)
@@ -122,11 +122,11 @@ module _
       shape : r .shape ≡ 17
       shape = kind-shape (r .shape) field e .shape
 
-      reads : (s : State) → Holds (KeptAll s A cur env (r .opcode) 0 false ts) (kids cur env s)
+      reads : (s : State) → Holds (KeepsMeanings s A cur env (r .opcode) 0 false ts) (kids cur env s)
       reads s = kids-keep (rw (e, inside)) false (isBlock-is r field e) s
 
   internKind-keeps : (k : Kind) → kind (r .shape) ≡ k →
-      Holds (Kept st A cur env (unfoldBy k)) (internKind k at cur r env kids st)
+      Holds (KeepsMeaning st A cur env (unfoldBy k)) (internKind k at cur r env kids st)
   unfolding internKind unfoldKind inside shapes
   internKind-keeps valUse e = valUse-keeps e
   internKind-keeps valDef e =
@@ -162,7 +162,7 @@ read-inv inv = record {
 }
 
 read-kept : {st : State} {A : Args} {cur : ℕ} {env : Env} {u : Unfolding} {o : ℕ × State} →
-    Kept (read st) A cur env u o → Kept st A cur env u o
+    KeepsMeaning (read st) A cur env u o → KeepsMeaning st A cur env u o
 read-kept {st} {A} {cur} {o} k = record {
   grows = grow-then st (read st) (o .1) (grow-same st (read st) refl refl) (k .grows);
   keeps = λ fin scs f inv ok. k .keeps fin scs f (read-inv inv) ok;
@@ -172,25 +172,25 @@ mutual
   unfolding intern unfoldAt
 
   intern-keeps : (t : Tree) (at cur : ℕ) (env : Env) (A : Args) (b : Bool) (st : State) → Checked t b (keys env) →
-      Holds (Kept st A cur env (unfoldAt t)) (intern t at cur env st)
+      Holds (KeepsMeaning st A cur env (unfoldAt t)) (intern t at cur env st)
   intern-keeps (node r ts) at cur env A b st c =
       let kids : Kids = λ c e s. internAll ts (r .opcode) 0 (suc at) c e s in
-      holds-guard (Kept st A cur env (unfoldAt (node r ts))) (ltb (st .readings) 2048) 11 at _ λ e.
-      holds-map (Kept (read st) A cur env (unfoldAt (node r ts))) (Kept st A cur env (unfoldAt (node r ts)))
+      holds-guard (KeepsMeaning st A cur env (unfoldAt (node r ts))) (ltb (st .readings) 2048) 11 at _ λ e.
+      holds-map (KeepsMeaning (read st) A cur env (unfoldAt (node r ts))) (KeepsMeaning st A cur env (unfoldAt (node r ts)))
       (internKind (kind (r .shape)) at cur r env kids (read st))
       (internKind-keeps at cur r env A ts b c kids
       (λ c e B s h. internAll-keeps ts (r .opcode) 0 (suc at) c e B (isBlock r) s h)
       (read st) (kind (r .shape)) refl) λ o k. read-kept k
 
   pub internAll-keeps : (ts : Trees) (op j at cur : ℕ) (env : Env) (A : Args) (b : Bool) (st : State) →
-      CheckedIn ts b (keys env) → Holds (KeptAll st A cur env op j b ts) (internAll ts op j at cur env st)
+      CheckedIn ts b (keys env) → Holds (KeepsMeanings st A cur env op j b ts) (internAll ts op j at cur env st)
   internAll-keeps nil op j at cur env A b st c = nil-keeps op j cur env A b st
   internAll-keeps (cons t ts) op j at cur env A b st c =
-      holds-bind (KeptIn (thunked op j) st A cur env (unfoldAt t)) (KeptAll st A cur env op j b (cons t ts)) _ _
+      holds-bind (KeptIn (thunked op j) st A cur env (unfoldAt t)) (KeepsMeanings st A cur env op j b (cons t ts)) _ _
       (internScoped-keeps cur st A env (unfoldAt t) (thunked op j) (λ c s. intern t at c env s)
       (λ sc s. intern-keeps t at sc env A (b && not (isNil ts)) s (checked-head t ts b (keys env) c))) λ o h.
-      holds-bind (KeptAll (o .1) A cur (bindDef t (o .0) env) op (suc j) b ts)
-      (KeptAll st A cur env op j b (cons t ts)) _ _
+      holds-bind (KeepsMeanings (o .1) A cur (bindDef t (o .0) env) op (suc j) b ts)
+      (KeepsMeanings st A cur env op j b (cons t ts)) _ _
       (internAll-keeps ts op (suc j) (at + size t) cur (bindDef t (o .0) env) A b (o .1)
       (rw (bindDef-keys t (o .0) env) (checked-tail t ts b (keys env) c))) λ os k.
       cons-keeps op j cur env A b t ts st c o os h k

@@ -26,7 +26,7 @@ use Rattle.laws.specs.Members.{In}
 use Rattle.laws.proofs.Members.{clash}
 use Rattle.laws.specs.ArgLists.{ArgList, symsIn, optsIn}
 use Rattle.theory.proofs.Meaning.Mean.{Val, Mean, bindSyms, meanAll, meanNode, meanStep, mean}
-use Rattle.theory.specs.Good.{recAt, kidsAt, depsAt, nodeAt, isPlain, noArg, Plain, NodeOk, SymOk, Goods}
+use Rattle.theory.specs.Good.{recAt, symKids, depsAt, nodeAt, isPlain, noArg, Plain, NodeOk, SymOk, Goods}
 use Rattle.theory.proofs.Interning.Good.{lam-cover, lambda-not-plain}
 
 -- ---- a symbol by its node
@@ -61,24 +61,24 @@ module _ (fin : List Sym) (scs : List Scope) where
 
   pub mean-lam : (s : ℕ) (xs : ArgList) (b : ℕ) → SymOk fin scs s → nodeAt fin s ≡ func xs b → (ρ : Val) (d : ℕ) →
       mean fin s ρ d
-      ≡ lamOf (recAt fin s) xs (meanAll (mean fin) (kidsAt fin s) (bindSyms (suc d) 0 xs ρ) (suc d))
+      ≡ lamOf (recAt fin s) xs (meanAll (mean fin) (symKids fin s) (bindSyms (suc d) 0 xs ρ) (suc d))
   unfolding meanNode
   mean-lam s xs b ok e ρ d =
       mean-node s (func xs b) e ρ d
-      ∙ ap (lamOf (recAt fin s) xs) (all-low (mean fin) s (kidsAt fin s) (ok .low) _ (suc d))
+      ∙ ap (lamOf (recAt fin s) xs) (all-low (mean fin) s (symKids fin s) (ok .low) _ (suc d))
 
   pub mean-plain : (s : ℕ) → SymOk fin scs s → isPlain (kind (recAt fin s .shape)) ≡ true →
       noArg (nodeAt fin s) ≡ true → (ρ : Val) (d : ℕ) →
-      mean fin s ρ d ≡ made (recAt fin s) (meanAll (mean fin) (kidsAt fin s) ρ d)
+      mean fin s ρ d ≡ made (recAt fin s) (meanAll (mean fin) (symKids fin s) ρ d)
   unfolding meanNode
   mean-plain s ok p q ρ d = go (nodeAt fin s) refl (ok .node-is) q
     where
-      low : made (recAt fin s) (meanAll (under none s (mean fin)) (kidsAt fin s) ρ d)
-          ≡ made (recAt fin s) (meanAll (mean fin) (kidsAt fin s) ρ d)
-      low = ap (made (recAt fin s)) (all-low (mean fin) s (kidsAt fin s) (ok .low) ρ d)
+      low : made (recAt fin s) (meanAll (under none s (mean fin)) (symKids fin s) ρ d)
+          ≡ made (recAt fin s) (meanAll (mean fin) (symKids fin s) ρ d)
+      low = ap (made (recAt fin s)) (all-low (mean fin) s (symKids fin s) (ok .low) ρ d)
 
       go : (nd : Node) → nodeAt fin s ≡ nd → NodeOk fin scs s nd → noArg nd ≡ true →
-          mean fin s ρ d ≡ made (recAt fin s) (meanAll (mean fin) (kidsAt fin s) ρ d)
+          mean fin s ρ d ≡ made (recAt fin s) (meanAll (mean fin) (symKids fin s) ρ d)
       go constant e h a = mean-node s constant e ρ d ∙ low
       go unparsed e h a = mean-node s unparsed e ρ d ∙ low
       go argument e h a = false-true a
@@ -147,8 +147,8 @@ module _ (fin : List Sym) (scs : List Scope) (n : ℕ) (good : Goods fin scs n) 
           mean-plain fin scs s ok (p .kind-is) q ρ d
           ∙ (ap (made (recAt fin s)) kids ∙ sym (mean-plain fin scs s ok (p .kind-is) q σ d))
         where
-          kids : meanAll (mean fin) (kidsAt fin s) ρ d ≡ meanAll (mean fin) (kidsAt fin s) σ d
-          kids = all-agree fin (kidsAt fin s) ρ σ d λ k lk.
+          kids : meanAll (mean fin) (symKids fin s) ρ d ≡ meanAll (mean fin) (symKids fin s) σ d
+          kids = all-agree fin (symKids fin s) ρ σ d λ k lk.
               ih k (ok .low k lk) ρ σ (λ a la. g a (p .cover k a lk la)) d
 
       go : (nd : Node) → nodeAt fin s ≡ nd → NodeOk fin scs s nd → mean fin s ρ d ≡ mean fin s σ d
@@ -165,9 +165,9 @@ module _ (fin : List Sym) (scs : List Scope) (n : ℕ) (good : Goods fin scs n) 
           agree a (inl k) = bindSyms-agree (suc d) 0 xs ρ σ a (inr (g a k))
           agree a (inr k) = bindSyms-agree (suc d) 0 xs ρ σ a (inl k)
 
-          body : meanAll (mean fin) (kidsAt fin s) (bound ρ) (suc d)
-              ≡ meanAll (mean fin) (kidsAt fin s) (bound σ) (suc d)
-          body = all-agree fin (kidsAt fin s) (bound ρ) (bound σ) (suc d) λ k lk.
+          body : meanAll (mean fin) (symKids fin s) (bound ρ) (suc d)
+              ≡ meanAll (mean fin) (symKids fin s) (bound σ) (suc d)
+          body = all-agree fin (symKids fin s) (bound ρ) (bound σ) (suc d) λ k lk.
               ih k (ok .low k lk) (bound ρ) (bound σ) (λ a la. agree a (lam-cover fin scs s xs b h k a lk la)) (suc d)
       go (operation brs) e h = plain (h .0) (ap noArg e)
 

@@ -25,7 +25,7 @@ use Rattle.laws.specs.Members.{In}
 use Rattle.theory.specs.Checked.{Checked}
 use Rattle.theory.proofs.Acceptance.Bytes.{accept-serialised}
 use Rattle.theory.specs.Good.{symCount}
-use Rattle.theory.proofs.Interning.Interned.{Ready, interned-ready}
+use Rattle.theory.proofs.Interning.Interned.{RootInterned, interned-ready}
 use Rattle.theory.proofs.Building.Given.{Built, none-given}
 use Rattle.theory.proofs.Building.Built.{root-built}
 use Rattle.model.specs.Demand3.{NoUse}
@@ -33,7 +33,7 @@ use Rattle.theory.proofs.Promise.Uses.{use-absent}
 
 -- ---- the tree of an interned forest
 
-module _ (o : ℕ × State) (t : Tree) (h : Ready (o .1) (o .0) t) where
+module _ (o : ℕ × State) (t : Tree) (h : RootInterned (o .1) (o .0) t) where
   abbrev st : State
   st = o .1
 
@@ -80,9 +80,9 @@ module _ (forest : List ℕ) (pass : Passes (checks forest)) (o : ℕ × State)
   unfolding interned _>>=_
   forest-interned = rw (forest-accepted, _>>=_) is
 
-  root-ready : Ready (o .1) (o .0) (root (treesOf forest))
+  root-ready : RootInterned (o .1) (o .0) (root (treesOf forest))
   root-ready =
-      subst (λ (a : Out). Holds (λ o. Ready (o .1) (o .0) (root (treesOf forest))) a) forest-interned
+      subst (λ (a : Out). Holds (λ o. RootInterned (o .1) (o .0) (root (treesOf forest))) a) forest-interned
       (interned-ready forest (treesOf forest) forest-accepted)
 
   pub meaning-kept : unfolded (treeOf o) ≡ unfolded (root (treesOf forest))

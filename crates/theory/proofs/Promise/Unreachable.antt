@@ -20,9 +20,9 @@ use Rattle.model.specs.Gate.{Graph}
 use Rattle.model.specs.Materialize.{Builder, processScope, buildOp}
 use Rattle.model.specs.Call.{interned}
 use Rattle.laws.proofs.Holds.{Holds}
-use Rattle.theory.specs.Good.{NodeOk, symCount, scopeCount, recAt, kidsAt, nodeAt}
-use Rattle.theory.proofs.Interning.Interned.{Ready, interned-ready}
-use Rattle.theory.specs.Sound.{thunks, NodeSound, Sound, Any}
+use Rattle.theory.specs.Good.{NodeOk, symCount, scopeCount, recAt, symKids, nodeAt}
+use Rattle.theory.proofs.Interning.Interned.{RootInterned, interned-ready}
+use Rattle.theory.specs.Sound.{thunks, NodeSound, StateSound, Any}
 use Rattle.theory.proofs.Bounds.Limits.{forest-sound}
 
 -- an operation is built with as many children as it has child symbols
@@ -47,8 +47,8 @@ rebuilt-count g f sc env last op j (k ∷ ks) (b ∷ brs) =
 -- of an operation symbol: an opcode of its own, as many children as its shape has, a branch scope for each thunk
 pub record Operation (st : State) (s : ℕ) (brs : List ℕ) : Type 0 where
   pub has-opcode : 2 ≤ recAt (st .syms) s .shape
-  pub kids-fit : fits (record { rec = recAt (st .syms) s; kids = length (kidsAt (st .syms) s) }) ≡ true
-  pub scopes-fit : length brs ≡ thunks (recAt (st .syms) s .opcode) 0 (kidsAt (st .syms) s)
+  pub kids-fit : fits (record { rec = recAt (st .syms) s; kids = length (symKids (st .syms) s) }) ≡ true
+  pub scopes-fit : length brs ≡ thunks (recAt (st .syms) s .opcode) 0 (symKids (st .syms) s)
 
 pub record NeverMet (st : State) : Type 0 where
   pub tables-open : 1 ≤ length (st .tables)
@@ -59,14 +59,14 @@ pub never-met : (forest : List ℕ) (ts : Trees) → accept forest ≡ good ts �
 never-met forest ts e o is = record {
   tables-open = sound .tables-open;
   operations = λ s brs l q.
-      let w = subst (NodeSound Any s (scopeCount (o .1)) (recAt (o .1 .syms) s) (kidsAt (o .1 .syms) s)) q
+      let w = subst (NodeSound Any s (scopeCount (o .1)) (recAt (o .1 .syms) s) (symKids (o .1 .syms) s)) q
       (sound .syms-sound s l .node-sound) in
       let v = subst (NodeOk (o .1 .syms) (o .1 .scopes) s) q (ready .inv .good s l .node-is) in
       record { has-opcode = w .1; kids-fit = v .0 .fits-is; scopes-fit = w .2 };
 }
   where
-    ready : Ready (o .1) (o .0) (root ts)
-    ready = subst (Holds (λ o. Ready (o .1) (o .0) (root ts))) is (interned-ready forest ts e)
+    ready : RootInterned (o .1) (o .0) (root ts)
+    ready = subst (Holds (λ o. RootInterned (o .1) (o .0) (root ts))) is (interned-ready forest ts e)
 
-    sound : Sound Any (o .1)
+    sound : StateSound Any (o .1)
     sound = forest-sound forest ts e o is .sound
