@@ -30,7 +30,7 @@ use Rattle.planner.specs.Grew.{Grown}
 use Rattle.materialize.specs.Materialize.{Counted, Materialized}
 use Rattle.cse.specs.declared.Answer.{Answer}
 use Rattle.cse.specs.declared.Answer.the-variants.{Written, Refused}
-use Rattle.cse.specs.Call.{PlanOf, Planned, Held, Counts, Holds}
+use Rattle.cse.specs.Call.{PlanOf, Planned, Held, Counts, HeldAfter}
 
 -- words ws₁ with the uses counted, and ws₂ with the tree planned too
 module _ (bs ws : List ℕ) (st : State) (rep : Rep bs ws st) (root : ℕ) (ws₁ : List ℕ)
@@ -96,6 +96,6 @@ module _ (bs ws : List ℕ) (st : State) (rep : Rep bs ws st) (root : ℕ) (ws�
               grown .kept .after (USES .first + s) (omega arith) ∙ reached .uses bs (scopesOf ws (st .scopes)) s l;
         }
 
-pub held-by : {bs ws : List ℕ} (n : ℕ) (r : Answer) → Counts n r → Held bs ws n → Holds bs ws r
+pub held-by : {bs ws : List ℕ} (n : ℕ) (r : Answer) → Counts n r → Held bs ws n → HeldAfter bs ws r
 held-by {bs} {ws} n (Written len symbols readings) e h = subst (Held bs ws) (sym e) h
 held-by n (Refused m p) e h = tt

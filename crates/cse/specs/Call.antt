@@ -89,6 +89,6 @@ Counts n (Written len symbols readings) = symbols ≡ n
 Counts n (Refused m p) = Unit {0}
 
 -- the answer's symbols are held, where a tree was written
-abbrev pub Holds : List ℕ → List ℕ → Answer → Type 0
-Holds bs ws (Written len symbols readings) = Held bs ws symbols
-Holds bs ws (Refused m p) = Unit {0}
+abbrev pub HeldAfter : List ℕ → List ℕ → Answer → Type 0
+HeldAfter bs ws (Written len symbols readings) = Held bs ws symbols
+HeldAfter bs ws (Refused m p) = Unit {0}

@@ -21,7 +21,7 @@ ghost use Rattle.regions.specs.Regions.{WORDS};
 ghost use Rattle.tables.specs.Tables.{first};
 ghost use Rattle.interner.specs.State.{absOf, Rep};
 ghost use Rattle.cse.specs.Call.{five, numbersIn, Tells, cleared, LentOnly, PlanOf, PlanWritable, Planned};
-ghost use Rattle.cse.specs.Call.{Held, Counts, Holds};
+ghost use Rattle.cse.specs.Call.{Held, Counts, HeldAfter};
 
 // What the call gives: how many bytes were written, how many symbols and readings there were; or the number and the
 // place of a refusal.
@@ -104,7 +104,7 @@ fn accepted(forest: &[u8], out: &mut [u8], work: &mut [u32]) -> Answer
     ensures { λ r. ⌜ Tells (written (callOf (now (forest .entry)) (now (out .entry)) (now (work .entry))))
         (now (out .entry)) r (now (out .exit)) ⌝ }
     ensures { λ r. ⌜ LentOnly (now (work .entry)) (now (work .exit)) ⌝ }
-    ensures { λ r. ⌜ Holds (now (forest .entry)) (now (work .exit)) r ⌝ }
+    ensures { λ r. ⌜ HeldAfter (now (forest .entry)) (now (work .exit)) r ⌝ }
 {
     let step = intern::forest(forest, work);
     if step.number != 0 {
@@ -123,7 +123,7 @@ pub fn pass(forest: &[u8], out: &mut [u8], work: &mut [u32]) -> Answer
     ensures { λ r. ⌜ Tells (written (callOf (now (forest .entry)) (now (out .entry)) (now (work .entry))))
         (now (out .entry)) r (now (out .exit)) ⌝ }
     ensures { λ r. ⌜ LentOnly (now (work .entry)) (now (work .exit)) ⌝ }
-    ensures { λ r. ⌜ Holds (now (forest .entry)) (now (work .exit)) r ⌝ }
+    ensures { λ r. ⌜ HeldAfter (now (forest .entry)) (now (work .exit)) r ⌝ }
 {
     match codec::check(forest, work) {
         Verdict::Refused(n, p) => Answer::Refused(n, p as u32),

@@ -5,7 +5,7 @@ use denote.Ref.{now}
 use mathlib.Core.Path.{refl, subst}
 use Rattle.model.specs.Call.{callOf, writtenOf}
 use Rattle.laws.proofs.Frame.{frame-then}
-use Rattle.cse.specs.Call.{Holds}
+use Rattle.cse.specs.Call.{HeldAfter}
 use Rattle.listing.proofs.Small.{number-small, place-most}
 use Rattle.listing.proofs.Told.{pass-numbers, pass-output, told-refused, told-written}
 use Rattle.listing.proofs.Text.{refusal-listed, symbols-listed}
@@ -19,7 +19,7 @@ list-symbols-requires c κs =
     let q = c .before .before .before .before .before .before .before .before .before in
     let b = q .before .before .before .before .before .before in
     let v = c .before .before .before .symbols .given in (
-      subst (Holds (now (b .args .forest)) (q .pass .last .1 .1 .0)) (v .1) (q .pass .ensures .1 .1),
+      subst (HeldAfter (now (b .args .forest)) (q .pass .last .1 .1 .0)) (v .1) (q .pass .ensures .1 .1),
       omega (arith, q .pass .kept .1 .0),
     )
 
