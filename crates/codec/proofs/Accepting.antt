@@ -8,6 +8,7 @@ use mathlib.Core.List.{List}
 use Rattle.model.specs.Answer.{refused, good, unless, checked}
 use Rattle.model.specs.Lists.{first}
 use Rattle.model.specs.Tree.{Trees}
+use Rattle.model.specs.Faults.{faultsIn}
 use Rattle.model.specs.Forest.{treesOf, check2, check3, check4, check5, check6, check7}
 use Rattle.model.specs.Binding.{check8, check9, check10}
 use Rattle.model.specs.Accept.{checks, accept}
@@ -15,7 +16,7 @@ use Rattle.laws.proofs.Checks.{checked-good}
 use Rattle.record.specs.Record.{Laid}
 use Rattle.walk.specs.declared.Place.{Place}
 use Rattle.walk.specs.declared.Place.the-variants.{At, Nowhere}
-use Rattle.walk.specs.Faults.{start, faultsIn, test}
+use Rattle.walk.specs.Faults.{start, checkBy}
 use Rattle.walk.specs.Walk.{placeOf}
 use Rattle.walk.proofs.Checks.{check-7, check-8, check-9, check-10}
 use Rattle.walk.proofs.Any.{any-none}
@@ -92,7 +93,7 @@ module _ (bs : List ℕ) (h : Shaped bs) where
         accepted e = sym (after-6 ∙ rw (seven, eight, nine, e))
 
   -- one walk that tests all four finds nothing
-  pub all-passed : first (faultsIn (test 0) (treesOf bs) start) ≡ none → good (treesOf bs) ≡ accept bs
+  pub all-passed : first (faultsIn (checkBy 0) (treesOf bs) start) ≡ none → good (treesOf bs) ≡ accept bs
   all-passed e =
       accepted (sym (check-7 bs) ∙ any-none 7 (treesOf bs) e) (sym (check-8 (treesOf bs)) ∙ any-none 8 (treesOf bs) e)
       (sym (check-9 (treesOf bs)) ∙ any-none 9 (treesOf bs) e)

@@ -11,6 +11,7 @@ use native.Mathlib.Omega.{arith}
 use lib.ListN.{length, drop}
 use Rattle.model.specs.Lists.{first}
 use Rattle.model.specs.Answer.{refused}
+use Rattle.model.specs.Faults.{faultsIn}
 use Rattle.model.specs.Forest.{recordCount, treesOf, check6}
 use Rattle.model.specs.Accept.{checks, accept}
 use Rattle.model.specs.Conditions.{DirectoryOffends, TreesOffend}
@@ -19,7 +20,7 @@ use Rattle.laws.proofs.Checks.{Says, _next_, first-says, refused-first}
 use Rattle.laws.proofs.Header.{header-of, row-count}
 use Rattle.laws.proofs.Rows.{sizes-rows, closed-trees}
 use Rattle.theory.proofs.Demand3.Places.{check-2, check-3, check-4, check-5, check-6}
-use Rattle.walk.specs.Faults.{faultsIn, test, start}
+use Rattle.walk.specs.Faults.{checkBy, start}
 use Rattle.walk.proofs.Checks.{check-7, check-8, check-9, check-10}
 use Rattle.walk.proofs.Steps.{faultsIn-length}
 
@@ -49,12 +50,12 @@ module _ (bs : List ℕ) where
 
   -- a walk over the trees, which have a record each
   at-walk : recordCount bs ≤ 256 → check6 bs ≡ none → (n : ℕ) (o : Option ℕ) →
-      first (faultsIn (test n) (treesOf bs) start) ≡ o → (p : ℕ) → o ≡ some p → p ≤ 256
+      first (faultsIn (checkBy n) (treesOf bs) start) ≡ o → (p : ℕ) → o ≡ some p → p ≤ 256
   at-walk l six n o is p e =
       omega (
         arith,
-        first-low (faultsIn (test n) (treesOf bs) start) p (is ∙ e),
-        faultsIn-length (test n) (treesOf bs) start,
+        first-low (faultsIn (checkBy n) (treesOf bs) start) p (is ∙ e),
+        faultsIn-length (checkBy n) (treesOf bs) start,
         sizes-rows (treesOf bs),
         ap length (closed-trees bs six .1),
         row-count bs,

@@ -13,6 +13,7 @@ use Rattle.regions.specs.Regions.{SYMBOLS, PENDING, BINDINGS, WORDS, end}
 use Rattle.model.specs.Answer.{refused, good, _>>=_}
 use Rattle.model.specs.Lists.{last}
 use Rattle.model.specs.Tree.{Tree, Trees, node, nil, cons, many, depth, depths}
+use Rattle.model.specs.Faults.{faults}
 use Rattle.model.specs.Forest.{treeCount, treesOf, deep, deeps, check7}
 use Rattle.model.specs.Accept.{accept}
 use Rattle.model.specs.Intern.{Outs, Env, start, internLast, internAll, internForest}
@@ -50,7 +51,7 @@ use Rattle.intern.proofs.After.{kids-good, kids-refused, none-thunked}
 -- ---- how deep an accepted forest is
 
 mutual
-  unfolding deep depth
+  unfolding faults depth
 
   tree-flat : (t : Tree) (d : ℕ) → Clear (deep t d) → depth t + d ≤ 65
   tree-flat (node r ts) d h =

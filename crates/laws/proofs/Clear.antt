@@ -1,6 +1,7 @@
 -- Lists of tests: `Clear` says that no test is true, which is when `first` finds no place.
 --
--- In order: `Clear`, and `_++_`; `Clear` and `first`. A check that passes is taken apart, and put together, by these.
+-- In order: `Clear`, and `_++_`; trees in a row; `Clear` and `first`. A check that passes is taken apart, and put
+-- together, by these.
 -- Assumes nothing.
 use mathlib.Core.Path.{_≡_, refl}
 use mathlib.Core.Bool.{Bool, true, false}
@@ -8,6 +9,8 @@ use mathlib.Core.Option.{Option, none, some}
 use mathlib.Core.List.{List, [], _∷_, _++_}
 use Prim.Native.Nat.{ℕ, suc}
 use Rattle.model.specs.Lists.{first}
+use Rattle.model.specs.Tree.{Tree, Trees, cons}
+use Rattle.model.specs.Faults.{Check, faults, faultsIn}
 use Rattle.laws.specs.Clear.{Clear}
 use Rattle.laws.proofs.Apart.{some-none}
 
@@ -24,6 +27,22 @@ clear-right (b ∷ bs) cs h = clear-right bs cs (h .1)
 pub clear-join : (bs cs : List Bool) → Clear bs → Clear cs → Clear (bs ++ cs)
 clear-join [] cs h k = k
 clear-join (b ∷ bs) cs h k = (h .0, clear-join bs cs (h .1) k)
+
+-- ---- trees in a row: the first of them and the rest
+
+module _ {C : Type 0} (k : Check C) (t : Tree) (ts : Trees) (c : C) where
+  pub clear-head : Clear (faultsIn k (cons t ts) c) → Clear (faults k t (k .here c ts))
+  unfolding faults
+  clear-head = clear-left (faults k t (k .here c ts)) (faultsIn k ts (k .later t c))
+
+  pub clear-tail : Clear (faultsIn k (cons t ts) c) → Clear (faultsIn k ts (k .later t c))
+  unfolding faults
+  clear-tail = clear-right (faults k t (k .here c ts)) (faultsIn k ts (k .later t c))
+
+  pub clear-cons : Clear (faults k t (k .here c ts)) → Clear (faultsIn k ts (k .later t c)) →
+      Clear (faultsIn k (cons t ts) c)
+  unfolding faults
+  clear-cons = clear-join (faults k t (k .here c ts)) (faultsIn k ts (k .later t c))
 
 -- ---- `first`
 

@@ -1,5 +1,5 @@
 -- Binding: the ids and opts in a literal, what a record binds and where, and checks 8 to 10 over trees.
--- In order: kinds of record; ids, opts and arguments; what is bound; 8; 9; 10.
+-- In order: kinds of record; ids, opts and arguments; what is bound; 8; the ids in force; 9; 10.
 -- Assumes nothing.
 use Prim.Native.Nat.{ℕ, zero, suc, _+_, _-_}
 use mathlib.Core.Bool.{Bool, true, false, not, _&&_, _||_, Bool·beq}
@@ -9,9 +9,10 @@ use lib.Dec.{eqb}
 use lib.ListN.{length, drop, take}
 use Rattle.model.specs.Lists.{isIn, anyIn, twice, first}
 use Rattle.model.specs.Bytes.{u32}
-use Rattle.model.specs.Tree.{Rec, Tree, Trees, node, nil, cons, isNil, top}
+use Rattle.model.specs.Tree.{Rec, Tree, Trees, isNil, top}
 use Rattle.model.specs.Opcodes.{ValUse, ValDef, BlockValue, FuncValue, SelectField}
 use Rattle.model.specs.Shape.{aOpt}
+use Rattle.model.specs.Faults.{Check, faults, faultsIn}
 
 -- ---- the kinds of record that the pass and the unfolding tell apart
 
@@ -69,50 +70,78 @@ unfoldable pub inside : Rec → List ℕ
 inside r =
     elim (kind (r .shape)) [ valUse ↦ [] | valDef ↦ [] | block ↦ [] | lambda ↦ argIds r | field ↦ [] | other ↦ [] ]
 
--- the ids that a tree binds in its later siblings: "A definition is in force after its own value, to its block's end"
+-- the id that a record binds in its later siblings: "A definition is in force after its own value, to its block's end"
+abbrev pub defined : Rec → List ℕ
+defined r = elim (eqb (r .shape) ValDef) [ true ↦ idOf r ∷ [] | false ↦ [] ]
+
+-- the ids that a tree binds in its later siblings
 unfoldable pub after : Tree → List ℕ
-after t = elim (isDef t) [ true ↦ idOf (top t) ∷ [] | false ↦ [] ]
+after t = defined (top t)
+
+-- all that a record binds
+abbrev pub own : Rec → List ℕ
+own r = defined r ++ inside r
 
 -- ---- 8: a definition out of place
 
--- for each record; `d` says that a definition has to stand here
-unfoldable mutual
-  pub misplaced : Tree → Bool → List Bool
-  misplaced (node r ts) d = not (Bool·beq (eqb (r .shape) ValDef) d) ∷ misplacedIn ts (isBlock r)
+-- `d` says that a definition has to stand here
+abbrev pub misplacedAt : Bool → Rec → Bool
+misplacedAt d r = not (Bool·beq (eqb (r .shape) ValDef) d)
 
-  -- `b` says that these are a block's children, of which all but the last are definitions
-  pub misplacedIn : Trees → Bool → List Bool
-  misplacedIn nil b = []
-  misplacedIn (cons t ts) b = misplaced t (b && not (isNil ts)) ++ misplacedIn ts b
+-- of trees in a row it is known whether they are a block's children, of which all but the last are definitions
+abbrev pub placeCheck : Check Bool
+placeCheck = record {
+  offends = misplacedAt;
+  inner = λ r b. isBlock r;
+  here = λ b ts. b && not (isNil ts);
+  later = λ t b. b;
+}
+
+-- for each record
+abbrev pub misplaced : Tree → Bool → List Bool
+misplaced = faults placeCheck
+
+abbrev pub misplacedIn : Trees → Bool → List Bool
+misplacedIn = faultsIn placeCheck
 
 unfoldable pub check8 : Trees → Option ℕ
 check8 ts = first (misplacedIn ts false)
 
+-- ---- the ids in force, of which 9 and 10 are tests
+
+abbrev pub idsCheck : (List ℕ → Rec → Bool) → Check (List ℕ)
+idsCheck test = record {
+  offends = test;
+  inner = λ r ids. inside r ++ ids;
+  here = λ ids ts. ids;
+  later = λ t ids. after t ++ ids;
+}
+
 -- ---- 9: an id bound while in force or twice in one lambda
 
--- for each record, with the ids in force where it stands
-unfoldable mutual
-  pub rebound : Tree → List ℕ → List Bool
-  rebound (node r ts) ids =
-      let own = after (node r ts) ++ inside r in
-      (anyIn own ids || twice own) ∷ reboundIn ts (inside r ++ ids)
+abbrev pub reboundAt : List ℕ → Rec → Bool
+reboundAt ids r = anyIn (own r) ids || twice (own r)
 
-  pub reboundIn : Trees → List ℕ → List Bool
-  reboundIn nil ids = []
-  reboundIn (cons t ts) ids = rebound t ids ++ reboundIn ts (after t ++ ids)
+-- for each record, with the ids in force where it stands
+abbrev pub rebound : Tree → List ℕ → List Bool
+rebound = faults (idsCheck reboundAt)
+
+abbrev pub reboundIn : Trees → List ℕ → List Bool
+reboundIn = faultsIn (idsCheck reboundAt)
 
 unfoldable pub check9 : Trees → Option ℕ
 check9 ts = first (reboundIn ts [])
 
 -- ---- 10: a use of an id not in force
 
-unfoldable mutual
-  pub unbound : Tree → List ℕ → List Bool
-  unbound (node r ts) ids = (eqb (r .shape) ValUse && not (isIn (idOf r) ids)) ∷ unboundIn ts (inside r ++ ids)
+abbrev pub unboundAt : List ℕ → Rec → Bool
+unboundAt ids r = eqb (r .shape) ValUse && not (isIn (idOf r) ids)
 
-  pub unboundIn : Trees → List ℕ → List Bool
-  unboundIn nil ids = []
-  unboundIn (cons t ts) ids = unbound t ids ++ unboundIn ts (after t ++ ids)
+abbrev pub unbound : Tree → List ℕ → List Bool
+unbound = faults (idsCheck unboundAt)
+
+abbrev pub unboundIn : Trees → List ℕ → List Bool
+unboundIn = faultsIn (idsCheck unboundAt)
 
 unfoldable pub check10 : Trees → Option ℕ
 check10 ts = first (unboundIn ts [])

@@ -9,12 +9,11 @@ use Rattle.model.specs.Tree.{forestOf, serialise, size, depth, rows}
 use Rattle.model.specs.Shape.{aByte, aId, aType, aOpt, _then_, times, aCounted, whole, bits, shapes, fits}
 use Rattle.model.specs.Shape.{shapeOf}
 use Rattle.model.specs.Shape.{bothWays, oneWay, agrees}
+use Rattle.model.specs.Faults.{faults}
 use Rattle.model.specs.Forest.{treeCount, recordCount, pairsAt, pairsOf, rowOf, rowsAt, bodyStart, rowsIn}
 use Rattle.model.specs.Forest.{treesOf}
-use Rattle.model.specs.Forest.{check2, badPairs, check3, check4, check5, unclosed, check6, check7, deep}
+use Rattle.model.specs.Forest.{check2, badPairs, check3, check4, check5, unclosed, check6, check7}
 use Rattle.model.specs.Binding.{kind, idOf, optOf, argsOf, argIds, inside, after, check8, check9, check10}
-use Rattle.model.specs.Binding.{misplaced}
-use Rattle.model.specs.Binding.{rebound, unbound}
 use Rattle.model.specs.Accept.{checks, accept}
 use Rattle.model.specs.Unfold.{meaning, bindFrom, unfoldKind, unfoldItem, unfolded, unfoldAt}
 use Rattle.model.specs.Intern.{start, isKey, lookupIn, lookup, climb, placement, unionDeps, push, alloc, finish}
@@ -44,7 +43,7 @@ bytes-and-trees = tt
 unfoldable pub acceptance : Unit {0}
 unfolding aByte aId aType aOpt _then_ times aCounted whole bits shapes fits shapeOf bothWays oneWay agrees treeCount
     recordCount pairsAt pairsOf rowOf rowsAt bodyStart rowsIn treesOf check2 badPairs check3 check4 check5 unclosed
-    check6 check7 deep kind idOf optOf argsOf argIds inside after check8 check9 check10 misplaced rebound unbound
+    check6 check7 faults kind idOf optOf argsOf argIds inside after check8 check9 check10
     checks accept
 acceptance = tt
 

@@ -4,13 +4,14 @@
 use Prim.Native.Nat.{ℕ, zero, suc, _+_, _*_}
 use mathlib.Core.Bool.{Bool, true, false, not, _&&_, _||_}
 use mathlib.Core.Option.{Option, none, some}
-use mathlib.Core.List.{List, [], _∷_, _++_, map}
+use mathlib.Core.List.{List, [], _∷_, map}
 use lib.Dec.{eqb, leb, ltb}
 use lib.ListN.{length, getD, drop, take}
 use Rattle.model.specs.Lists.{first}
 use Rattle.model.specs.Bytes.{u16}
 use Rattle.model.specs.Answer.{at0}
-use Rattle.model.specs.Tree.{rec, Row, Tree, Trees, node, nil, cons, grow}
+use Rattle.model.specs.Tree.{rec, Row, Tree, Trees, grow}
+use Rattle.model.specs.Faults.{Check, faults, faultsIn}
 use Rattle.model.specs.Shape.{Pairs, fits, agrees}
 
 -- ---- reading
@@ -101,14 +102,21 @@ check6 bs = unclosed (treeCount bs) 0 (rowsIn bs)
 
 -- ---- 7: deeper than 64
 
--- for each record, of a tree whose root has depth d
-unfoldable mutual
-  pub deep : Tree → ℕ → List Bool
-  deep (node r ts) d = ltb 64 d ∷ deeps ts (suc d)
+-- what is known of a record is its depth
+abbrev pub depthCheck : Check ℕ
+depthCheck = record {
+  offends = λ d r. ltb 64 d;
+  inner = λ r d. suc d;
+  here = λ d ts. d;
+  later = λ t d. d;
+}
 
-  pub deeps : Trees → ℕ → List Bool
-  deeps nil d = []
-  deeps (cons t ts) d = deep t d ++ deeps ts d
+-- for each record, of a tree whose root has depth d
+abbrev pub deep : Tree → ℕ → List Bool
+deep = faults depthCheck
+
+abbrev pub deeps : Trees → ℕ → List Bool
+deeps = faultsIn depthCheck
 
 unfoldable pub check7 : List ℕ → Option ℕ
 check7 bs = first (deeps (treesOf bs) 1)

@@ -6,6 +6,7 @@ pub mod Down
 pub mod Tree
 pub mod Opcodes
 pub mod Shape
+pub mod Faults
 pub mod Forest
 pub mod Binding
 pub mod Accept

@@ -5,30 +5,36 @@ use Prim.Native.Nat.{ℕ}
 use mathlib.Core.Path.{_≡_, refl}
 use mathlib.Core.Bool.{Bool, true, false, _||_}
 use mathlib.Core.Option.{none}
-use lib.Dec.{eqb}
+use lib.Dec.{eqb, ltb}
 use Rattle.model.specs.Lists.{first}
 use Rattle.model.specs.Tree.{Rec, Tree, Trees, node, nil, cons}
+use Rattle.model.specs.Faults.{Check, faults, faultsIn}
+use Rattle.model.specs.Binding.{misplacedAt, reboundAt, unboundAt}
 use Rattle.laws.proofs.Apart.{true-false}
 use Rattle.laws.specs.Clear.{Clear}
-use Rattle.laws.proofs.Clear.{clear-left, clear-right, clear-join, first-clear, clear-first}
-use Rattle.walk.specs.Faults.{Ctx, start, inner, here, later, faults, faultsIn}
-use Rattle.walk.specs.Faults.{deepAt, misplacedAt, reboundAt, unboundAt, anyAt, test}
+use Rattle.laws.proofs.Clear.{clear-head, clear-tail, clear-cons, first-clear, clear-first}
+use Rattle.walk.specs.Faults.{Ctx, start, testing, anyAt, test, checkBy}
 
 -- ---- where q is false wherever p is, a walk that p leaves clear is clear for q
 
 module _ (p q : Ctx → Rec → Bool) (covers : (c : Ctx) (r : Rec) → p c r ≡ false → q c r ≡ false) where
+  abbrev P : Check Ctx
+  P = testing p
+
+  abbrev Q : Check Ctx
+  Q = testing q
+
   mutual
     unfolding faults
 
-    clear-tree : (t : Tree) (c : Ctx) → Clear (faults p t c) → Clear (faults q t c)
-    clear-tree (node r ts) c h = (covers c r (h .0), clear-trees ts (inner r c) (h .1))
+    clear-tree : (t : Tree) (c : Ctx) → Clear (faults P t c) → Clear (faults Q t c)
+    clear-tree (node r ts) c h = (covers c r (h .0), clear-trees ts (P .inner r c) (h .1))
 
-    clear-trees : (ts : Trees) (c : Ctx) → Clear (faultsIn p ts c) → Clear (faultsIn q ts c)
+    clear-trees : (ts : Trees) (c : Ctx) → Clear (faultsIn P ts c) → Clear (faultsIn Q ts c)
     clear-trees nil c h = tt
     clear-trees (cons t ts) c h =
-        clear-join (faults q t (here c ts)) (faultsIn q ts (later t c))
-        (clear-tree t (here c ts) (clear-left (faults p t (here c ts)) (faultsIn p ts (later t c)) h))
-        (clear-trees ts (later t c) (clear-right (faults p t (here c ts)) (faultsIn p ts (later t c)) h))
+        clear-cons Q t ts c (clear-tree t (P .here c ts) (clear-head P t ts c h))
+        (clear-trees ts (P .later t c) (clear-tail P t ts c h))
 
 -- ---- the tests of a record
 
@@ -36,8 +42,8 @@ module _ (p q : Ctx → Rec → Bool) (covers : (c : Ctx) (r : Rec) → p c r �
 any-covers : (n : ℕ) (c : Ctx) (r : Rec) → test 0 c r ≡ false → test n c r ≡ false
 unfolding test anyAt
 any-covers n c r =
-    go (eqb n 0) (eqb n 7) (eqb n 8) (eqb n 9) (deepAt c) (misplacedAt r (c .def)) (reboundAt r (c .ids))
-    (unboundAt r (c .ids))
+    go (eqb n 0) (eqb n 7) (eqb n 8) (eqb n 9) (ltb 64 (c .depth)) (misplacedAt (c .def) r)
+    (reboundAt (c .ids) r) (unboundAt (c .ids) r)
   where
     testBy : Bool → Bool → Bool → Bool → Bool → Bool → Bool → Bool → Bool
     testBy a b d e p q s t =
@@ -62,7 +68,7 @@ any-covers n c r =
 
 -- ---- the walks
 
-pub any-none : (n : ℕ) (ts : Trees) → first (faultsIn (test 0) ts start) ≡ none →
-    first (faultsIn (test n) ts start) ≡ none
+pub any-none : (n : ℕ) (ts : Trees) → first (faultsIn (checkBy 0) ts start) ≡ none →
+    first (faultsIn (checkBy n) ts start) ≡ none
 any-none n ts e =
     clear-first _ (clear-trees (test 0) (test n) (any-covers n) ts start (first-clear _ e))

@@ -1,55 +1,58 @@
 -- The walk with each of the four tests is the model's check.
--- In order: what has the walk's equations is the walk; 7, 8, 9, 10.
+-- In order: a check that knows more is the check of the part that it looks at; 7, 8, 9, 10.
 -- Assumes nothing.
 use Prim.Native.Nat.{ℕ}
 use mathlib.Core.Path.{_≡_, refl, ap, _∙_}
-use mathlib.Core.Bool.{Bool}
-use mathlib.Core.List.{List, _∷_, _++_, []}
+use mathlib.Core.List.{List}
 use Rattle.model.specs.Lists.{first}
 use Rattle.model.specs.Tree.{Rec, Tree, Trees, node, nil, cons}
-use Rattle.model.specs.Forest.{treesOf, deep, deeps, check7}
-use Rattle.model.specs.Binding.{misplaced, misplacedIn, rebound, reboundIn, unbound, unboundIn, after, check8, check9}
-use Rattle.model.specs.Binding.{check10}
-use Rattle.walk.specs.Faults.{Ctx, start, inner, here, later, faults, faultsIn, test}
+use Rattle.model.specs.Faults.{Check, faults, faultsIn}
+use Rattle.model.specs.Forest.{treesOf, depthCheck, check7}
+use Rattle.model.specs.Binding.{placeCheck, idsCheck, reboundAt, unboundAt, check8, check9, check10}
+use Rattle.walk.specs.Faults.{start, test, checkBy}
 
--- two walks in a row
-joined : (a b c d : List Bool) → a ≡ b → c ≡ d → a ++ c ≡ b ++ d
-joined a b c d p q = cc
-
-module _ (p : Ctx → Rec → Bool) (g : Tree → Ctx → List Bool) (gs : Trees → Ctx → List Bool)
-    (at-node : (r : Rec) (ts : Trees) (c : Ctx) → p c r ∷ gs ts (inner r c) ≡ g (node r ts) c)
-    (at-nil : (c : Ctx) → [] ≡ gs nil c)
-    (at-cons : (t : Tree) (ts : Trees) (c : Ctx) → g t (here c ts) ++ gs ts (later t c) ≡ gs (cons t ts) c) where
+-- what k knows has a part that goes the way of what l knows, and k looks at that part as l does
+module _ {C D : Type 0} (k : Check C) (l : Check D) (part : C → D)
+    (at-record : (c : C) (r : Rec) → k .offends c r ≡ l .offends (part c) r)
+    (inner : (r : Rec) (c : C) → part (k .inner r c) ≡ l .inner r (part c))
+    (here : (c : C) (ts : Trees) → part (k .here c ts) ≡ l .here (part c) ts)
+    (later : (t : Tree) (c : C) → part (k .later t c) ≡ l .later t (part c)) where
   mutual
     unfolding faults
 
-    walk-is : (t : Tree) (c : Ctx) → faults p t c ≡ g t c
-    walk-is (node r ts) c = ap (_∷_ (p c r)) (walks-are ts (inner r c)) ∙ at-node r ts c
+    walk-is : (t : Tree) (c : C) → faults k t c ≡ faults l t (part c)
+    walk-is (node r ts) c =
+        let a = at-record c r in
+        let b = walks-are ts (k .inner r c) ∙ ap (faultsIn l ts) (inner r c) in
+        cc
 
-    walks-are : (ts : Trees) (c : Ctx) → faultsIn p ts c ≡ gs ts c
-    walks-are nil c = at-nil c
-    walks-are (cons t ts) c = joined _ _ _ _ (walk-is t (here c ts)) (walks-are ts (later t c)) ∙ at-cons t ts c
+    walks-are : (ts : Trees) (c : C) → faultsIn k ts c ≡ faultsIn l ts (part c)
+    walks-are nil c = refl
+    walks-are (cons t ts) c =
+        let a = walk-is t (k .here c ts) ∙ ap (faults l t) (here c ts) in
+        let b = walks-are ts (k .later t c) ∙ ap (faultsIn l ts) (later t c) in
+        cc
 
-pub check-7 : (bs : List ℕ) → first (faultsIn (test 7) (treesOf bs) start) ≡ check7 bs
-unfolding check7 deep test
+pub check-7 : (bs : List ℕ) → first (faultsIn (checkBy 7) (treesOf bs) start) ≡ check7 bs
+unfolding check7 test
 check-7 bs =
-    ap first (walks-are (test 7) (λ t c. deep t (c .depth)) (λ ts c. deeps ts (c .depth)) (λ r ts c. refl) (λ c. refl)
-    (λ t ts c. refl) (treesOf bs) start)
+    ap first (walks-are (checkBy 7) depthCheck (λ c. c .depth) (λ c r. refl) (λ r c. refl) (λ c ts. refl) (λ t c. refl)
+    (treesOf bs) start)
 
-pub check-8 : (ts : Trees) → first (faultsIn (test 8) ts start) ≡ check8 ts
-unfolding check8 misplaced test
+pub check-8 : (ts : Trees) → first (faultsIn (checkBy 8) ts start) ≡ check8 ts
+unfolding check8 test
 check-8 ts =
-    ap first (walks-are (test 8) (λ t c. misplaced t (c .def)) (λ ts c. misplacedIn ts (c .def))
-    (λ r ts c. refl) (λ c. refl) (λ t ts c. refl) ts start)
+    ap first (walks-are (checkBy 8) placeCheck (λ c. c .def) (λ c r. refl) (λ r c. refl) (λ c ts. refl) (λ t c. refl)
+    ts start)
 
-pub check-9 : (ts : Trees) → first (faultsIn (test 9) ts start) ≡ check9 ts
-unfolding check9 rebound test after
+pub check-9 : (ts : Trees) → first (faultsIn (checkBy 9) ts start) ≡ check9 ts
+unfolding check9 test
 check-9 ts =
-    ap first (walks-are (test 9) (λ t c. rebound t (c .ids)) (λ ts c. reboundIn ts (c .ids))
-    (λ r ts c. refl) (λ c. refl) (λ t ts c. refl) ts start)
+    ap first (walks-are (checkBy 9) (idsCheck reboundAt) (λ c. c .ids) (λ c r. refl) (λ r c. refl) (λ c ts. refl)
+    (λ t c. refl) ts start)
 
-pub check-10 : (ts : Trees) → first (faultsIn (test 10) ts start) ≡ check10 ts
-unfolding check10 unbound test
+pub check-10 : (ts : Trees) → first (faultsIn (checkBy 10) ts start) ≡ check10 ts
+unfolding check10 test
 check-10 ts =
-    ap first (walks-are (test 10) (λ t c. unbound t (c .ids)) (λ ts c. unboundIn ts (c .ids))
-    (λ r ts c. refl) (λ c. refl) (λ t ts c. refl) ts start)
+    ap first (walks-are (checkBy 10) (idsCheck unboundAt) (λ c. c .ids) (λ c r. refl) (λ r c. refl) (λ c ts. refl)
+    (λ t c. refl) ts start)

@@ -12,10 +12,11 @@ use lib.Dec.{ltb}
 use lib.ListN.{length, length-append}
 use Rattle.model.specs.Lists.{first}
 use Rattle.model.specs.Tree.{Rec, Tree, Trees, node, nil, cons, isNil, many, takeT, dropT, size, sizes}
+use Rattle.model.specs.Faults.{Check, faults, faultsIn}
 use Rattle.model.specs.Forest.{recordCount}
 use Rattle.laws.proofs.Apart.{some-none}
 use Rattle.walk.specs.declared.Walk.the-variants.{Next}
-use Rattle.walk.specs.Faults.{Ctx, inner, here, later, faults, faultsIn}
+use Rattle.walk.specs.Faults.{Ctx, testing}
 use Rattle.walk.specs.Walk.{treesFrom, restAt, treeAt, shift, Comes}
 use Rattle.walk.proofs.Bridge.{trees-at}
 
@@ -78,55 +79,55 @@ first-sooner (false ∷ xs) ys q e = go (first xs) refl (λ r f. first-sooner xs
 
 -- ---- a record and its children
 
-module _ (p : Ctx → Rec → Bool) where
-  pub node-offends : (i : ℕ) (r : Rec) (ts : Trees) (c : Ctx) → p c r ≡ true →
-      some i ≡ shift i (first (faults p (node r ts) c))
+module _ {C : Type 0} (k : Check C) where
+  pub node-offends : (i : ℕ) (r : Rec) (ts : Trees) (c : C) → k .offends c r ≡ true →
+      some i ≡ shift i (first (faults k (node r ts) c))
   unfolding faults
-  node-offends i r ts c e = sym (shift-hit i (p c r) (faultsIn p ts (inner r c)) e)
+  node-offends i r ts c e = sym (shift-hit i (k .offends c r) (faultsIn k ts (k .inner r c)) e)
 
-  pub node-passes : (i : ℕ) (r : Rec) (ts : Trees) (c : Ctx) → p c r ≡ false →
-      shift (i + 1) (first (faultsIn p ts (inner r c))) ≡ shift i (first (faults p (node r ts) c))
+  pub node-passes : (i : ℕ) (r : Rec) (ts : Trees) (c : C) → k .offends c r ≡ false →
+      shift (i + 1) (first (faultsIn k ts (k .inner r c))) ≡ shift i (first (faults k (node r ts) c))
   unfolding faults
-  node-passes i r ts c e = sym (shift-miss i (p c r) (faultsIn p ts (inner r c)) e)
+  node-passes i r ts c e = sym (shift-miss i (k .offends c r) (faultsIn k ts (k .inner r c)) e)
 
   -- ---- trees in a row
 
   mutual
     unfolding faults size
 
-    faults-length : (t : Tree) (c : Ctx) → length (faults p t c) ≡ size t
-    faults-length (node r ts) c = ap suc (faultsIn-length ts (inner r c))
+    faults-length : (t : Tree) (c : C) → length (faults k t c) ≡ size t
+    faults-length (node r ts) c = ap suc (faultsIn-length ts (k .inner r c))
 
-    pub faultsIn-length : (ts : Trees) (c : Ctx) → length (faultsIn p ts c) ≡ sizes ts
+    pub faultsIn-length : (ts : Trees) (c : C) → length (faultsIn k ts c) ≡ sizes ts
     faultsIn-length nil c = refl
     faultsIn-length (cons t ts) c =
         omega (
           arith,
-          length-append (faults p t (here c ts)) (faultsIn p ts (later t c)),
-          faults-length t (here c ts),
-          faultsIn-length ts (later t c),
+          length-append (faults k t (k .here c ts)) (faultsIn k ts (k .later t c)),
+          faults-length t (k .here c ts),
+          faultsIn-length ts (k .later t c),
         )
 
-  row-passes : (j : ℕ) (t : Tree) (ts : Trees) (c : Ctx) → none ≡ shift j (first (faults p t (here c ts))) →
-      shift (j + size t) (first (faultsIn p ts (later t c))) ≡ shift j (first (faultsIn p (cons t ts) c))
+  row-passes : (j : ℕ) (t : Tree) (ts : Trees) (c : C) → none ≡ shift j (first (faults k t (k .here c ts))) →
+      shift (j + size t) (first (faultsIn k ts (k .later t c))) ≡ shift j (first (faultsIn k (cons t ts) c))
   unfolding faults
   row-passes j t ts c e =
-      ap (λ (n : ℕ). shift (j + n) (first (faultsIn p ts (later t c)))) (sym (faults-length t (here c ts)))
-      ∙ sym (shift-shift j (length (faults p t (here c ts))) (first (faultsIn p ts (later t c))))
-      ∙ ap (shift j) (sym (first-later (faults p t (here c ts)) (faultsIn p ts (later t c)) clear))
+      ap (λ (n : ℕ). shift (j + n) (first (faultsIn k ts (k .later t c)))) (sym (faults-length t (k .here c ts)))
+      ∙ sym (shift-shift j (length (faults k t (k .here c ts))) (first (faultsIn k ts (k .later t c))))
+      ∙ ap (shift j) (sym (first-later (faults k t (k .here c ts)) (faultsIn k ts (k .later t c)) clear))
     where
-      clear : first (faults p t (here c ts)) ≡ none
-      clear = shift-none j (first (faults p t (here c ts))) e
+      clear : first (faults k t (k .here c ts)) ≡ none
+      clear = shift-none j (first (faults k t (k .here c ts))) e
 
-  row-offends : (j q : ℕ) (t : Tree) (ts : Trees) (c : Ctx) → some q ≡ shift j (first (faults p t (here c ts))) →
-      some q ≡ shift j (first (faultsIn p (cons t ts) c))
+  row-offends : (j q : ℕ) (t : Tree) (ts : Trees) (c : C) → some q ≡ shift j (first (faults k t (k .here c ts))) →
+      some q ≡ shift j (first (faultsIn k (cons t ts) c))
   unfolding faults
-  row-offends j q t ts c e = go (first (faults p t (here c ts))) refl e
+  row-offends j q t ts c e = go (first (faults k t (k .here c ts))) refl e
     where
-      go : (o : Option ℕ) → first (faults p t (here c ts)) ≡ o → some q ≡ shift j o →
-          some q ≡ shift j (first (faults p t (here c ts) ++ faultsIn p ts (later t c)))
+      go : (o : Option ℕ) → first (faults k t (k .here c ts)) ≡ o → some q ≡ shift j o →
+          some q ≡ shift j (first (faults k t (k .here c ts) ++ faultsIn k ts (k .later t c)))
       go none f g = some-none g
-      go (some r) f g = g ∙ ap (shift j) (sym (first-sooner (faults p t (here c ts)) (faultsIn p ts (later t c)) r f))
+      go (some r) f g = g ∙ ap (shift j) (sym (first-sooner (faults k t (k .here c ts)) (faultsIn k ts (k .later t c)) r f))
 
 take-cons : (n : ℕ) (t : Tree) (ts : Trees) → 0 < n → takeT n (cons t ts) ≡ cons t (takeT (n - 1) ts)
 unfolding takeT
@@ -149,8 +150,8 @@ here-is (suc m) (cons t ts) l = sym (lt-ltb 0 (suc m) (omega arith))
 
 -- of `count` trees from record i on, `left` are left from record j on, and stand at d
 pub record Remains (bs : List ℕ) (p : Ctx → Rec → Bool) (i count : ℕ) (c : Ctx) (j left : ℕ) (d : Ctx) : Type 0 where
-  pub fault : shift j (first (faultsIn p (takeT left (treesFrom bs j)) d)) ≡ shift i
-      (first (faultsIn p (takeT count (treesFrom bs i)) c))
+  pub fault : shift j (first (faultsIn (testing p) (takeT left (treesFrom bs j)) d)) ≡ shift i
+      (first (faultsIn (testing p) (takeT count (treesFrom bs i)) c))
   pub place : j + sizes (takeT left (treesFrom bs j)) ≡ i + sizes (takeT count (treesFrom bs i))
   pub rest : dropT left (treesFrom bs j) ≡ dropT count (treesFrom bs i)
   pub there : left ≤ many (treesFrom bs j)
@@ -161,12 +162,12 @@ module _ (bs : List ℕ) (p : Ctx → Rec → Bool) (i count : ℕ) (c : Ctx) wh
 
   module _ (j left : ℕ) (d : Ctx) (h : Remains bs p i count c j left d) where
     pub remains-end : left ≤ 0 →
-        (none ≡ shift i (first (faultsIn p (takeT count (treesFrom bs i)) c))) × Comes bs i
+        (none ≡ shift i (first (faultsIn (testing p) (takeT count (treesFrom bs i)) c))) × Comes bs i
         (sizes (takeT count (treesFrom bs i))) (dropT count (treesFrom bs i)) (Next j)
     unfolding takeT dropT faults size first
     remains-end l =
         let e : left ≡ 0 = omega arith in (
-          ap (λ (n : ℕ). shift j (first (faultsIn p (takeT n (treesFrom bs j)) d))) (sym e) ∙ h .fault,
+          ap (λ (n : ℕ). shift j (first (faultsIn (testing p) (takeT n (treesFrom bs j)) d))) (sym e) ∙ h .fault,
           (
             omega (arith, ap (λ (n : ℕ). j + sizes (takeT n (treesFrom bs j))) e, h .place),
             ap (λ (n : ℕ). dropT n (treesFrom bs j)) (sym e) ∙ h .rest,
@@ -188,27 +189,27 @@ module _ (bs : List ℕ) (p : Ctx → Rec → Bool) (i count : ℕ) (c : Ctx) wh
       abbrev stands : Ctx
       stands = record { depth = d .depth; def = d .def && ltb 0 (left - 1); ids = d .ids }
 
-      stands-here : here d (takeT (left - 1) (restAt bs j)) ≡ stands
+      stands-here : testing p .here d (takeT (left - 1) (restAt bs j)) ≡ stands
       stands-here =
           ap (λ (b : Bool). record { depth = d .depth; def = d .def && b; ids = d .ids })
           (here-is (left - 1) (restAt bs j) still-there)
 
-      pub remains-offends : (q : ℕ) → some q ≡ shift j (first (faults p (treeAt bs j) stands)) →
-          some q ≡ shift i (first (faultsIn p (takeT count (treesFrom bs i)) c))
+      pub remains-offends : (q : ℕ) → some q ≡ shift j (first (faults (testing p) (treeAt bs j) stands)) →
+          some q ≡ shift i (first (faultsIn (testing p) (takeT count (treesFrom bs i)) c))
       remains-offends q e =
-          row-offends p j q (treeAt bs j) (takeT (left - 1) (restAt bs j)) d (rw stands-here e)
-          ∙ ap (λ (ts : Trees). shift j (first (faultsIn p ts d))) (sym take-left)
+          row-offends (testing p) j q (treeAt bs j) (takeT (left - 1) (restAt bs j)) d (rw stands-here e)
+          ∙ ap (λ (ts : Trees). shift j (first (faultsIn (testing p) ts d))) (sym take-left)
           ∙ h .fault
 
-      pub remains-turn : (next : ℕ) (d′ : Ctx) → none ≡ shift j (first (faults p (treeAt bs j) stands)) →
-          next ≡ j + size (treeAt bs j) → treesFrom bs next ≡ restAt bs j → d′ ≡ later (treeAt bs j) d →
+      pub remains-turn : (next : ℕ) (d′ : Ctx) → none ≡ shift j (first (faults (testing p) (treeAt bs j) stands)) →
+          next ≡ j + size (treeAt bs j) → treesFrom bs next ≡ restAt bs j → d′ ≡ testing p .later (treeAt bs j) d →
           Remains bs p i count c next (left - 1) d′
       unfolding size
       remains-turn next d′ e place rest there = record {
         fault =
             rw (rest, there, place)
-            (row-passes p j (treeAt bs j) (takeT (left - 1) (restAt bs j)) d (rw stands-here e)
-            ∙ ap (λ (ts : Trees). shift j (first (faultsIn p ts d))) (sym take-left)
+            (row-passes (testing p) j (treeAt bs j) (takeT (left - 1) (restAt bs j)) d (rw stands-here e)
+            ∙ ap (λ (ts : Trees). shift j (first (faultsIn (testing p) ts d))) (sym take-left)
             ∙ h .fault);
         place = rw rest (omega (arith, place, ap sizes take-left, h .place));
         rest = ap (dropT (left - 1)) rest ∙ sym drop-left ∙ h .rest;

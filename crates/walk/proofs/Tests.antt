@@ -7,18 +7,18 @@ use mathlib.Core.Bool.{Bool, true, false, not, Bool·beq, _||_, and-true, and-fa
 use mathlib.Core.List.{List, _∷_, _++_, []}
 use native.Mathlib.Omega.{arith}
 use borrow.Author.Tests.{eq-eqb, ne-eqb, lt-ltb, le-ltb}
-use lib.Dec.{eqb}
+use lib.Dec.{eqb, ltb}
 use lib.ListN.{length, getD, drop, length-append}
 use Rattle.model.specs.Lists.{isIn, anyIn, twice}
 use Rattle.model.specs.Bytes.{u32}
-use Rattle.model.specs.Tree.{Rec, Tree, node, nil, top}
+use Rattle.model.specs.Tree.{Rec, Tree, top}
 use Rattle.model.specs.Binding.{Kind, valUse, valDef, block, lambda, field, other, kind, idOf, argIds, inside}
-use Rattle.model.specs.Binding.{after}
+use Rattle.model.specs.Binding.{defined, after, misplacedAt, reboundAt, unboundAt}
 use Rattle.laws.proofs.Apart.{true-false}
 use Rattle.laws.proofs.Members.{isIn-append}
 use Rattle.laws.specs.Stack.{stackOf}
 use Rattle.laws.proofs.Stack.{stack-length}
-use Rattle.walk.specs.Faults.{Ctx, deepAt, misplacedAt, reboundAt, unboundAt, anyAt, test}
+use Rattle.walk.specs.Faults.{Ctx, anyAt, test}
 use Rattle.walk.specs.declared.Context.{Context}
 use Rattle.walk.specs.Words.{idsOf, argIdsAt, clash, childOf}
 
@@ -28,13 +28,19 @@ pub id-is : (x : ℕ) (lit : List ℕ) (r : Rec) → x ≡ u32 (drop 0 lit) → 
 unfolding idOf
 id-is x lit r e f = e ∙ ap u32 f
 
+defined-def : (r : Rec) → r .shape ≡ 10 → defined r ≡ idOf r ∷ []
+defined-def r e = rw (defined, eq-eqb (r .shape) 10 e)
+
+defined-other : (r : Rec) → (r .shape ≡ 10 → ⊥) → defined r ≡ []
+defined-other r h = rw (defined, ne-eqb (r .shape) 10 h)
+
 pub after-def : (t : Tree) → top t .shape ≡ 10 → after t ≡ idOf (top t) ∷ []
 unfolding after
-after-def t e = rw (after, eq-eqb (top t .shape) 10 e)
+after-def t = defined-def (top t)
 
 pub after-other : (t : Tree) → (top t .shape ≡ 10 → ⊥) → after t ≡ []
 unfolding after
-after-other t h = rw (after, ne-eqb (top t .shape) 10 h)
+after-other t = defined-other (top t)
 
 inside-lambda : (r : Rec) → r .shape ≡ 12 → inside r ≡ argIds r
 unfolding inside kind
@@ -107,40 +113,40 @@ module _ (n : ℕ) (c : Ctx) (r : Rec) where
   unfolding test
   test-any e = rw e
 
-  pub test-7 : n ≡ 7 → deepAt c ≡ test n c r
+  pub test-7 : n ≡ 7 → ltb 64 (c .depth) ≡ test n c r
   unfolding test
   test-7 e = rw e
 
-  pub test-8 : n ≡ 8 → misplacedAt r (c .def) ≡ test n c r
+  pub test-8 : n ≡ 8 → misplacedAt (c .def) r ≡ test n c r
   unfolding test
   test-8 e = rw e
 
-  pub test-9 : (b : Bool) → b ≡ reboundAt r (c .ids) → n ≡ 9 → b ≡ test n c r
+  pub test-9 : (b : Bool) → b ≡ reboundAt (c .ids) r → n ≡ 9 → b ≡ test n c r
   unfolding test
   test-9 b f e = f ∙ rw e
 
-  pub test-10 : (b : Bool) → b ≡ unboundAt r (c .ids) → (n ≡ 0 → ⊥) → (n ≡ 7 → ⊥) → (n ≡ 8 → ⊥) → (n ≡ 9 → ⊥) →
+  pub test-10 : (b : Bool) → b ≡ unboundAt (c .ids) r → (n ≡ 0 → ⊥) → (n ≡ 7 → ⊥) → (n ≡ 8 → ⊥) → (n ≡ 9 → ⊥) →
       b ≡ test n c r
   unfolding test
   test-10 b h d e f g = h ∙ rw (test, ne-eqb n 0 d, ne-eqb n 7 e, ne-eqb n 8 f, ne-eqb n 9 g)
 
 -- any of the four
 module _ (c : Ctx) (r : Rec) where
-  pub any-deep : deepAt c ≡ true → true ≡ anyAt c r
+  pub any-deep : ltb 64 (c .depth) ≡ true → true ≡ anyAt c r
   unfolding anyAt
   any-deep e = rw e
 
-  module _ (shallow : deepAt c ≡ false) where
-    pub any-misplaced : misplacedAt r (c .def) ≡ true → true ≡ anyAt c r
+  module _ (shallow : ltb 64 (c .depth) ≡ false) where
+    pub any-misplaced : misplacedAt (c .def) r ≡ true → true ≡ anyAt c r
     unfolding anyAt
     any-misplaced e = rw (shallow, e)
 
-    module _ (placed : misplacedAt r (c .def) ≡ false) where
-      pub any-rebound : reboundAt r (c .ids) ≡ true → true ≡ anyAt c r
+    module _ (placed : misplacedAt (c .def) r ≡ false) where
+      pub any-rebound : reboundAt (c .ids) r ≡ true → true ≡ anyAt c r
       unfolding anyAt
       any-rebound e = rw (shallow, placed, e)
 
-      pub any-unbound : (b : Bool) → b ≡ unboundAt r (c .ids) → reboundAt r (c .ids) ≡ false → b ≡ anyAt c r
+      pub any-unbound : (b : Bool) → b ≡ unboundAt (c .ids) r → reboundAt (c .ids) r ≡ false → b ≡ anyAt c r
       unfolding anyAt
       any-unbound b h e = h ∙ rw (shallow, placed, e)
 
@@ -161,31 +167,31 @@ misplaced-other s d h = rw (ne-eqb s 10 h) (go d)
 
 -- the answer for a record's shape is the record's
 pub misplaced-told : (s : ℕ) (r : Rec) (d m b : Bool) → m ≡ not (Bool·beq (eqb s 10) d) → s ≡ r .shape → m ≡ b →
-    misplacedAt r d ≡ b
+    misplacedAt d r ≡ b
 misplaced-told s r d m b e f g = ap (λ (z : ℕ). not (Bool·beq (eqb z 10) d)) (sym f) ∙ sym e ∙ g
 
 -- 9
 module _ (r : Rec) (ids : List ℕ) where
-  pub rebound-def : r .shape ≡ 10 → isIn (idOf r) ids ≡ reboundAt r ids
+  pub rebound-def : r .shape ≡ 10 → isIn (idOf r) ids ≡ reboundAt ids r
   unfolding anyIn twice isIn
-  rebound-def e = rw (after-def (node r nil) e, inside-other r (λ f. omega arith)) (go (isIn (idOf r) ids))
+  rebound-def e = rw (defined-def r e, inside-other r (λ f. omega arith)) (go (isIn (idOf r) ids))
     where
       go : (b : Bool) → b ≡ ((b || false) || (false || false))
       go true = refl
       go false = refl
 
 pub rebound-other : (r : Rec) (ws : List ℕ) (top end : ℕ) → (r .shape ≡ 10 → ⊥) → top ≤ end →
-    idsOf ws end ≡ inside r ++ idsOf ws top → clash ws top (end - top) ≡ reboundAt r (idsOf ws top)
+    idsOf ws end ≡ inside r ++ idsOf ws top → clash ws top (end - top) ≡ reboundAt (idsOf ws top) r
 rebound-other r ws top end h l e =
     let z : top + (end - top) ≡ end = omega arith in
-    rw (after-other (node r nil) h) (clash-own ws top (end - top) (inside r) (rw z e))
+    rw (defined-other r h) (clash-own ws top (end - top) (inside r) (rw z e))
 
 -- 10
 module _ (r : Rec) (ids : List ℕ) where
-  pub unbound-use : r .shape ≡ 7 → not (isIn (idOf r) ids) ≡ unboundAt r ids
+  pub unbound-use : r .shape ≡ 7 → not (isIn (idOf r) ids) ≡ unboundAt ids r
   unbound-use e = rw (eq-eqb (r .shape) 7 e)
 
-  pub unbound-other : (r .shape ≡ 7 → ⊥) → false ≡ unboundAt r ids
+  pub unbound-other : (r .shape ≡ 7 → ⊥) → false ≡ unboundAt ids r
   unbound-other h = rw (ne-eqb (r .shape) 7 h)
 
 -- ---- where a child stands

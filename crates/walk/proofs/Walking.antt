@@ -9,6 +9,7 @@ use native.Mathlib.Omega.{arith}
 use lib.Dec.{eqb}
 use Rattle.model.specs.Lists.{first}
 use Rattle.model.specs.Tree.{Trees, nil, cons, many, takeT, dropT, size, sizes}
+use Rattle.model.specs.Faults.{faultsIn}
 use Rattle.model.specs.Forest.{recordCount, treeCount, treesOf}
 use Rattle.model.specs.Binding.{inside, after}
 use Rattle.laws.proofs.Trees.{size-some}
@@ -21,7 +22,7 @@ use Rattle.walk.specs.declared.Context.{Context}
 use Rattle.walk.specs.declared.Place.the-variants.{At, Nowhere}
 use Rattle.walk.specs.declared.Walk.{Walk}
 use Rattle.walk.specs.declared.Walk.the-variants.{Next, Fault}
-use Rattle.walk.specs.Faults.{Ctx, start, inner, faultsIn, test}
+use Rattle.walk.specs.Faults.{Ctx, start, test, checkBy}
 use Rattle.walk.specs.Words.{idsOf, Bound, ctxOf, childOf}
 use Rattle.walk.specs.Walk.{treesFrom, kidTreesAt, restAt, treeAt, WellFormed, CanStand, faultOf, shift, Comes}
 use Rattle.walk.specs.Walk.{Walked, WalkedIn, Checked}
@@ -57,7 +58,7 @@ module _ (bs : List ℕ) (n i : ℕ) (at : Context) (ws : List ℕ) where
       Frame (at .top) (end IDS) ws ws′ → Walked bs n i at ws ws′ (Fault i)
   subtree-offends ws′ b e t h = record {
     fault =
-        node-offends (test n) i (rowAt bs i .rec) (kidTreesAt bs i) (ctxOf ws at)
+        node-offends (checkBy n) i (rowAt bs i .rec) (kidTreesAt bs i) (ctxOf ws at)
         (ap (λ (z : Ctx). test n z (rowAt bs i .rec)) (sym (stands-kept ws ws′ at h)) ∙ sym e ∙ t);
     comes = tt;
     kept = h;
@@ -69,7 +70,7 @@ module _ (bs : List ℕ) (n i : ℕ) (at : Context) (ws : List ℕ) where
 
   below-is : (ws′ : List ℕ) (s end : ℕ) → s ≡ rowAt bs i .rec .shape →
       idsOf ws′ end ≡ inside (rowAt bs i .rec) ++ idsOf ws (at .top) →
-      ctxOf ws′ (below (eqb s 11) end) ≡ inner (rowAt bs i .rec) (ctxOf ws at)
+      ctxOf ws′ (below (eqb s 11) end) ≡ checkBy n .inner (rowAt bs i .rec) (ctxOf ws at)
   below-is ws′ s end e f = let z : at .depth + 1 ≡ suc (at .depth) = omega arith in rw (e, f, z)
 
   pub subtree-passes : (ws₁ ws₂ : List ℕ) (b : Bool) (s kids end : ℕ) (r : Walk) →
@@ -80,17 +81,17 @@ module _ (bs : List ℕ) (n i : ℕ) (at : Context) (ws : List ℕ) where
   subtree-passes ws₁ ws₂ b s kids end r bound e f g h w = record {
     fault =
         w .fault
-        ∙ ap (λ (z : Ctx). shift (i + 1) (first (faultsIn (test n) (takeT kids (treesFrom bs (i + 1))) z)))
+        ∙ ap (λ (z : Ctx). shift (i + 1) (first (faultsIn (checkBy n) (takeT kids (treesFrom bs (i + 1))) z)))
         (below-is ws₁ s end g (bound .ids))
-        ∙ ap (λ (z : ℕ). shift (i + 1) (first (faultsIn (test n) (takeT z (treesFrom bs (i + 1))) under))) h
-        ∙ node-passes (test n) i (rowAt bs i .rec) (kidTreesAt bs i) (ctxOf ws at)
+        ∙ ap (λ (z : ℕ). shift (i + 1) (first (faultsIn (checkBy n) (takeT z (treesFrom bs (i + 1))) under))) h
+        ∙ node-passes (checkBy n) i (rowAt bs i .rec) (kidTreesAt bs i) (ctxOf ws at)
         (ap (λ (z : Ctx). test n z (rowAt bs i .rec)) (sym (stands-kept ws ws₁ at (bound .kept))) ∙ sym e ∙ f);
     comes = came r (w .comes);
     kept = within (at .top) end ws ws₁ ws₂ (bound .least) (bound .kept) (w .kept);
   }
     where
       under : Ctx
-      under = inner (rowAt bs i .rec) (ctxOf ws at)
+      under = checkBy n .inner (rowAt bs i .rec) (ctxOf ws at)
 
       came : (r : Walk) →
           Comes bs (i + 1) (sizes (takeT kids (treesFrom bs (i + 1)))) (dropT kids (treesFrom bs (i + 1))) r →
@@ -213,12 +214,12 @@ module _ (bs : List ℕ) (count : ℕ) (sound : WellFormed bs) (e : count ≡ tr
       rw (c, trees-all bs) (take-all (treesOf bs))
 
   module _ (n : ℕ) (ws ws′ : List ℕ) (r : Walk) where
-    forest-place : WalkedIn bs n 0 count origin ws ws′ r → faultOf r ≡ first (faultsIn (test n) (treesOf bs) start)
+    forest-place : WalkedIn bs n 0 count origin ws ws′ r → faultOf r ≡ first (faultsIn (checkBy n) (treesOf bs) start)
     unfolding idsOf stackOf
     forest-place w =
         w .fault
-        ∙ ap (λ (z : Trees). shift 0 (first (faultsIn (test n) z (ctxOf ws origin)))) trees-whole
-        ∙ shift-zero (first (faultsIn (test n) (treesOf bs) start))
+        ∙ ap (λ (z : Trees). shift 0 (first (faultsIn (checkBy n) z (ctxOf ws origin)))) trees-whole
+        ∙ shift-zero (first (faultsIn (checkBy n) (treesOf bs) start))
 
     pub forest-clear : (j : ℕ) → r ≡ Next j → WalkedIn bs n 0 count origin ws ws′ r → Checked bs n ws ws′ Nowhere
     forest-clear j f w = record { place = ap faultOf (sym f) ∙ forest-place w; kept = w .kept }

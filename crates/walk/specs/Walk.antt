@@ -8,6 +8,7 @@ use mathlib.Core.List.{List}
 use lib.ListN.{drop}
 use Rattle.model.specs.Lists.{first}
 use Rattle.model.specs.Tree.{Rec, Tree, Trees, node, takeT, dropT, size, sizes, grow}
+use Rattle.model.specs.Faults.{faults, faultsIn}
 use Rattle.model.specs.Forest.{rowsIn, treesOf, check4, check6}
 use Rattle.laws.specs.Frame.{Frame}
 use Rattle.record.specs.Record.{Laid, rowAt}
@@ -17,7 +18,7 @@ use Rattle.walk.specs.declared.Place.{Place}
 use Rattle.walk.specs.declared.Place.the-variants.{At, Nowhere}
 use Rattle.walk.specs.declared.Walk.{Walk}
 use Rattle.walk.specs.declared.Walk.the-variants.{Next, Fault}
-use Rattle.walk.specs.Faults.{start, faults, faultsIn, test}
+use Rattle.walk.specs.Faults.{start, checkBy}
 use Rattle.walk.specs.Words.{ctxOf}
 
 -- ---- trees by record number
@@ -77,17 +78,17 @@ Comes bs i n rest (Fault p) = Unit {0}
 
 -- the walk of record i's subtree
 pub record Walked (bs : List ℕ) (n i : ℕ) (c : Context) (ws ws′ : List ℕ) (r : Walk) : Type 0 where
-  pub fault : faultOf r ≡ shift i (first (faults (test n) (treeAt bs i) (ctxOf ws c)))
+  pub fault : faultOf r ≡ shift i (first (faults (checkBy n) (treeAt bs i) (ctxOf ws c)))
   pub comes : Comes bs i (size (treeAt bs i)) (restAt bs i) r
   pub kept : Frame (c .top) (end IDS) ws ws′
 
 -- the walk of `count` trees from record i on
 pub record WalkedIn (bs : List ℕ) (n i count : ℕ) (c : Context) (ws ws′ : List ℕ) (r : Walk) : Type 0 where
-  pub fault : faultOf r ≡ shift i (first (faultsIn (test n) (takeT count (treesFrom bs i)) (ctxOf ws c)))
+  pub fault : faultOf r ≡ shift i (first (faultsIn (checkBy n) (takeT count (treesFrom bs i)) (ctxOf ws c)))
   pub comes : Comes bs i (sizes (takeT count (treesFrom bs i))) (dropT count (treesFrom bs i)) r
   pub kept : Frame (c .top) (end IDS) ws ws′
 
 -- the walk of a forest's trees
 pub record Checked (bs : List ℕ) (n : ℕ) (ws ws′ : List ℕ) (r : Place) : Type 0 where
-  pub place : placeOf r ≡ first (faultsIn (test n) (treesOf bs) start)
+  pub place : placeOf r ≡ first (faultsIn (checkBy n) (treesOf bs) start)
   pub kept : Frame (IDS .first) (end IDS) ws ws′

@@ -15,11 +15,11 @@ ghost use lib.ListN.{length};
 ghost use Rattle.model.specs.Lists.{isIn};
 ghost use Rattle.model.specs.Tree.{many};
 ghost use Rattle.model.specs.Forest.{recordCount};
-ghost use Rattle.model.specs.Binding.{idOf, inside, after};
+ghost use Rattle.model.specs.Binding.{idOf, inside, after, reboundAt, unboundAt};
 ghost use Rattle.shape.specs.Args.{Left};
 ghost use Rattle.record.specs.Record.{Laid};
 ghost use Rattle.regions.specs.Regions.{IDS, end};
-ghost use Rattle.walk.specs.Faults.{reboundAt, unboundAt, anyAt, test};
+ghost use Rattle.walk.specs.Faults.{anyAt, test};
 ghost use Rattle.walk.specs.Words.{idsOf, argIdsAt, clash, Bound, ctxOf, childOf};
 ghost use Rattle.walk.specs.Walk.{treesFrom, recAt, treeAt, WellFormed, CanStand, Walked, WalkedIn, Checked};
 
@@ -153,7 +153,7 @@ fn rebound(forest: &[u8], work: &[u32], i: usize, top: usize, end: usize) -> boo
     requires { ⌜ WellFormed (now forest) ⌝ }
     requires { ⌜ (i < recordCount (now forest)) × (top ≤ end) × (end ≤ length (now work)) ⌝ }
     requires { ⌜ idsOf (now work) end ≡ inside (recAt (now forest) i) ++ idsOf (now work) top ⌝ }
-    ensures { λ r. ⌜ r ≡ reboundAt (recAt (now (forest .entry)) i) (idsOf (now (work .entry)) top) ⌝ }
+    ensures { λ r. ⌜ r ≡ reboundAt (idsOf (now (work .entry)) top) (recAt (now (forest .entry)) i) ⌝ }
 {
     if record::shape(forest, i) == VAL_DEF {
         return in_force(work, top, id_of(forest, i));
@@ -165,7 +165,7 @@ fn rebound(forest: &[u8], work: &[u32], i: usize, top: usize, end: usize) -> boo
 fn unbound(forest: &[u8], work: &[u32], i: usize, top: usize) -> bool
     requires { ⌜ WellFormed (now forest) ⌝ }
     requires { ⌜ (i < recordCount (now forest)) × (top ≤ length (now work)) ⌝ }
-    ensures { λ r. ⌜ r ≡ unboundAt (recAt (now (forest .entry)) i) (idsOf (now (work .entry)) top) ⌝ }
+    ensures { λ r. ⌜ r ≡ unboundAt (idsOf (now (work .entry)) top) (recAt (now (forest .entry)) i) ⌝ }
 {
     if record::shape(forest, i) == VAL_USE {
         return !in_force(work, top, id_of(forest, i));

@@ -18,9 +18,10 @@ use Rattle.model.specs.Answer.{good, at0}
 use Rattle.model.specs.Tree.{Row, Tree, Trees, node, nil, cons, many, size, sizes, depth, depths, rows, rowsOf}
 use Rattle.model.specs.Tree.{rowBytes, rowLen, directory, bodies, forestOf, serialise}
 use Rattle.model.specs.Shape.{Pairs}
+use Rattle.model.specs.Faults.{faults}
 use Rattle.model.specs.Forest.{treeCount, recordCount, pairsAt, pairsOf, rowOf, rowsAt, bodyStart, rowsIn, treesOf}
 use Rattle.model.specs.Forest.{check2, badPairs, check3, check4, check5, unclosed, check6, deep, deeps, check7}
-use Rattle.model.specs.Binding.{misplacedIn, reboundIn, unboundIn, check8, check9, check10}
+use Rattle.model.specs.Binding.{check8, check9, check10}
 use Rattle.model.specs.Accept.{checks, accept}
 use Rattle.laws.specs.Clear.{Clear}
 use Rattle.laws.proofs.Clear.{clear-first, clear-join}
@@ -31,7 +32,7 @@ use Rattle.laws.proofs.Trees.{size-some}
 use Rattle.laws.proofs.Rows.{sizes-rows, grow-rows}
 use Rattle.laws.proofs.Lengths.{row-length, directory-length, forest-length}
 use Rattle.theory.specs.Checked.{Checked, CheckedIn}
-use Rattle.theory.proofs.Acceptance.Checked.{checked-join}
+use Rattle.theory.proofs.Acceptance.Checked.{checked-join, nil-checked}
 use Rattle.theory.proofs.Acceptance.Accept.{AllFine, fines-rows, fine-fits, fine-agrees}
 
 -- ---- records
@@ -141,7 +142,7 @@ mutual
       ∙ ap (λ (z : ℕ). unclosed m z rest) {x = at + size t + sizes ts} {y = at + (size t + sizes ts)} (omega arith)))
 
 mutual
-  unfolding deep depth
+  unfolding faults depth
 
   tree-shallow : (t : Tree) (d : ℕ) → depth t + d ≤ 65 → Clear (deep t d)
   tree-shallow (node r ts) d l = (le-ltb 64 d (omega arith), trees-shallow ts (suc d) (omega arith))
@@ -162,8 +163,7 @@ module _ (t : Tree) (c : Checked t false []) (few : size t ≤ 256) (short : len
   bs = serialise (cons t nil)
 
   one-checked : CheckedIn (cons t nil) false []
-  unfolding misplacedIn reboundIn unboundIn
-  one-checked = checked-join t nil false [] c (record { fine = tt; placed = tt; fresh = tt; known = tt })
+  one-checked = checked-join t nil false [] c (nil-checked false _)
 
   count-is : length rs ≡ size t
   unfolding sizes

@@ -16,6 +16,7 @@ use Rattle.model.specs.Lists.{isIn, last}
 use Rattle.model.specs.Answer.{_>>=_}
 use Rattle.model.specs.Tree.{Rec, rec, Tree, Trees, node, nil, cons, many, top}
 use Rattle.model.specs.Shape.{aOpt, shapes}
+use Rattle.model.specs.Faults.{faults}
 use Rattle.model.specs.Binding.{Kind, kind, valUse, valDef, block, lambda, field, other, isDef, idOf, optOf, argsOf}
 use Rattle.model.specs.Binding.{argIds, inside, after, unbound}
 use Rattle.model.specs.Intern.{Node, constant, unparsed, func, operation, State, Out, Outs, Env, Kids, symAt, resolve}
@@ -165,7 +166,7 @@ lambda-kids op (cons t (cons u ts)) e m = absurd (omega arith)
 
 -- a use is of an id that is in force where it stands
 use-bound : (r : Rec) (ts : Trees) (ids : List ℕ) → Clear (unbound (node r ts) ids) → r .shape ≡ 7 → In (idOf r) ids
-unfolding unbound
+unfolding faults
 use-bound r ts ids known e =
     let test = subst (λ (z : Bool). (z && not (isIn (idOf r) ids)) ≡ false) (eq-eqb (r .shape) 7 e) (known .0) in
     isIn-true (idOf r) ids (not-false (isIn (idOf r) ids) test)

@@ -14,6 +14,7 @@ use lib.Dec.{ltb}
 use lib.ListN.{length}
 use borrow.Author.Tests.{ltb-true}
 use Rattle.model.specs.Tree.{Tree, Trees, node, nil, cons, many, size}
+use Rattle.model.specs.Faults.{faults}
 use Rattle.model.specs.Binding.{kind, inside, after, unbound, unboundIn}
 use Rattle.model.specs.Intern.{State, Out, Env, start, read, bindDef, openThunk, closeThunk, dropFirst, recall, thunked}
 use Rattle.model.specs.Intern.{branch, internScoped, internKind, intern, internAll, internForest}
@@ -146,7 +147,7 @@ module _ (B : ℕ → Type 0) (op j : ℕ) (ts : Trees) (st st1 : State) (k c s 
       counted false e = rw (e, thunks) (v .thunks-are)
 
 mutual
-  unfolding intern unbound many
+  unfolding intern faults many
 
   pub intern-keeps : (B : ℕ → Type 0) → B 0 → B 1 → B 2 → (t : Tree) (ids : List ℕ) → TreeHas B t → Fine t →
       Clear (unbound t ids) →

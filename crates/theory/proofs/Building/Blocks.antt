@@ -16,7 +16,8 @@ use borrow.Author.Tests.{eqb-true, eq-eqb, le-leb}
 use Rattle.model.specs.Lists.{isIn, anyIn, twice}
 use Rattle.model.specs.Tree.{rec, Tree, Trees, node, nil, cons, many, isNil, top, size, sizes, snoc}
 use Rattle.model.specs.Shape.{fits, agrees, shapes, shapeOf, bothWays, oneWay, whole}
-use Rattle.model.specs.Binding.{Kind, kind, valUse, idOf, inside, after, misplaced, rebound, unbound}
+use Rattle.model.specs.Faults.{faults}
+use Rattle.model.specs.Binding.{Kind, kind, valUse, idOf, inside, after}
 use Rattle.model.specs.Unfold.{Meaning, meaning, unfoldKind, unfoldItem, unfoldAt, unfoldAll, unfoldLast}
 use Rattle.model.specs.Materialize.{valDefOf, renames, wrapBlock}
 use Rattle.laws.proofs.Members.{and-both}
@@ -163,7 +164,7 @@ block-fits n l = rw (le-leb 1 (suc n) (omega arith), le-leb (suc n) 65535 l)
 
 block-checked : (ts : Trees) (ids : List ℕ) → FitsWith (rec 11 0xD8 0 []) (many ts) → CheckedIn ts true ids →
     Checked (blockOf ts) false ids
-unfolding shapeOf bothWays oneWay agrees isIn misplaced rebound unbound kind inside after anyIn twice
+unfolding shapeOf bothWays oneWay agrees isIn faults kind inside after anyIn twice
 block-checked ts ids f c = record {
   fine = (f, refl, c .fine);
   placed = (refl, c .placed);

@@ -14,8 +14,9 @@ use Rattle.model.specs.Lists.{isIn, anyIn, twice}
 use Rattle.model.specs.Bytes.{u32, put32}
 use Rattle.model.specs.Tree.{Rec, rec, Tree, Trees, node, nil, cons, many, top}
 use Rattle.model.specs.Shape.{fits, agrees, shapes, shapeOf, bothWays, oneWay, aId, aOpt, _then_, whole}
+use Rattle.model.specs.Faults.{faults}
 use Rattle.model.specs.Binding.{Kind, kind, valUse, valDef, block, lambda, field, other, idOf, inside, after, argIds}
-use Rattle.model.specs.Binding.{argsOf, misplaced, rebound, unbound}
+use Rattle.model.specs.Binding.{defined, argsOf}
 use Rattle.model.specs.Unfold.{lam, made, Meaning, meaning, bindFrom, unfoldKind, unfoldItem, unfoldAt, unfoldAll}
 use Rattle.model.specs.Unfold.{unfoldLast}
 use Rattle.model.specs.Materialize.{valUseOf, valDefOf}
@@ -44,7 +45,7 @@ unfolding valUseOf idOf put32
 use-id i = read-id i []
 
 pub use-checked : (i : ℕ) (ids : List ℕ) → In i ids → Checked (valUseOf i) false ids
-unfolding valUseOf fits shapes shapeOf bothWays oneWay agrees whole aId isIn misplaced rebound unbound kind inside after
+unfolding valUseOf fits shapes shapeOf bothWays oneWay agrees whole aId isIn faults kind inside after
     anyIn twice many put32
 use-checked i ids h = record {
   fine = (refl, refl, tt);
@@ -72,7 +73,7 @@ def-unfold i v ms d = refl
 
 pub def-checked : (i : ℕ) (v : Tree) (ids : List ℕ) → (In i ids → ⊥) → Checked v false ids →
     Checked (valDefOf i v) true ids
-unfolding valDefOf fits shapes shapeOf bothWays oneWay agrees whole _then_ aId aOpt isIn misplaced rebound unbound kind
+unfolding valDefOf fits shapes shapeOf bothWays oneWay agrees whole _then_ aId aOpt isIn faults kind
     inside after anyIn twice many put32
 def-checked i v ids n c = record {
   fine = (refl, refl, (c .fine, tt));
@@ -117,7 +118,7 @@ plain-inside r p = go (kind (r .shape)) p
 
 plain-after : (r : Rec) (ts : Trees) → isPlain (kind (r .shape)) ≡ true → after (node r ts) ≡ []
 unfolding after kind
-plain-after r ts p = rw (plain-not (r .shape) 10 refl p, after)
+plain-after r ts p = rw (plain-not (r .shape) 10 refl p, defined)
 
 pub plain-unfold : (r : Rec) (ts : Trees) → isPlain (kind (r .shape)) ≡ true → (ms : Meaning) (d : ℕ) →
     unfoldAt (node r ts) ms d ≡ made r (unfoldAll ts ms d)
@@ -135,7 +136,7 @@ plain-unfold r ts p ms d = go (kind (r .shape)) p
 
 pub plain-checked : (r : Rec) (ts : Trees) (ids : List ℕ) → isPlain (kind (r .shape)) ≡ true → FitsWith r (many ts) →
     agrees r ≡ true → CheckedIn ts false ids → Checked (node r ts) false ids
-unfolding misplaced rebound unbound kind anyIn twice
+unfolding faults kind after anyIn twice
 plain-checked r ts ids p f a c = record {
   fine = (f, a, c .fine);
   placed = (rw not-def, rw not-block (c .placed));
@@ -169,7 +170,7 @@ lam-unfold n l ts ms d = refl
 pub lam-checked : (n : ℕ) (l : List ℕ) (ts : Trees) (ids : List ℕ) → FitsWith (rec 12 0xD9 n l) (many ts) →
     agrees (rec 12 0xD9 n l) ≡ true → (anyIn (symsIn (argsOf n l)) ids || twice (symsIn (argsOf n l))) ≡ false →
     CheckedIn ts false (symsIn (argsOf n l) ++ ids) → Checked (node (rec 12 0xD9 n l) ts) false ids
-unfolding misplaced rebound unbound kind after inside argIds
+unfolding faults kind after inside argIds
 lam-checked n l ts ids f a o c = record {
   fine = (f, a, c .fine);
   placed = (refl, c .placed);

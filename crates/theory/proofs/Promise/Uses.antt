@@ -11,6 +11,7 @@ use lib.Dec.{eqb}
 use borrow.Author.Tests.{eq-eqb, not-false}
 use Rattle.model.specs.Lists.{isIn, twice}
 use Rattle.model.specs.Tree.{Tree, Trees, node, nil, cons}
+use Rattle.model.specs.Faults.{faults}
 use Rattle.model.specs.Binding.{idOf, inside, after, rebound, reboundIn, unbound, unboundIn}
 use Rattle.model.specs.Demand3.{NoUse, NoUses}
 use Rattle.laws.specs.Clear.{Clear}
@@ -33,7 +34,7 @@ apart-more i own ids more h a =
     go (inr k) = a .absent k
 
 mutual
-  unfolding rebound unbound
+  unfolding faults after
 
   pub use-absent : (i : ℕ) (t : Tree) (ids more : List ℕ) → Apart i ids more → Clear (rebound t more) →
       Clear (unbound t ids) →
