@@ -158,6 +158,7 @@ unfolding is called z h k n p u L L2 B computing
 """
 
 MEMBER = "model/specs/Materialize"
+DEFINING = "laws/proofs/Defining"
 INTERN = "model/specs/Intern"
 SCOPES = "theory/proofs/Building/Scopes"
 GIVEN = "theory/proofs/Building/Given"
@@ -204,8 +205,8 @@ EDITS = [
          "isKey-true", "p (n z) (n h)", "unfolds false", "B 1 (n z) (p (u 1) (u 1))"),
     Edit("next-id", "a definition's use is written with the next number",
          [(MEMBER, "((s, suc last) ∷ env)", f"((s, {NEXT}) ∷ env)")],
-         [(SCOPES, "(s, suc last) ∷ env", f"(s, {NEXT}) ∷ env"), (GIVEN, "(s, suc last) ∷ env", f"(s, {NEXT}) ∷ env"),
-          (GIVEN, "given-cases s (suc last)", f"given-cases s ({NEXT})"),
+         [(f, "(s, suc last) ∷ env", f"(s, {NEXT}) ∷ env") for f in (DEFINING, SCOPES, GIVEN)] +
+         [(GIVEN, "given-cases s (suc last)", f"given-cases s ({NEXT})"),
           (GIVEN, "has-more s (suc last)", f"has-more s ({NEXT})"),
           (GIVEN, "(s ≡ t) × (suc last ≡ i)", f"(s ≡ t) × ({NEXT} ≡ i)"),
           (GIVEN, "(s ≡ a) × (suc last ≡ i)", f"(s ≡ a) × ({NEXT} ≡ i)"),
@@ -258,7 +259,7 @@ def checked(edit, fates, crate):
         specs = os.path.join(room, "crates", "model", "specs")
         # the table of examples, and laws that code cites and the theorem does not, would be refused before anything else
         leave_out(specs, ["Examples"])
-        leave_out(os.path.join(room, "crates", "laws", "proofs"), ["Defining", "Blocks", "Building", "Numbering"])
+        leave_out(os.path.join(room, "crates", "laws", "proofs"), ["Blocks", "Building", "Numbering"])
         with open(os.path.join(specs, "Lib.antt"), "a") as f:
             f.write("pub mod Counter\n")
         with open(os.path.join(specs, "Counter.antt"), "w") as f:

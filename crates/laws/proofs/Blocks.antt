@@ -15,9 +15,8 @@ use Rattle.model.specs.Tree.{rec, Tree, Trees, node, nil, cons, top, many, snoc
 use Rattle.model.specs.Tree.{rowsOf}
 use Rattle.model.specs.Intern.{Env}
 use Rattle.model.specs.Gate.{Graph}
-use Rattle.model.specs.Materialize.{Builder, valDefOf, renames, wrapBlock, member}
-use Rattle.laws.specs.Defining.{defsOf}
-use Rattle.laws.proofs.Defining.{defs-member, defs-other, along}
+use Rattle.model.specs.Materialize.{Builder, valDefOf, renames, wrapBlock, member, define}
+use Rattle.laws.proofs.Defining.{along}
 use Rattle.laws.proofs.Trees.{node-rows, node-depth, many-snoc, rows-snoc, depths-snoc}
 
 -- ---- definitions whose values are no uses
@@ -35,13 +34,11 @@ BuildsValues g build sc = (s : ℕ) (env : Env) (last : ℕ) → member g sc env
     eqb (top (build s sc env last) .shape) 7 ≡ false
 
 pub defs-no-renames : (g : Graph) (build : Builder) (sc : ℕ) → BuildsValues g build sc →
-    (order : List ℕ) (env : Env) (last : ℕ) → NoRenames (defsOf g build sc order env last)
-unfolding defsOf
+    (order : List ℕ) (env : Env) (last : ℕ) → NoRenames (define g build sc order env last .defs)
 defs-no-renames g build sc h =
-    along g sc (λ order env last. NoRenames (defsOf g build sc order env last)) (λ env last. tt)
-    (λ s order env last e k.
-    rw (defs-member g sc s order env e build last) ((suc last, build s sc env last, refl, h s env last e), k))
-    (λ s order env last e k. rw (defs-other g sc s order env e build last) k)
+    along g build sc (λ order env last d. NoRenames (d .defs)) (λ env last. tt)
+    (λ s order env last e d k. ((suc last, build s sc env last, refl, h s env last e), k))
+    (λ s order env last e d k. k)
 
 -- ---- the block: no definition, or k of them
 

@@ -19,9 +19,9 @@ use Rattle.model.specs.Tree.{rec, Tree, Trees, node, nil, cons, top, many, dept
 use Rattle.model.specs.Intern.{Node, constant, unparsed, argument, func, operation, Env, thunked}
 use Rattle.model.specs.Gate.{Graph, symOf, usage, shouldHoist}
 use Rattle.model.specs.Schedule.{isArg, schedule}
-use Rattle.model.specs.Materialize.{Builder, valUseOf, valDefOf, wrapBlock, idGiven, member, processScope}
+use Rattle.model.specs.Materialize.{Builder, Defined, valUseOf, valDefOf, wrapBlock, idGiven, member, define, processScope}
 use Rattle.model.specs.Materialize.{buildOp, argLit, argEnv, buildNode, buildStep, buildValue}
-use Rattle.laws.specs.Defining.{defsOf, idsFrom, membersIn}
+use Rattle.laws.specs.Defining.{membersIn}
 use Rattle.laws.proofs.Apart.{false-true}
 use Rattle.laws.proofs.Down.{down-step, under-low}
 use Rattle.laws.proofs.Members.{and-both}
@@ -30,7 +30,7 @@ use Rattle.laws.specs.Members.{Under}
 use Rattle.laws.proofs.Falls.{under-at, schedule-low}
 use Rattle.laws.specs.Members.{Once}
 use Rattle.laws.proofs.Symbols.{every-sym}
-use Rattle.laws.proofs.Defining.{defs-member, defs-other, along, process-is, members-fixed}
+use Rattle.laws.proofs.Defining.{define-member, define-other, definedFirst, along, members-fixed}
 use Rattle.laws.proofs.Blocks.{NoRenames, BuildsValues, defs-no-renames, wrap-none, wrap-rows}
 use Rattle.laws.proofs.Blocks.{wrap-depth}
 
@@ -87,26 +87,23 @@ module _ (g : Graph) (n : ℕ) (f h : Builder) (agree : Agree n f h) where
   same-at : (d : ℕ) → d < n → (sc : ℕ) (env : Env) (last : ℕ) → f d sc env last ≡ h d sc env last
   same-at d l sc env last = ap (λ (z : ℕ → Env → ℕ → Tree). z sc env last) (agree d l)
 
-  defs-same : (sc : ℕ) (order : List ℕ) (env : Env) (last : ℕ) → Under n order →
-      defsOf g f sc order env last ≡ defsOf g h sc order env last
-  unfolding defsOf
-  defs-same sc =
-      along g sc (λ order env last. Under n order → defsOf g f sc order env last ≡ defsOf g h sc order env last)
-      (λ env last low. refl)
-      (λ s order env last e k low.
-      rw (defs-member g sc s order env e f last, defs-member g sc s order env e h last)
-      (ap₂ (λ (v : Tree) (ds : Trees). cons (valDefOf (suc last) v) ds) (same-at s (low s (inl refl)) sc env last)
-      (k (λ x m. low x (inr m)))))
-      (λ s order env last e k low.
-      rw (defs-other g sc s order env e f last, defs-other g sc s order env e h last) (k (λ x m. low x (inr m))))
+  define-same : (sc : ℕ) (order : List ℕ) (env : Env) (last : ℕ) → Under n order →
+      define g f sc order env last ≡ define g h sc order env last
+  unfolding define
+  define-same sc =
+      along g f sc (λ order env last d. Under n order → d ≡ define g h sc order env last) (λ env last low. refl)
+      (λ s order env last e d k low.
+      ap₂ (λ (v : Tree) (x : Defined). definedFirst (valDefOf (suc last) v) x)
+      (same-at s (low s (inl refl)) sc env last) (k (λ x m. low x (inr m)))
+      ∙ sym (define-member g sc s order env e h last))
+      (λ s order env last e d k low. k (λ x m. low x (inr m)) ∙ sym (define-other g sc s order env e h last))
 
   module _ (kids-low : (s : ℕ) → Under s (symOf g s .kids)) where
     process-same : (root sc : ℕ) (env : Env) (last : ℕ) → root < n →
         processScope g f root sc env last ≡ processScope g h root sc env last
+    unfolding processScope
     process-same root sc env last l =
-        process-is g f sc root env last
-        ∙ (ap₂ wrapBlock (defs-same sc (schedule g root sc) env last low) (same-at root l sc _ _)
-        ∙ sym (process-is g h sc root env last))
+        rw (define-same sc (schedule g root sc) env last low) (ap (wrapBlock _) (same-at root l sc _ _))
       where
         low : Under n (schedule g root sc)
         low x m = omega (arith, schedule-low g kids-low root sc x m, l)
@@ -254,31 +251,31 @@ no-uses g h =
 module _ (g : Graph) (values : NoUses g) (root sc : ℕ) (once : Once (schedule g root sc)) (env : Env) (last k : ℕ)
     (count : membersIn g sc env (schedule g root sc) ≡ k) where
   -- the definitions, and the result after them
-  abbrev defs : Trees
-  defs = defsOf g (buildValue g) sc (schedule g root sc) env last
+  abbrev defined : Defined
+  defined = define g (buildValue g) sc (schedule g root sc) env last
 
   abbrev result : Tree
-  result = let ids = idsFrom g sc (schedule g root sc) env last in buildValue g root sc (ids .0) (ids .1)
+  result = buildValue g root sc (defined .env) (defined .last)
 
   abbrev scopeTree : Tree
   scopeTree = processScope g (buildValue g) root sc env last
 
-  scope-count : many defs ≡ k
+  scope-count : many (defined .defs) ≡ k
   scope-count = members-fixed g (buildValue g) sc (schedule g root sc) env last once ∙ count
 
   pub scope-none : k ≡ 0 → scopeTree ≡ result
-  scope-none e = process-is g (buildValue g) sc root env last ∙ wrap-none defs result (scope-count ∙ e)
+  unfolding processScope
+  scope-none e = wrap-none (defined .defs) result (scope-count ∙ e)
 
   module _ (some-def : 0 < k) where
-    kept : NoRenames defs
+    kept : NoRenames (defined .defs)
     kept = defs-no-renames g (buildValue g) sc (value-no-use g values sc) (schedule g root sc) env last
 
-    pub scope-rows : rows scopeTree ≡ record { rec = rec 11 0xD8 0 []; kids = k + 1 } ∷ (rowsOf defs ++ rows result)
-    scope-rows =
-        ap rows (process-is g (buildValue g) sc root env last)
-        ∙ wrap-rows defs result kept k scope-count some-def
+    pub scope-rows : rows scopeTree ≡
+        record { rec = rec 11 0xD8 0 []; kids = k + 1 } ∷ (rowsOf (defined .defs) ++ rows result)
+    unfolding processScope
+    scope-rows = wrap-rows (defined .defs) result kept k scope-count some-def
 
-    pub scope-depth : depth scopeTree ≡ suc (max (depths defs) (depth result))
-    scope-depth =
-        ap depth (process-is g (buildValue g) sc root env last)
-        ∙ wrap-depth defs result kept k scope-count some-def
+    pub scope-depth : depth scopeTree ≡ suc (max (depths (defined .defs)) (depth result))
+    unfolding processScope
+    scope-depth = wrap-depth (defined .defs) result kept k scope-count some-def

@@ -81,11 +81,6 @@ unfolding joinT
 join-nil nil = refl
 join-nil (cons t ts) = ap (cons t) (join-nil ts)
 
-pub join-snoc : (ts : Trees) (t : Tree) (us : Trees) → joinT (snoc ts t) us ≡ joinT ts (cons t us)
-unfolding joinT snoc
-join-snoc nil t us = refl
-join-snoc (cons u ts) t us = ap (cons u) (join-snoc ts t us)
-
 pub rows-join : (ts us : Trees) → rowsOf (joinT ts us) ≡ rowsOf ts ++ rowsOf us
 unfolding rows joinT
 rows-join nil us = refl

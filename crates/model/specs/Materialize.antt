@@ -59,19 +59,31 @@ member g sc env s =
     eqb (symOf g s .scope) sc && not (isArg (symOf g s .node)) && shouldHoist (symOf g s) (usage g s) &&
     elim (idGiven env s) [ none ↦ true | some i ↦ false ]
 
--- a scope's definitions in their order, then its result; a definition's value is built before its number is given
-unfoldable pub define : Graph → Builder → ℕ → ℕ → List ℕ → Env → ℕ → Trees → Tree
-define g build root sc [] env last defs = wrapBlock defs (build root sc env last)
-define g build root sc (s ∷ order) env last defs =
+-- definitions, the ids of symbols after them, and the last of these
+pub record Defined : Type 0 where
+  pub defs : Trees
+  pub env : Env
+  pub last : ℕ
+
+-- the symbols of an order that get a definition; a definition's value is built before its number is given
+unfoldable pub define : Graph → Builder → ℕ → List ℕ → Env → ℕ → Defined
+define g build sc [] env last = record { defs = nil; env = env; last = last }
+define g build sc (s ∷ order) env last =
     elim (member g sc env s) [
       | true ↦
-          define g build root sc order ((s, suc last) ∷ env) (suc last)
-          (snoc defs (valDefOf (suc last) (build s sc env last)))
-      | false ↦ define g build root sc order env last defs
+          let d = define g build sc order ((s, suc last) ∷ env) (suc last) in
+          record {
+            defs = cons (valDefOf (suc last) (build s sc env last)) (d .defs);
+            env = d .env;
+            last = d .last;
+          }
+      | false ↦ define g build sc order env last
     ]
 
 unfoldable pub processScope : Graph → Builder → ℕ → ℕ → Env → ℕ → Tree
-processScope g build root sc env last = define g build root sc (schedule g root sc) env last nil
+processScope g build root sc env last =
+    let d = define g build sc (schedule g root sc) env last in
+    wrapBlock (d .defs) (build root sc (d .env) (d .last))
 
 -- ---- symbols
 

@@ -9,15 +9,14 @@ use native.Mathlib.Omega.{arith}
 use native.Mathlib.Numerals.{add-one}
 use lib.ListN.{length, getD, set, take}
 use lib.Seq.{take-suc}
-use Rattle.model.specs.Tree.{Row, Tree, Trees, nil, cons, rows, rowsOf, depth}
+use Rattle.model.specs.Tree.{Row, Tree, Trees, nil, cons, rows, depth}
 use Rattle.model.specs.Intern.{Env}
 use Rattle.model.specs.Gate as model
 use Rattle.model.specs.Schedule.{schedule}
-use Rattle.model.specs.Materialize.{valDefOf, member, buildValue, processScope}
-use Rattle.laws.specs.Defining.{joinT, defsOf, idsFrom, membersIn}
+use Rattle.model.specs.Materialize.{Defined, valDefOf, define, buildValue, processScope}
+use Rattle.laws.specs.Defining.{joinT, membersIn}
 use Rattle.laws.proofs.Trees.{rows-join, def-rows, def-depth}
-use Rattle.laws.proofs.Defining.{defs-member, ids-member, members-member, defs-other, ids-other, members-other}
-use Rattle.laws.proofs.Defining.{defs-append, ids-append}
+use Rattle.laws.proofs.Defining.{define-member, members-member, define-other, members-other, along, define-append}
 use Rattle.laws.proofs.Falls.{schedule-low}
 use Rattle.laws.proofs.Building.{scope-none, scope-rows, scope-depth}
 use Rattle.laws.proofs.Frame.{frame-none, frame-then}
@@ -26,7 +25,7 @@ use Rattle.graph.specs.Graph.{graphOf}
 use Rattle.plan.specs.declared.Planned.the-variants.{ValDef, Block}
 use Rattle.plan.specs.Plan.{rowFor}
 use Rattle.planner.specs.declared.Plan.{Plan}
-use Rattle.planner.specs.Grew.{Grew, Grown, GrownAll, deepIn}
+use Rattle.planner.specs.Grew.{Grew, Grown, deepIn}
 use Rattle.planner.specs.Building.{Buildable, GraphIn, Maps, Member, Members, AnyMember}
 use Rattle.planner.specs.Planning.{Plans, DefinesIn, Defines}
 use Rattle.planner.proofs.Growing.{grew-none, grew-then, grew-as}
@@ -47,7 +46,7 @@ module _ {bs ws : List ℕ} {g : Graph} {map : List ℕ} {p : Plan} {above sc : 
   -- ---- no symbol
 
   pub defines-none : {last : ℕ} → p .rows ≤ 257 → Defines bs ws g map p above sc [] last 0 ws map p last
-  unfolding defsOf idsFrom rows
+  unfolding define rows
   defines-none l = record {
     defined = λ gr env st maps. record { grown = grew-none bs ws p l; maps = maps; last-is = refl };
     kept = frame-none _ _ ws;
@@ -64,14 +63,8 @@ module _ {bs ws : List ℕ} {g : Graph} {map : List ℕ} {p : Plan} {above sc : 
         let h = defines-none {last = last} l in
         record {
           defined = λ gr env st maps.
-              let e = sym (m gr env st maps) ∙ isnt in
-              let d = h .defined gr env st maps in
-              record {
-                grown = subst (λ (ts : Trees). GrownAll bs ws p above ts ws p)
-                    (sym (defs-other gr sc s [] env e (buildValue gr) last)) (d .grown);
-                maps = subst (λ (x : Env × ℕ). Maps map (x .0)) (sym (ids-other gr sc s [] env e last)) (d .maps);
-                last-is = d .last-is ∙ sym (ap (λ (x : Env × ℕ). x .1) (ids-other gr sc s [] env e last));
-              };
+              rw (define-other gr sc s [] env (sym (m gr env st maps) ∙ isnt) (buildValue gr) last)
+              (h .defined gr env st maps);
           kept = h .kept;
           full = l;
           few = omega arith;
@@ -83,22 +76,18 @@ module _ {bs ws : List ℕ} {g : Graph} {map : List ℕ} {p : Plan} {above sc : 
         → Grew bs ws p (rowFor bs (ValDef (last + 1)) ∷ []) (above + 1) ws₁ q
         → Plans bs ws₁ g map q (above + 1) (λ gr x env. buildValue gr s x env last) ws₂ r
         → Defines bs ws g map p above sc (s ∷ []) last 1 ws₂ (set map s (last + 1)) r (last + 1)
-    unfolding defsOf idsFrom rows rowFor
+    unfolding define rows rowFor
     defines-one {t} {ws₁} {ws₂} {q} {r} b is m l h v = record {
       defined = λ gr env st maps.
-          let e = sym (m gr env st maps) ∙ is in
           let v₁ = buildValue gr s sc env last in
           let inside = v .grown gr sc env (graph-kept (h .kept) b st) maps in
-          record {
-            grown = subst (λ (ts : Trees). GrownAll bs ws p above ts ws₂ r)
-                (sym (defs-member gr sc s [] env e (buildValue gr) last))
-                (grew-as (grew-then (grew-then h inside) (grew-none bs ws₂ r (v .full)))
-                (ap (λ (x : List Row). x ++ []) (row-def v₁))
-                (omega (arith, def-depth (suc last) v₁)));
-            maps = subst (λ (x : Env × ℕ). Maps (set map s (last + 1)) (x .0)) (sym (ids-member gr sc s [] env e last))
-                (maps-more map env s last maps l);
-            last-is = omega (arith, ap (λ (x : Env × ℕ). x .1) (ids-member gr sc s [] env e last));
-          };
+          rw (define-member gr sc s [] env (sym (m gr env st maps) ∙ is) (buildValue gr) last)
+          (record {
+            grown = grew-as (grew-then (grew-then h inside) (grew-none bs ws₂ r (v .full)))
+                (ap (λ (x : List Row). x ++ []) (row-def v₁)) (omega (arith, def-depth (suc last) v₁));
+            maps = maps-more map env s last maps l;
+            last-is = omega arith;
+          });
       kept = frame-then _ _ _ _ _ (h .kept) (v .kept);
       full = v .full;
       few = omega arith;
@@ -120,49 +109,33 @@ module _ {bs ws : List ℕ} {g : Graph} {map : List ℕ} {p : Plan} {above sc : 
       rw (add-one i, e) (take-suc order i 0 lt) in
       record {
         defined = λ gr env st maps.
-            subst (λ (o : List ℕ). DefinesIn bs ws gr env p above sc o last ws₂ map₂ r last₂) (sym more)
-            (both gr env st maps);
+            let build = buildValue gr in
+            let a = h .defined gr env st maps in
+            let first = define gr build sc (take i order) env last in
+            let c = d .defined gr (first .env) (graph-kept (h .kept) b st) (a .maps) in
+            let then = define gr build sc (s ∷ []) (first .env) last₁ in
+            rw (more, define-append gr build sc (s ∷ []) (take i order) env last, ← a .last-is)
+            (record {
+              grown = grew-as (grew-then (a .grown) (c .grown)) (sym (rows-join (first .defs) (then .defs)))
+                  (sym (deep-join above (first .defs) (then .defs)));
+              maps = c .maps;
+              last-is = c .last-is;
+            });
         kept = frame-then _ _ _ _ _ (h .kept) (d .kept);
         full = d .full;
         few = omega (arith, h .few, d .few);
       }
-    where
-      both : (gr : model.Graph) (env : Env) → GraphIn bs ws (g .symbols) (g .scopes) gr → Maps map env
-          → DefinesIn bs ws gr env p above sc (take i order ++ (s ∷ [])) last ws₂ map₂ r last₂
-      both gr env st maps =
-          let o = take i order in
-          let a = h .defined gr env st maps in
-          let env₁ = idsFrom gr sc o env last .0 in
-          let c = d .defined gr env₁ (graph-kept (h .kept) b st) (a .maps) in
-          let f = a .last-is in
-          let ts = defsOf gr (buildValue gr) sc o env last in
-          let us = defsOf gr (buildValue gr) sc (s ∷ []) env₁ last₁ in
-          let all : defsOf gr (buildValue gr) sc (o ++ (s ∷ [])) env last ≡ joinT ts us =
-          defs-append gr (buildValue gr) sc (s ∷ []) o env last ∙ rw (← f) in
-          let ids : idsFrom gr sc (o ++ (s ∷ [])) env last ≡ idsFrom gr sc (s ∷ []) env₁ last₁ =
-          ids-append gr sc (s ∷ []) o env last ∙ rw (← f) in
-          record {
-            grown = grew-as (grew-then (a .grown) (c .grown)) (sym (ap rowsOf all ∙ rows-join ts us))
-                (sym (ap (deepIn above) all ∙ deep-join above ts us));
-            maps = subst (λ (x : Env × ℕ). Maps map₂ (x .0)) (sym ids) (c .maps);
-            last-is = c .last-is ∙ sym (ap (λ (x : Env × ℕ). x .1) ids);
-          }
 
 -- ---- a scope without definitions
 
-module _ (gr : model.Graph) (sc : ℕ) where
-  none-defined : (order : List ℕ) (env : Env) (last : ℕ) → membersIn gr sc env order ≡ 0
-      → idsFrom gr sc order env last ≡ (env, last)
-  unfolding idsFrom
-  none-defined [] env last z = refl
-  none-defined (s ∷ order) env last z = go (member gr sc env s) refl (none-defined order env last)
-    where
-      go : (t : Bool) → member gr sc env s ≡ t
-          → (membersIn gr sc env order ≡ 0 → idsFrom gr sc order env last ≡ (env, last))
-          → idsFrom gr sc (s ∷ order) env last ≡ (env, last)
-      go true e rest = absurd (omega (arith, members-member gr sc s order env e, z))
-      go false e rest =
-          ids-other gr sc s order env e last ∙ rest (sym (members-other gr sc s order env e) ∙ z)
+none-defined : (gr : model.Graph) (sc : ℕ) (order : List ℕ) (env : Env) (last : ℕ) → membersIn gr sc env order ≡ 0
+    → define gr (buildValue gr) sc order env last ≡ record { defs = nil; env = env; last = last }
+none-defined gr sc =
+    along gr (buildValue gr) sc
+    (λ order env last d. membersIn gr sc env order ≡ 0 → d ≡ record { defs = nil; env = env; last = last })
+    (λ env last z. refl)
+    (λ s order env last e d rest z. absurd (omega (arith, members-member gr sc s order env e)))
+    (λ s order env last e d rest z. rest (sym (members-other gr sc s order env e) ∙ z))
 
 module _ {bs ws : List ℕ} (g : Graph) (map : List ℕ) (b : Buildable bs ws (g .symbols) (g .scopes))
     (root sc last : ℕ) where
@@ -183,7 +156,7 @@ module _ {bs ws : List ℕ} (g : Graph) (map : List ℕ) (b : Buildable bs ws (g
       is gr env st maps =
           let z = none gr env st maps in
           scope-none gr (only-arguments b st) root sc (scheduled-once b st root sc) env last 0 z refl
-          ∙ ap (λ (x : Env × ℕ). buildValue gr root sc (x .0) (x .1))
+          ∙ ap (λ (d : Defined). buildValue gr root sc (d .env) (d .last))
           (none-defined gr sc (schedule gr root sc) env last z)
 
   -- no symbol up to the result's is a member, and the schedule has no others
@@ -222,23 +195,22 @@ module _ {bs ws : List ℕ} (g : Graph) (map : List ℕ) (b : Buildable bs ws (g
   unfolding rowFor
   plans-block {p} {above} {ws₁} {ws₂} {ws₃} {map₂} {q} {q₂} {r} {last₂} some h d v = record {
     grown = λ gr x env st maps.
-        let o = schedule gr root sc in
+        let d₁ = define gr (buildValue gr) sc (schedule gr root sc) env last in
         let st₁ = graph-kept (h .kept) b st in
-        let a = subst (λ (y : List ℕ). DefinesIn bs ws₁ gr env q (above + 1) sc y last ws₂ map₂ q₂ last₂)
-        (order-is gr st) (d .defined gr env st₁ maps) in
+        let a : DefinesIn bs ws₁ q (above + 1) d₁ ws₂ map₂ q₂ last₂ =
+        rw (← order-is gr st) (d .defined gr env st₁ maps) in
         let st₂ = graph-kept (frame-then _ _ _ _ _ (h .kept) (d .kept)) b st in
-        let w = v .grown gr sc (idsFrom gr sc o env last .0) st₂ (a .maps) in
+        let w = v .grown gr sc (d₁ .env) st₂ (a .maps) in
         let c = count-is gr env st maps in
         let once = scheduled-once b st root sc in
-        let defs = defsOf gr (buildValue gr) sc o env last in
         let f = a .last-is in
         grew-as (grew-then h (grew-then (a .grown) w))
         (sym (scope-rows gr (only-arguments b st) root sc once env last k c some ∙ rw (← f)))
         (omega (
           arith,
-          deep-node above defs,
+          deep-node above (d₁ .defs),
           scope-depth gr (only-arguments b st) root sc once env last k c some,
-          ap (λ (l : ℕ). depth (buildValue gr root sc (idsFrom gr sc o env last .0) l)) f,
+          ap (λ (l : ℕ). depth (buildValue gr root sc (d₁ .env) l)) f,
         ));
     kept = frame-then _ _ _ _ _ (h .kept) (frame-then _ _ _ _ _ (d .kept) (v .kept));
     full = v .full;

@@ -13,8 +13,7 @@ use Rattle.model.specs.Tree.{Tree, Trees}
 use Rattle.model.specs.Intern.{Env}
 use Rattle.model.specs.Gate.{symOf}
 use Rattle.model.specs.Gate as model
-use Rattle.model.specs.Materialize.{buildOp, buildNode, buildValue}
-use Rattle.laws.specs.Defining.{defsOf, idsFrom}
+use Rattle.model.specs.Materialize.{Defined, define, buildOp, buildNode, buildValue}
 use Rattle.key.specs.declared.Operation.{Operation}
 use Rattle.symbols.specs.Symbols.{kidsAt}
 use Rattle.graph.specs.declared.Graph.{Graph}
@@ -48,17 +47,18 @@ freshTree s last gr sc env = buildNode gr (buildValue gr) (symOf gr s) (symOf gr
 
 -- ---- a scope's definitions
 
--- those of an order, in scope sc, planned: the ids given, and the last of them
-pub record DefinesIn (bs ws : List ℕ) (gr : model.Graph) (env : Env) (p : Plan) (above sc : ℕ) (order : List ℕ)
-    (last : ℕ) (ws′ map′ : List ℕ) (r : Plan) (last′ : ℕ) : Type 0 where
-  pub grown : GrownAll bs ws p above (defsOf gr (buildValue gr) sc order env last) ws′ r
-  pub maps : Maps map′ (idsFrom gr sc order env last .0)
-  pub last-is : last′ ≡ idsFrom gr sc order env last .1
+-- what is defined, planned: the definitions, the ids given, and the last of them
+pub record DefinesIn (bs ws : List ℕ) (p : Plan) (above : ℕ) (d : Defined) (ws′ map′ : List ℕ) (r : Plan)
+    (last′ : ℕ) : Type 0 where
+  pub grown : GrownAll bs ws p above (d .defs) ws′ r
+  pub maps : Maps map′ (d .env)
+  pub last-is : last′ ≡ d .last
 
+-- those of an order, in scope sc
 pub record Defines (bs ws : List ℕ) (g : Graph) (map : List ℕ) (p : Plan) (above sc : ℕ) (order : List ℕ)
     (last count : ℕ) (ws′ map′ : List ℕ) (r : Plan) (last′ : ℕ) : Type 0 where
   pub defined : (gr : model.Graph) (env : Env) → GraphIn bs ws (g .symbols) (g .scopes) gr → Maps map env
-      → DefinesIn bs ws gr env p above sc order last ws′ map′ r last′
+      → DefinesIn bs ws p above (define gr (buildValue gr) sc order env last) ws′ map′ r last′
   pub kept : PlanOnly ws ws′
   pub full : r .rows ≤ 257
   pub few : last′ ≤ last + count

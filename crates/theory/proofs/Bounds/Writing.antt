@@ -18,12 +18,13 @@ use Rattle.model.specs.Tree.{rec, Tree, Trees, node, nil, cons, below, snoc, si
 use Rattle.model.specs.Intern.{Node, constant, unparsed, argument, func, operation, Env, thunked}
 use Rattle.model.specs.Gate.{Graph, symOf}
 use Rattle.model.specs.Schedule.{schedule}
-use Rattle.model.specs.Materialize.{Builder, valUseOf, valDefOf, renames, onlyOf, wrapBlock, idGiven, member, define}
+use Rattle.model.specs.Materialize.{Builder, Defined, valUseOf, valDefOf, renames, onlyOf, wrapBlock, idGiven, define}
 use Rattle.model.specs.Materialize.{processScope, buildOp, argLit, argEnv, buildNode, buildStep, buildValue}
 use Rattle.laws.proofs.Apart.{none-some}
 use Rattle.laws.specs.Members.{Every}
 use Rattle.laws.proofs.Walks.{every-join}
 use Rattle.laws.specs.ArgLists.{optsIn}
+use Rattle.laws.proofs.Defining.{along}
 use Rattle.laws.proofs.Trees.{sizes-snoc, def-size}
 use Rattle.theory.specs.Sound.{RecHas, TreeHas, TreesHave, OptsHave}
 
@@ -68,12 +69,6 @@ DefHas l d = (i : ℕ) × (v : Tree) × (d ≡ valDefOf i v) × (i ≤ suc l) ×
 abbrev DefsHave : ℕ → Trees → Type 0
 DefsHave l nil = Unit {0}
 DefsHave l (cons d ds) = DefHas l d × DefsHave (l + 16 * size d) ds
-
-defs-snoc : (l : ℕ) (ds : Trees) (d : Tree) → DefsHave l ds → DefHas (l + 16 * sizes ds) d → DefsHave l (snoc ds d)
-unfolding snoc sizes
-defs-snoc l nil d h k = (subst (λ (z : ℕ). DefHas z d) (omega arith) k, tt)
-defs-snoc l (cons e ds) d h k =
-    (h .0, defs-snoc (l + 16 * size e) ds d (h .1) (subst (λ (z : ℕ). DefHas z d) (omega arith) k))
 
 snoc-have : (ds : Trees) (d : Tree) → TreesHave Byte ds → TreeHas Byte d → TreesHave Byte (snoc ds d)
 unfolding snoc
@@ -142,44 +137,45 @@ ids-args [] env last h t i e = omega (arith, h t i e)
 ids-args (x ∷ xs) env last h t i e =
     omega (arith, ids-args xs ((x .0, suc last) ∷ env) (suc last) (ids-def (x .0) env last h) t i e)
 
--- one of two trees that are of bytes
-one-of : (b : Bool) (t u : Tree) (l : ℕ) → (Fit l (size t) → TreeHas Byte t) → (Fit l (size u) → TreeHas Byte u) →
-    Fit l (size (elim b [ true ↦ t | false ↦ u ])) → TreeHas Byte (elim b [ true ↦ t | false ↦ u ])
-one-of true t u l x y ft = x ft
-one-of false t u l x y ft = y ft
-
 -- a builder whose trees are of bytes
 abbrev Writes : Builder → ℕ → Type 0
 Writes f s =
     (sc : ℕ) (env : Env) (last : ℕ) → IdsTo env last → Fit last (size (f s sc env last)) → TreeHas Byte
     (f s sc env last)
 
-module _ (g : Graph) (f : Builder) (ok : (s : ℕ) → Writes f s) where
-  define-has : (root sc : ℕ) (order : List ℕ) (env : Env) (last : ℕ) (defs : Trees) (l : ℕ) → IdsTo env last →
-      last ≤ l + 16 * sizes defs → DefsHave l defs → Fit l (size (define g f root sc order env last defs)) →
-      TreeHas Byte (define g f root sc order env last defs)
-  unfolding define
-  define-has root sc [] env last defs l ids low h ft =
-      wrap-has l defs (f root sc env last) h (λ q. ok root sc env last ids (omega arith)) ft
-  define-has root sc (s ∷ order) env last defs l ids low h ft =
-      one-of (member g sc env s) (define g f root sc order ((s, suc last) ∷ env) (suc last) (snoc defs d))
-      (define g f root sc order env last defs) l
-      (define-has root sc order ((s, suc last) ∷ env) (suc last) (snoc defs d) l (ids-def s env last ids)
-      (omega (arith, sizes-snoc defs d, def-size (suc last) (f s sc env last))) (defs-snoc l defs d h new))
-      (define-has root sc order env last defs l ids low h) ft
-    where
-      d : Tree
-      d = valDefOf (suc last) (f s sc env last)
+-- definitions from `last` on; their ids and those in force are at most as the number of records allows
+record DefinedHas (last : ℕ) (d : Defined) : Type 0 where
+  ids : IdsTo (d .env) (d .last)
+  low : d .last ≤ last + 16 * sizes (d .defs)
+  have : DefsHave last (d .defs)
 
-      new : DefHas (l + 16 * sizes defs) (valDefOf (suc last) (f s sc env last))
-      new = (suc last, f s sc env last, refl, omega arith, λ q. ok s sc env last ids (omega arith))
+module _ (g : Graph) (f : Builder) (ok : (s : ℕ) → Writes f s) where
+  define-has : (sc : ℕ) (order : List ℕ) (env : Env) (last : ℕ) → IdsTo env last →
+      (l : ℕ) → last ≤ l → DefinedHas l (define g f sc order env last)
+  unfolding sizes
+  define-has sc =
+      along g f sc (λ order env last d. IdsTo env last → (l : ℕ) → last ≤ l → DefinedHas l d)
+      (λ env last ids l low. record { ids = ids; low = omega arith; have = tt })
+      (λ s order env last e d rest ids l low.
+      let v = f s sc env last in
+      let size-is = def-size (suc last) v in
+      let w = rest (ids-def s env last ids) (l + 16 * size (valDefOf (suc last) v)) (omega arith) in
+      record {
+        ids = w .ids;
+        low = omega (arith, w .low);
+        have = ((suc last, v, refl, omega arith, λ q. ok s sc env last ids (omega arith)), w .have);
+      })
+      (λ s order env last e d rest ids. rest ids)
 
   process-has : (root sc : ℕ) (env : Env) (last : ℕ) → IdsTo env last →
       Fit last (size (processScope g f root sc env last)) →
       TreeHas Byte (processScope g f root sc env last)
-  unfolding processScope sizes
+  unfolding processScope
   process-has root sc env last ids ft =
-      define-has root sc (schedule g root sc) env last nil last ids (omega arith) tt ft
+      let d = define g f sc (schedule g root sc) env last in
+      let w = define-has sc (schedule g root sc) env last ids last (omega arith) in
+      wrap-has last (d .defs) (f root sc (d .env) (d .last)) (w .have)
+      (λ q. ok root sc (d .env) (d .last) (w .ids) (omega (arith, w .low))) ft
 
   -- ---- operations
 

@@ -1,10 +1,10 @@
 -- A block of definitions and a result: what it unfolds to, and that it is checked if its parts are, one after the
 -- other.
 --
--- In order: definitions, what they bind and the ids they put in force; one more definition; small definitions, since a
--- block's child count has to fit 16 bits; what a block unfolds to (`wrap-unfold`), also where `wrapBlock` drops a
--- definition that only renames; that it is checked (`wrap-checked`).
--- Scopes uses the laws of one more definition and the two of `wrapBlock`.
+-- In order: definitions, what they bind and the ids they put in force; small definitions, since a block's child count
+-- has to fit 16 bits; what a block unfolds to (`wrap-unfold`), also where `wrapBlock` drops a definition that only
+-- renames; that it is checked (`wrap-checked`).
+-- Scopes uses the two laws of `wrapBlock`.
 -- Assumes nothing.
 use mathlib.Core.Path.{_≡_, refl, ap, sym, _∙_, subst}
 use mathlib.Core.Bool.{Bool, true, false, _&&_}
@@ -56,34 +56,6 @@ CheckedDefs (cons d ds) ids = Checked d true ids × CheckedDefs ds (after d ++ i
 abbrev pub SmallDefs : Trees → Type 0
 SmallDefs nil = Unit {0}
 SmallDefs (cons d ds) = (size d ≤ 65535) × SmallDefs ds
-
--- ---- one more definition
-
-pub defs-snoc : (ds : Trees) (d : Tree) → AllDefs ds → IsDef d → AllDefs (snoc ds d)
-unfolding snoc
-defs-snoc nil d h k = (k, tt)
-defs-snoc (cons e ds) d h k = (h .0, defs-snoc ds d (h .1) k)
-
-pub bind-snoc : (ds : Trees) (d : Tree) (ms : Meaning) → bindDefs (snoc ds d) ms ≡ bindDef d (bindDefs ds ms)
-unfolding snoc
-bind-snoc nil d ms = refl
-bind-snoc (cons e ds) d ms = bind-snoc ds d (bindDef e ms)
-
-pub ids-snoc : (ds : Trees) (d : Tree) (ids : List ℕ) → idsAfter (snoc ds d) ids ≡ after d ++ idsAfter ds ids
-unfolding snoc
-ids-snoc nil d ids = refl
-ids-snoc (cons e ds) d ids = ids-snoc ds d (after e ++ ids)
-
-pub checked-snoc : (ds : Trees) (d : Tree) (ids : List ℕ) → CheckedDefs ds ids → Checked d true (idsAfter ds ids) →
-    CheckedDefs (snoc ds d) ids
-unfolding snoc
-checked-snoc nil d ids h k = (k, tt)
-checked-snoc (cons e ds) d ids h k = (h .0, checked-snoc ds d (after e ++ ids) (h .1) k)
-
-pub small-snoc : (ds : Trees) (d : Tree) → SmallDefs (snoc ds d) → SmallDefs ds × (size d ≤ 65535)
-unfolding snoc
-small-snoc nil d h = (tt, h .0)
-small-snoc (cons e ds) d h = let w = small-snoc ds d (h .1) in ((h .0, w .0), w .1)
 
 snoc-some : (ds : Trees) (r : Tree) → isNil (snoc ds r) ≡ false
 unfolding snoc

@@ -2,37 +2,39 @@
 -- up to the result, the block is right for the result.
 --
 -- In order: what building rests on (`Sound`); that a symbol of the schedule may be built in the scope (`may-build`);
--- the definitions so far (`Defining`), and one more; the whole scope (`scope-built`).
+-- definitions seen from before the first of them (`DefinedFor`), and one before them; the whole scope (`scope-built`).
 -- Built uses `scope-built` for thunks, lambdas' bodies and the root.
 -- Assumes nothing.
 use mathlib.Core.Path.{_≡_, refl, _∙_}
 use mathlib.Core.Logic.{_⊎_, inl, inr}
-use mathlib.Core.Bool.{Bool, true, false, not, _&&_}
+use mathlib.Core.Bool.{true, not, _&&_}
 use mathlib.Core.Option.{some}
-use mathlib.Core.List.{List, [], _∷_}
+use mathlib.Core.List.{List, _∷_, _++_}
 use Prim.Native.Nat.{ℕ, suc, _≤_, _<_}
 use native.Mathlib.Omega.{arith}
 use lib.Dec.{eqb}
 use lib.ListN.{length}
 use borrow.Author.Tests.{eqb-true}
-use Rattle.model.specs.Tree.{Tree, Trees, nil, size, snoc}
+use Rattle.model.specs.Tree.{Tree, size}
+use Rattle.model.specs.Binding.{after}
 use Rattle.model.specs.Unfold.{Meaning, unfoldAt}
 use Rattle.model.specs.Intern.{Node, constant, unparsed, argument, func, operation, Sym, Scope, Env}
 use Rattle.model.specs.Gate.{Graph, symOf, usage, shouldHoist}
 use Rattle.model.specs.Schedule.{isArg, schedule}
-use Rattle.model.specs.Materialize.{Builder, valDefOf, idGiven, member, define, processScope}
+use Rattle.model.specs.Materialize.{Builder, Defined, valDefOf, idGiven, member, define, processScope}
 use Rattle.laws.specs.Members.{In, Every}
 use Rattle.laws.proofs.Members.{and-both}
 use Rattle.laws.specs.ArgLists.{ArgList}
+use Rattle.laws.proofs.Defining.{definedFirst, along}
 use Rattle.laws.proofs.Trees.{def-size}
+use Rattle.theory.specs.Checked.{Checked}
 use Rattle.theory.proofs.Meaning.Mean.{Val}
 use Rattle.theory.specs.Good.{noArg, argsAt, out, PairOk, Goods, depsAt, nodeAt, scopeAt}
 use Rattle.theory.proofs.Interning.Good.{lam-of}
 use Rattle.theory.proofs.Building.Reach.{Below, schedule-below, BoundUpTo, below-low, below-deps}
 use Rattle.theory.proofs.Building.Written.{def-id, def-unfold, def-after, def-checked}
-use Rattle.theory.proofs.Building.Blocks.{AllDefs, bindDefs, idsAfter, CheckedDefs, SmallDefs, defs-snoc}
-use Rattle.theory.proofs.Building.Blocks.{bind-snoc, ids-snoc, checked-snoc, small-snoc, wrap-unfold}
-use Rattle.theory.proofs.Building.Blocks.{wrap-checked}
+use Rattle.theory.proofs.Building.Blocks.{AllDefs, bindDef, bindDefs, idsAfter, CheckedDefs, SmallDefs}
+use Rattle.theory.proofs.Building.Blocks.{wrap-unfold, wrap-checked}
 use Rattle.theory.proofs.Building.Given.{Covers, has-more, EnvFor, env-lower, IdsOk, Stand, Built, Builds}
 use Rattle.theory.proofs.Building.Given.{env-def, ids-def, stand-def}
 
@@ -77,105 +79,93 @@ module _ (g : Graph) (n : ℕ) (sound : GraphSound g n) where
           let within = sound .placed s a (w .scope) s-low na d body (rw (lm .scope-is) (w .has)) in
           absurd (pair (w .lam) (w .low) (w .args) (w .scope) (w .node-is) (rw e at within))
 
-  -- ---- the definitions so far, seen from before the first of them
+  -- ---- definitions, seen from before the first of them
 
-  record Defining (r : ℕ) (env0 : Env) (last0 : ℕ) (env : Env) (last : ℕ) (defs : Trees) : Type 0 where
-    envs : EnvFor fin n env last r
-    covers : Covers fin env r
-    are-defs : AllDefs defs
-    stands : (ρ : Val) (ms : Meaning) → Stand fin env0 ms ρ → Stand fin env (bindDefs defs ms) ρ
-    ids : (l : List ℕ) → IdsOk env0 last0 l → IdsOk env last (idsAfter defs l)
-    checks : (l : List ℕ) → IdsOk env0 last0 l → SmallDefs defs → CheckedDefs defs l
+  record DefinedFor (r : ℕ) (env : Env) (last : ℕ) (d : Defined) : Type 0 where
+    envs : EnvFor fin n (d .env) (d .last) r
+    covers : Covers fin (d .env) r
+    are-defs : AllDefs (d .defs)
+    stands : (ρ : Val) (ms : Meaning) → Stand fin env ms ρ → Stand fin (d .env) (bindDefs (d .defs) ms) ρ
+    ids : (l : List ℕ) → IdsOk env last l → IdsOk (d .env) (d .last) (idsAfter (d .defs) l)
+    checks : (l : List ℕ) → IdsOk env last l → SmallDefs (d .defs) → CheckedDefs (d .defs) l
 
-  define-one : (r : ℕ) (env0 : Env) (last0 : ℕ) (env : Env) (last : ℕ) (defs : Trees) (s : ℕ) (v : Tree) → s < n →
-      noArg (nodeAt fin s) ≡ true → Covers fin env s → Built fin env last s v → Defining r env0 last0 env last defs →
-      Defining r env0 last0 ((s, suc last) ∷ env) (suc last) (snoc defs (valDefOf (suc last) v))
-  define-one r env0 last0 env last defs s v l na cov b p = record {
-    envs = env-def env last s fin scs n (sound .good) l na cov r (p .envs);
-    covers = λ a d. has-more s (suc last) env a (p .covers a d);
-    are-defs = defs-snoc defs x (p .are-defs) (suc last, v, refl);
-    stands = λ ρ ms st. stands ρ ms (p .stands ρ ms st);
-    ids = λ ls ok. ids ls (p .ids ls ok);
-    checks = λ ls ok small. checks ls ok (small-snoc defs x small);
+  define-one : (r : ℕ) (env : Env) (last s : ℕ) (v : Tree) → EnvFor fin n env last r → Built fin env last s v →
+      (d : Defined) → DefinedFor r ((s, suc last) ∷ env) (suc last) d →
+      DefinedFor r env last (definedFirst (valDefOf (suc last) v) d)
+  define-one r env last s v envs b d p = record {
+    envs = p .envs;
+    covers = p .covers;
+    are-defs = ((suc last, v, refl), p .are-defs);
+    stands = λ ρ ms st. p .stands ρ (bindDef x ms) (stands ρ ms st);
+    ids = λ ls ok. p .ids (after x ++ ls) (ids ls ok);
+    checks = λ ls ok small. (checks ls ok (small .0), p .checks (after x ++ ls) (ids ls ok) (small .1));
   }
     where
       x : Tree
       x = valDefOf (suc last) v
 
-      stands : (ρ : Val) (ms : Meaning) → Stand fin env (bindDefs defs ms) ρ →
-          Stand fin ((s, suc last) ∷ env) (bindDefs (snoc defs x) ms) ρ
+      stands : (ρ : Val) (ms : Meaning) → Stand fin env ms ρ → Stand fin ((s, suc last) ∷ env) (bindDef x ms) ρ
       stands ρ ms st =
-          rw (bind-snoc defs x ms, def-id (suc last) v)
-          (stand-def env last s fin (bindDefs defs ms) ρ (λ e. unfoldAt x (bindDefs defs ms) e) (p .envs .ids-low)
-          (λ d. def-unfold (suc last) v (bindDefs defs ms) d ∙ b .means ρ (bindDefs defs ms) st d) st)
+          rw (def-id (suc last) v)
+          (stand-def env last s fin ms ρ (λ e. unfoldAt x ms e) (envs .ids-low)
+          (λ d. def-unfold (suc last) v ms d ∙ b .means ρ ms st d) st)
 
-      ids : (ls : List ℕ) → IdsOk env last (idsAfter defs ls) →
-          IdsOk ((s, suc last) ∷ env) (suc last) (idsAfter (snoc defs x) ls)
-      ids ls ok = rw (ids-snoc defs x ls, def-after (suc last) v) (ids-def env last s (idsAfter defs ls) ok)
+      ids : (ls : List ℕ) → IdsOk env last ls → IdsOk ((s, suc last) ∷ env) (suc last) (after x ++ ls)
+      ids ls ok = rw (def-after (suc last) v) (ids-def env last s ls ok)
 
-      checks : (ls : List ℕ) → IdsOk env0 last0 ls → SmallDefs defs × (size x ≤ 65535) → CheckedDefs (snoc defs x) ls
+      checks : (ls : List ℕ) → IdsOk env last ls → size x ≤ 65535 → Checked x true ls
       checks ls ok small =
-          let now = p .ids ls ok in
-          let value = b .checked (omega (arith, small .1, def-size (suc last) v)) (idsAfter defs ls) now in
-          let new : In (suc last) (idsAfter defs ls) → ⊥ = λ m. absurd (omega (arith, now .low (suc last) m)) in
-          checked-snoc defs x ls (p .checks ls ok (small .0)) (def-checked (suc last) v (idsAfter defs ls) new value)
+          let value = b .checked (omega (arith, def-size (suc last) v)) ls ok in
+          def-checked (suc last) v ls (λ m. absurd (omega (arith, ok .low (suc last) m))) value
 
   -- ---- a scope, by a builder that is right for every symbol up to its result
 
   module _ (f : Builder) (r sc : ℕ) (l : r < n) (right : (k : ℕ) → k ≤ r → Builds fin n f k)
-      (pair : PairOk fin scs r sc) (env0 : Env) (last0 : ℕ) where
-    define-built : (order : List ℕ) → Every (Below fin r) order → (env : Env) (last : ℕ) (defs : Trees) →
-        Defining r env0 last0 env last defs → Built fin env0 last0 r (define g f r sc order env last defs)
-    unfolding define member
-    define-built [] every env last defs p =
-        let b = right r (omega arith) sc env last (p .envs) (p .covers) in
-        record {
-          means = λ ρ ms st d.
-              wrap-unfold defs (f r sc env last) (p .are-defs) ms d
-              ∙ b .means ρ (bindDefs defs ms) (p .stands ρ ms st) d;
-          checked = λ small ls ok.
-              wrap-checked defs (f r sc env last) ls small (p .are-defs) (p .checks ls ok)
-              (λ s. b .checked s (idsAfter defs ls) (p .ids ls ok));
-        }
-    define-built (s ∷ order) every env last defs p =
-        go (member g sc env s) refl (define-built order (λ t m. every t (inr m)))
-      where
-        v : Tree
-        v = f s sc env last
+      (pair : PairOk fin scs r sc) where
+    define-built : (order : List ℕ) (env : Env) (last : ℕ) → Every (Below fin r) order → EnvFor fin n env last r →
+        Covers fin env r → DefinedFor r env last (define g f sc order env last)
+    unfolding member
+    define-built =
+        along g f sc
+        (λ order env last d.
+        Every (Below fin r) order → EnvFor fin n env last r → Covers fin env r → DefinedFor r env last d)
+        (λ env last every envs cov. record {
+          envs = envs;
+          covers = cov;
+          are-defs = tt;
+          stands = λ ρ ms st. st;
+          ids = λ ls ok. ok;
+          checks = λ ls ok small. tt;
+        })
+        (λ s order env last e d rest every envs cov.
+        let here = eqb (symOf g s .scope) sc in
+        let no-argument = not (isArg (symOf g s .node)) in
+        let a = and-both (here && no-argument && shouldHoist (symOf g s) (usage g s)) _ e in
+        let b = and-both (here && no-argument) (shouldHoist (symOf g s) (usage g s)) (a .0) in
+        let c = and-both here no-argument (b .0) in
+        let na = no-arg (symOf g s .node) (c .1) in
+        let below = every s (inl refl) in
+        let s-low = below-low fin scs n (sound .good) r l s below in
+        let own = may-build r sc l pair env cov s below (eqb-true (symOf g s .scope) sc (c .0)) na in
+        let value = right s s-low sc env last (env-lower fin n env last r s s-low envs) own in
+        define-one r env last s (f s sc env last) envs value d
+        (rest (λ t m. every t (inr m)) (env-def env last s fin scs n (sound .good) (omega arith) na own r envs)
+        (λ x m. has-more s (suc last) env x (cov x m))))
+        (λ s order env last e d rest every envs cov. rest (λ t m. every t (inr m)) envs cov)
 
-        more : member g sc env s ≡ true →
-            Defining r env0 last0 ((s, suc last) ∷ env) (suc last) (snoc defs (valDefOf (suc last) v))
-        more e =
-            let here = eqb (symOf g s .scope) sc in
-            let no-argument = not (isArg (symOf g s .node)) in
-            let a = and-both (here && no-argument && shouldHoist (symOf g s) (usage g s)) _ e in
-            let b = and-both (here && no-argument) (shouldHoist (symOf g s) (usage g s)) (a .0) in
-            let c = and-both here no-argument (b .0) in
-            let na = no-arg (symOf g s .node) (c .1) in
-            let below = every s (inl refl) in
-            let s-low = below-low fin scs n (sound .good) r l s below in
-            let cov = may-build r sc l pair env (p .covers) s below (eqb-true (symOf g s .scope) sc (c .0)) na in
-            let value = right s s-low sc env last (env-lower fin n env last r s s-low (p .envs)) cov in
-            define-one r env0 last0 env last defs s v (omega (arith, s-low, l)) na cov value p
-
-        go : (b : Bool) → member g sc env s ≡ b →
-            ((e : Env) (k : ℕ) (ds : Trees) → Defining r env0 last0 e k ds →
-            Built fin env0 last0 r (define g f r sc order e k ds)) →
-            Built fin env0 last0 r (elim b [
-              | true ↦ define g f r sc order ((s, suc last) ∷ env) (suc last) (snoc defs (valDefOf (suc last) v))
-              | false ↦ define g f r sc order env last defs
-            ])
-        go true e rest = rest ((s, suc last) ∷ env) (suc last) (snoc defs (valDefOf (suc last) v)) (more e)
-        go false e rest = rest env last defs p
-
-    pub scope-built : EnvFor fin n env0 last0 r → Covers fin env0 r →
-        Built fin env0 last0 r (processScope g f r sc env0 last0)
+    pub scope-built : (env : Env) (last : ℕ) → EnvFor fin n env last r → Covers fin env r →
+        Built fin env last r (processScope g f r sc env last)
     unfolding processScope
-    scope-built env cov = define-built (schedule g r sc) (schedule-below g r sc) env0 last0 nil (record {
-      envs = env;
-      covers = cov;
-      are-defs = tt;
-      stands = λ ρ ms st. st;
-      ids = λ ls ok. ok;
-      checks = λ ls ok small. tt;
-    })
+    scope-built env last envs cov =
+        let d = define g f sc (schedule g r sc) env last in
+        let p = define-built (schedule g r sc) env last (schedule-below g r sc) envs cov in
+        let b = right r (omega arith) sc (d .env) (d .last) (p .envs) (p .covers) in
+        let result = f r sc (d .env) (d .last) in
+        record {
+          means = λ ρ ms st e.
+              wrap-unfold (d .defs) result (p .are-defs) ms e
+              ∙ b .means ρ (bindDefs (d .defs) ms) (p .stands ρ ms st) e;
+          checked = λ small ls ok.
+              wrap-checked (d .defs) result ls small (p .are-defs) (p .checks ls ok)
+              (λ s. b .checked s (idsAfter (d .defs) ls) (p .ids ls ok));
+        }
