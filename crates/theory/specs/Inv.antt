@@ -9,7 +9,7 @@ use mathlib.Core.Option.{some}
 use mathlib.Core.List.{List, [], _∷_}
 use Prim.Native.Nat.{ℕ, _≤_, _<_}
 use lib.ListN.{getD}
-use Rattle.model.specs.Tree.{rec}
+use Rattle.model.specs.Tree.{Rec, rec}
 use Rattle.model.specs.Binding.{argIds}
 use Rattle.model.specs.Intern.{func, Sym, Scope, State, Env, symAt, rootScope, recall, resolve}
 use Rattle.laws.specs.Members.{In}
@@ -35,12 +35,19 @@ InAny i (t ∷ ts) = In i t ⊎ InAny i ts
 abbrev pub Chain : List Scope → ℕ → Type 0
 Chain scs b = (aroundAt scs b ≡ []) ⊎ ((p : ℕ) × (p < b) × (aroundAt scs b ≡ out scs p))
 
+-- a symbol, of n, with this record and these children, and no argument
+pub record HasKey (fin : List Sym) (n : ℕ) (r : Rec) (ks : List ℕ) (i : ℕ) : Type 0 where
+  pub low : i < n
+  pub rec-is : recAt fin i ≡ r
+  pub kids-is : symKids fin i ≡ ks
+  pub made-is : noArg (nodeAt fin i) ≡ true
+
 -- a is field j of p
-pub record FieldOk (fin : List Sym) (n p j a : ℕ) : Type 0 where
-  pub low : a < n
-  pub rec-is : recAt fin a ≡ rec 17 0x8C 0 (j ∷ [])
-  pub kids-is : symKids fin a ≡ p ∷ []
-  pub made-is : noArg (nodeAt fin a) ≡ true
+abbrev pub fieldRec : ℕ → Rec
+fieldRec j = rec 17 0x8C 0 (j ∷ [])
+
+abbrev pub FieldOk : List Sym → ℕ → ℕ → ℕ → ℕ → Type 0
+FieldOk fin n p j a = HasKey fin n (fieldRec j) (p ∷ []) a
 
 -- of a lambda x that is made, where scope cur and arguments A are in force and there are m scopes: its body is closed,
 -- its arguments are not in force, and no argument in force on which its body depends has an id that it binds

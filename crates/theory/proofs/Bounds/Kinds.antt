@@ -2,7 +2,7 @@
 -- Trees uses. Each record read leaves room for a slot and a scope more than before, which its parent takes.
 -- In order: ids and their symbols; children; the opts of a lambda; each kind of record.
 -- Assumes nothing.
-use mathlib.Core.Path.{_≡_, refl, ap, sym, subst}
+use mathlib.Core.Path.{_≡_, refl, sym, subst}
 use mathlib.Core.Logic.{inl, inr}
 use mathlib.Core.Bool.{Bool, true, false, not, _&&_, _||_}
 use mathlib.Core.Option.{Option, none, some}
@@ -34,6 +34,7 @@ use Rattle.theory.proofs.Acceptance.Records.{op-lambda, lam-rec}
 use Rattle.theory.specs.Good.{symCount, scopeCount}
 use Rattle.theory.specs.Inv.{keys}
 use Rattle.theory.specs.Sound.{RecHas, OptsHave, NodeSound, StateSound, Room, thunks, Pays}
+use Rattle.theory.proofs.Interning.Keep.{last-in}
 use Rattle.theory.proofs.Bounds.Sound.{every-take, every-drop}
 use Rattle.theory.proofs.Bounds.Sound.{room-less, under-more, Keeps, keeps-none, keeps-then, keeps-less}
 use Rattle.theory.proofs.Bounds.Sound.{KeepsOne, KeepsArgs, KeepsAll}
@@ -95,10 +96,7 @@ KidsKeep B ids op ts kids =
     (kids cur env st)
 
 pub last-under : (n : ℕ) (ks : List ℕ) → 1 ≤ length ks → Under n ks → last ks < n
-unfolding last
-last-under n [] l h = absurd (omega arith)
-last-under n (x ∷ []) l h = h x (inl refl)
-last-under n (x ∷ y ∷ ks) l h = last-under n (y ∷ ks) (omega arith) (λ z i. h z (inr i))
+last-under n ks l h = h (last ks) (last-in ks l)
 
 last-keeps : (B : ℕ → Type 0) (st : State) (k c n op : ℕ) (m : Outs) → 1 ≤ n → Holds (KeepsAll B st k c n op 0) m →
     Holds (KeepsOne B st k c) (internLast m)
@@ -144,15 +142,7 @@ args-have B (suc n) bs h =
 pub inside-of : (r : Rec) (k : Kind) → kind (r .shape) ≡ k →
     inside r ≡ elim k [ valUse ↦ [] | valDef ↦ [] | block ↦ [] | lambda ↦ argIds r | field ↦ [] | other ↦ [] ]
 unfolding inside
-inside-of r k e =
-    ap (λ (z : Kind). elim z as (λ k. List ℕ) [
-      | valUse ↦ []
-      | valDef ↦ []
-      | block ↦ []
-      | lambda ↦ argIds r
-      | field ↦ []
-      | other ↦ []
-    ]) e
+inside-of r k e = rw (e, inside)
 
 pub lambda-plain : (op : ℕ) → op ≡ 0xD9 → (j : ℕ) → thunked op j ≡ false
 unfolding thunked

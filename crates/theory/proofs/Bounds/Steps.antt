@@ -4,7 +4,7 @@
 use mathlib.Core.Path.{_≡_, refl, ap, sym, _∙_}
 use mathlib.Core.Logic.{_⊎_, inl, inr}
 use mathlib.Core.Bool.{Bool, true, false}
-use mathlib.Core.Option.{Option, none, some, Option·some-injective}
+use mathlib.Core.Option.{Option, none, some}
 use mathlib.Core.List.{List, [], _∷_, _++_}
 use Prim.Native.Nat.{ℕ, suc, _+_, _≤_, _<_}
 use native.Mathlib.Omega.{arith}
@@ -16,17 +16,17 @@ use Rattle.model.specs.Lists.{anyIn, without}
 use Rattle.model.specs.Answer.{good}
 use Rattle.model.specs.Tree.{Rec, rec}
 use Rattle.model.specs.Intern.{Node, argument, operation, Sym, Scope, State, Out, symAt, noSym, rootScope, climb}
-use Rattle.model.specs.Intern.{placement, unionDeps, enter, push, alloc, lookup, finish, allocArgs, openScope, recall}
+use Rattle.model.specs.Intern.{placement, unionDeps, enter, push, alloc, finish, allocArgs, openScope, recall}
 use Rattle.model.specs.Intern.{remember, pick, newProjections, pairProjection, thunked, read}
 use Rattle.laws.proofs.Slots.{slots-more}
-use Rattle.laws.proofs.Holds.{Holds, holds-guard, holds-bind, holds-map}
+use Rattle.laws.proofs.Holds.{Holds, holds-guard, holds-bind}
 use Rattle.laws.specs.Members.{Every, Under}
 use Rattle.laws.proofs.Members.{without-cases}
 use Rattle.theory.specs.Good.{argsIn, symCount, scopeCount}
 use Rattle.theory.specs.Inv.{InAny}
-use Rattle.theory.proofs.Interning.Inv.{lt-or}
-use Rattle.theory.proofs.Interning.Push.{unionDeps-from, one-more}
-use Rattle.theory.proofs.Interning.Finish.{lookup-found}
+use Rattle.theory.proofs.Interning.Inv.{lt-or, recall-cases}
+use Rattle.theory.proofs.Interning.Push.{enter-cases, unionDeps-from, one-more}
+use Rattle.theory.proofs.Interning.Finish.{lookup-found, finish-cases}
 use Rattle.theory.specs.Sound.{RecHas, thunks, NodeSound, SymSound, scopeOf, StateSound, Room}
 use Rattle.theory.proofs.Bounds.Sound.{room-less, keeps-none, keeps-then, keeps-less, KeepsOne, KeepsArgs}
 use Rattle.theory.proofs.Bounds.Sound.{sym-more}
@@ -55,10 +55,7 @@ climb-low scs deps (s ∷ l) m z h = go (getD scs s rootScope .args) (climb-low 
 
 pub enter-low : (n m : ℕ) (ts : List (List ℕ)) → m < n → ((i : ℕ) → InAny i ts → i < n) → (i : ℕ) → InAny i (enter m ts) →
     i < n
-enter-low n m [] l h i k = absurd k
-enter-low n m (t ∷ ts) l h i (inl (inl e)) = omega arith
-enter-low n m (t ∷ ts) l h i (inl (inr k)) = h i (inl k)
-enter-low n m (t ∷ ts) l h i (inr k) = h i (inr k)
+enter-low n m ts l h i k = elim (enter-cases i m ts k) [ inl e ↦ omega arith | inr j ↦ h i j ]
 
 pub enter-length : (n : ℕ) (ts : List (List ℕ)) → length (enter n ts) ≡ length ts
 enter-length n [] = refl
@@ -147,8 +144,18 @@ module _ (B : ℕ → Type 0) (at cur : ℕ) (r : Rec) (has : RecHas B r) where
   pub finish-keeps : (ks own : List ℕ) (nd : Node) (st : State) (k c j : ℕ) → j ≤ k + length ks → j ≤ suc k →
       StateSound B st → cur < scopeCount st → Under (symCount st) ks → NodeSound B (symCount st) (scopeCount st) r ks nd →
       Room st (k + length ks) c → Holds (KeepsOne B st j c) (finish at cur r ks own nd st)
-  unfolding finish
-  finish-keeps ks own nd st k c j lj ls h cl kl ns rm = go (lookup (st .syms) r ks (st .tables)) refl
+  finish-keeps ks own nd st k c j lj ls h cl kl ns rm =
+      finish-cases (KeepsOne B st j c) at cur r ks own nd st
+      (λ i e. record {
+        keeps = keeps-none B st j c h (room-less st (k + length ks) c j c lj (omega arith) rm);
+        low = h .tables-low i (lookup-found (st .syms) r ks (st .tables) i e .0);
+      })
+      (λ e l.
+      let w = push-keeps ks deps true nd st k c h cl l kl deps-low ns rm in
+      record {
+        keeps = keeps-less B st (push cur r ks deps true nd st) (suc k) c j c ls (omega arith) (w .keeps);
+        low = w .low;
+      })
     where
       deps : List ℕ
       deps = without (unionDeps (st .syms) ks) own
@@ -159,21 +166,6 @@ module _ (B : ℕ → Type 0) (at cur : ℕ) (r : Rec) (has : RecHas B r) where
           (without-cases a (unionDeps (st .syms) ks) own i .0) in
           let l = kl (w .0) (w .1) in
           omega (arith, l, h .syms-sound (w .0) l .deps-low a (w .2))
-
-      less : (o : ℕ × State) → KeepsOne B st (suc k) c o → KeepsOne B st j c o
-      less o w = record { keeps = keeps-less B st (o .1) (suc k) c j c ls (omega arith) (w .keeps); low = w .low }
-
-      go : (f : Option ℕ) → lookup (st .syms) r ks (st .tables) ≡ f → Holds (KeepsOne B st j c) (elim f as (λ z. Out) [
-        | some i ↦ good (i, st)
-        | none ↦ alloc at cur r ks (without (unionDeps (st .syms) ks) own) true nd st
-      ])
-      go (some i) e = record {
-        keeps = keeps-none B st j c h (room-less st (k + length ks) c j c lj (omega arith) rm);
-        low = h .tables-low i (lookup-found (st .syms) r ks (st .tables) i e .0);
-      }
-      go none e =
-          holds-map (KeepsOne B st (suc k) c) (KeepsOne B st j c) (alloc at cur r ks deps true nd st)
-          (alloc-keeps ks deps true nd st k c h cl kl deps-low ns rm) less
 
   -- ---- arguments
 
@@ -205,29 +197,29 @@ module _ (B : ℕ → Type 0) (at cur : ℕ) (r : Rec) (has : RecHas B r) where
 
 -- ---- projections
 
-remember-sound : (B : ℕ → Type 0) (p a b : ℕ) (st : State) → a < symCount st → b < symCount st → StateSound B st →
-    StateSound B (remember p a b st)
-unfolding recall
-remember-sound B p a b st la lb h = record {
+pub recall-low : (p a b : ℕ) (st : State) (n : ℕ) → a < n → b < n →
+    ((q x y : ℕ) → recall (st .memo) q ≡ some (x, y) → (x < n) × (y < n)) →
+    (q x y : ℕ) → recall (remember p a b st .memo) q ≡ some (x, y) → (x < n) × (y < n)
+recall-low p a b st n la lb h q x y e = elim (recall-cases p a b st q x y e) [
+  | inl s ↦ (omega (arith, s .1), omega (arith, s .2))
+  | inr f ↦ h q x y f
+]
+
+-- what is sound of a state is of its symbols and scopes, and of other tables, projections and readings if they are low
+pub sound-same : {B : ℕ → Type 0} {st : State} (ts : List (List ℕ)) (memo : List (ℕ × ℕ × ℕ)) (n : ℕ) → n ≤ 2048 →
+    1 ≤ length ts → ((i : ℕ) → InAny i ts → i < symCount st) →
+    ((p a b : ℕ) → recall memo p ≡ some (a, b) → (a < symCount st) × (b < symCount st)) → StateSound B st →
+    StateSound B (record { syms = st .syms; tables = ts; scopes = st .scopes; memo = memo; readings = n })
+sound-same ts memo n few-readings tables-open tables-low memo-low h = record {
   few-symbols = h .few-symbols;
-  few-readings = h .few-readings;
+  few-readings = few-readings;
   syms-sound = h .syms-sound;
-  tables-open = h .tables-open;
-  tables-low = h .tables-low;
-  memo-low = λ q x y e. memo q x y (eqb p q) e;
+  tables-open = tables-open;
+  tables-low = tables-low;
+  memo-low = memo-low;
   around-low = h .around-low;
   args-low = h .args-low;
 }
-  where
-    memo : (q x y : ℕ) (t : Bool) →
-        _≡_ {A = Option (ℕ × ℕ)} (elim t [ true ↦ some (a, b) | false ↦ recall (st .memo) q ]) (some (x, y)) →
-        (x < symCount st) × (y < symCount st)
-    memo q x y true e =
-        let w = Option·some-injective _ _ e in
-        let z : a ≡ x = ap (λ (v : ℕ × ℕ). v .0) w in
-        let v : b ≡ y = ap (λ (v : ℕ × ℕ). v .1) w in
-        (omega arith, omega arith)
-    memo q x y false e = h .memo-low q x y e
 
 -- a SelectField has no thunk
 no-thunks : (j : ℕ) (ks : List ℕ) → thunks 0x8C j ks ≡ 0
@@ -284,7 +276,9 @@ module _ (B : ℕ → Type 0) (b0 : B 0) (b1 : B 1) (b2 : B 2) (at cur : ℕ) (r
           let u = keeps-then B st (a .1) (b .1) (suc k) c (suc k) c (w .keeps) (v .keeps) in
           record {
             keeps = record {
-              sound = remember-sound B p (a .0) (b .0) (b .1) la (v .low) (u .sound);
+              sound = sound-same (b .1 .tables) ((p, a .0, b .0) ∷ b .1 .memo) (b .1 .readings) (u .sound .few-readings)
+                  (u .sound .tables-open) (u .sound .tables-low)
+                  (recall-low p (a .0) (b .0) (b .1) (symCount (b .1)) la (v .low) (u .sound .memo-low)) (u .sound);
               room = record { slots-paid = u .room .slots-paid; scopes-paid = u .room .scopes-paid };
               more-syms = u .more-syms;
               more-scopes = u .more-scopes;
@@ -351,16 +345,8 @@ open-more cur args ts st = simp length-append (omega arith)
 
 -- a reading pays for a slot and a scope
 pub read-sound : (B : ℕ → Type 0) (st : State) → st .readings < 2048 → StateSound B st → StateSound B (read st)
-read-sound B st l h = record {
-  few-symbols = h .few-symbols;
-  few-readings = l;
-  syms-sound = h .syms-sound;
-  tables-open = h .tables-open;
-  tables-low = h .tables-low;
-  memo-low = h .memo-low;
-  around-low = h .around-low;
-  args-low = h .args-low;
-}
+read-sound B st l h =
+    sound-same (st .tables) (st .memo) (suc (st .readings)) l (h .tables-open) (h .tables-low) (h .memo-low) h
 
 pub read-room : (st : State) (k c : ℕ) → Room st k c → Room (read st) (suc k) (suc c)
 read-room st k c h =

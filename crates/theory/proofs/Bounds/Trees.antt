@@ -30,7 +30,7 @@ use Rattle.theory.proofs.Interning.Inv.{any-opened, any-closed}
 use Rattle.theory.specs.Sound.{TreeHas, TreesHave, scopeOf, StateSound, Room, thunks, Pays}
 use Rattle.theory.proofs.Bounds.Sound.{room-less, keeps-none}
 use Rattle.theory.proofs.Bounds.Sound.{keeps-then, keeps-less, KeepsOne, KeepsAll}
-use Rattle.theory.proofs.Bounds.Steps.{open-sound, open-room, open-more, read-sound, read-room}
+use Rattle.theory.proofs.Bounds.Steps.{sound-same, open-sound, open-room, open-more, read-sound, read-room}
 use Rattle.theory.proofs.Bounds.Kinds.{EnvLow, env-more, env-def, plainKids, kind-keeps}
 
 -- ---- thunks
@@ -43,16 +43,8 @@ close-keeps : (B : ℕ → Type 0) (cur : ℕ) (st : State) (k c : ℕ) (o : ℕ
     KeepsOne B (openThunk cur st) k c o → KeepsOne B st k c (o .0, closeThunk (o .1))
 close-keeps B cur st k c o some w = record {
   keeps = record {
-    sound = record {
-      few-symbols = w .keeps .sound .few-symbols;
-      few-readings = w .keeps .sound .few-readings;
-      syms-sound = w .keeps .sound .syms-sound;
-      tables-open = omega (arith, some, dropped);
-      tables-low = λ i h. w .keeps .sound .tables-low i (any-closed i (o .1 .tables) h);
-      memo-low = w .keeps .sound .memo-low;
-      around-low = w .keeps .sound .around-low;
-      args-low = w .keeps .sound .args-low;
-    };
+    sound = sound-same (dropFirst (o .1 .tables)) (o .1 .memo) (o .1 .readings) (s .few-readings)
+        (omega (arith, some, dropped)) (λ i h. s .tables-low i (any-closed i (o .1 .tables) h)) (s .memo-low) s;
     room = record { slots-paid = w .keeps .room .slots-paid; scopes-paid = w .keeps .room .scopes-paid };
     more-syms = w .keeps .more-syms;
     more-scopes = omega (arith, open-more cur none ([] ∷ st .tables) st, w .keeps .more-scopes);
@@ -61,6 +53,9 @@ close-keeps B cur st k c o some w = record {
   low = w .low;
 }
   where
+    s : StateSound B (o .1)
+    s = w .keeps .sound
+
     dropped : length (dropFirst (o .1 .tables)) ≡ length (st .tables)
     dropped = drop-one (length (st .tables)) (o .1 .tables) (w .keeps .tables-kept)
 

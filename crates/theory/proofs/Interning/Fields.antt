@@ -4,7 +4,7 @@
 -- (`pairProjection-keeps`); a SelectField, whose input is read once or twice (`internField-keeps`).
 -- Walk uses `internField-keeps`.
 -- Assumes nothing.
-use mathlib.Core.Path.{_≡_, refl, ap, sym, _∙_, subst}
+use mathlib.Core.Path.{_≡_, refl, sym, _∙_, subst}
 use mathlib.Core.Logic.{_⊎_, inl, inr}
 use mathlib.Core.Bool.{Bool, true, false, _||_}
 use mathlib.Core.Option.{Option, none, some}
@@ -16,61 +16,35 @@ use lib.ListN.{getD}
 use borrow.Author.Tests.{eqb-true}
 use Rattle.model.specs.Lists.{last}
 use Rattle.model.specs.Answer.{good}
-use Rattle.model.specs.Tree.{Rec, rec, Trees, many}
+use Rattle.model.specs.Tree.{Rec, Trees, many}
 use Rattle.model.specs.Binding.{kind}
 use Rattle.model.specs.Intern.{operation, Sym, Scope, State, Env, Kids, finish, recall, remember, pick, newProjections}
 use Rattle.model.specs.Intern.{pairProjection, internGeneral, internField}
 use Rattle.laws.proofs.Holds.{Holds, holds-bind, holds-map}
-use Rattle.laws.specs.Members.{In}
 use Rattle.laws.proofs.Members.{in-one}
 use Rattle.theory.proofs.Acceptance.Records.{field-fits}
-use Rattle.theory.specs.Good.{depsAt, recAt, symCount, PairsOk, Plain, SymOk}
-use Rattle.theory.proofs.Interning.Good.{plain-of}
-use Rattle.theory.specs.Inv.{Args, argSyms, FieldOk, Inv}
-use Rattle.theory.proofs.Interning.Inv.{env-later, grow-none, grow-same}
-use Rattle.theory.proofs.Interning.Finish.{Result, Made, Step, finish-plain, step-then, result-later}
+use Rattle.theory.specs.Good.{recAt, symCount, PairsOk, SymOk}
+use Rattle.theory.specs.Inv.{Args, fieldRec, FieldOk, Inv}
+use Rattle.theory.proofs.Interning.Inv.{env-later, grow-none, grow-same, key-later, recall-cases, inv-same}
+use Rattle.theory.proofs.Interning.Finish.{Result, Made, key-made, Step, finish-plain, step-then, result-later}
 use Rattle.theory.proofs.Interning.Keep.{Symbols, KeepsMeaning, KeepsMeanings, PlainRec, madeOf, one-last, last-in}
 use Rattle.theory.proofs.Interning.Keep.{made-stands, finish-keeps, internGeneral-keeps}
 
 -- ---- field j of a symbol
 
-abbrev fieldRec : ℕ → Rec
-fieldRec j = rec 17 0x8C 0 (j ∷ [])
-
 field-plain : (j : ℕ) → PlainRec (fieldRec j) 1
 unfolding kind
 field-plain j = record { kind-is = refl; fits-is = field-fits j .0; agrees-is = field-fits j .1 }
 
--- what is remembered of a field that was made
-made-field : {fin : List Sym} {n p j a : ℕ} {A : Args} → Made fin n A (fieldRec j) (p ∷ []) a → FieldOk fin n p j a
-made-field h = record { low = h .result .low; rec-is = h .rec-is; kids-is = h .kids-is; made-is = h .made-is }
-
 made-later : {fin : List Sym} {n : ℕ} (m : ℕ) {A : Args} {r : Rec} {ks : List ℕ} {s : ℕ} → n ≤ m →
     Made fin n A r ks s → Made fin m A r ks s
-made-later m l h = record {
-  result = result-later m l (h .result);
-  rec-is = h .rec-is;
-  kids-is = h .kids-is;
-  made-is = h .made-is;
-}
+made-later m l h = record { key = key-later m l (h .key); within = h .within }
 
 -- a field that is remembered is as one that was made
 field-made : {fin : List Sym} {scs : List Scope} {n p j a : ℕ} {A : Args} → SymOk fin scs a → Result fin n A p →
     FieldOk fin n p j a → Made fin n A (fieldRec j) (p ∷ []) a
-field-made {fin} {scs} {p} {j} {a} {A} ok res h = record {
-  result = record { low = h .low; within = within };
-  rec-is = h .rec-is;
-  kids-is = h .kids-is;
-  made-is = h .made-is;
-}
-  where
-    plain : Plain fin a
-    plain = plain-of fin scs a ok (rw (h .rec-is) (field-plain j .kind-is)) (h .made-is)
-
-    within : (x : ℕ) → In x (depsAt fin a) → In x (argSyms A)
-    within x l =
-        let w = plain .from x l in
-        res .within x (rw (in-one (rw (h .kids-is) at (w .1))) at (w .2))
+field-made {fin} {scs} {p} {j} {a} {A} ok res h =
+    key-made ok (field-plain j .kind-is) h λ k l. rw (in-one l) (res .within)
 
 -- ---- fields 1 and 2
 
@@ -88,30 +62,14 @@ pick-made i (inr e) h k = rw e k
 
 remember-inv : (fin : List Sym) (scs : List Scope) (st : State) (A : Args) (cur p a b : ℕ) → Inv fin scs st A cur →
     FieldOk fin (symCount st) p 1 a → FieldOk fin (symCount st) p 2 b → Inv fin scs (remember p a b st) A cur
-unfolding recall
-remember-inv fin scs st A cur p a b h fa fb = record {
-  good = h .good;
-  cur-low = h .cur-low;
-  chain = h .chain;
-  tables-ok = h .tables-ok;
-  args-low = h .args-low;
-  arg-low = h .arg-low;
-  lam-ok = h .lam-ok;
-  arg-scope = h .arg-scope;
-  place-ok = h .place-ok;
-  memo-ok = λ q c d e. go q c d (eqb p q) refl e;
-}
+remember-inv fin scs st A cur p a b h fa fb =
+    inv-same (st .tables) ((p, a, b) ∷ st .memo) (st .readings) (λ i k. k)
+    (λ q c d e. go q c d (recall-cases p a b st q c d e)) h
   where
-    go : (q c d : ℕ) (t : Bool) → eqb p q ≡ t →
-        _≡_ {A = Option (ℕ × ℕ)} (elim t [ true ↦ some (a, b) | false ↦ recall (st .memo) q ]) (some (c, d)) →
+    go : (q c d : ℕ) → ((p ≡ q) × (a ≡ c) × (b ≡ d)) ⊎ (recall (st .memo) q ≡ some (c, d)) →
         FieldOk fin (symCount st) q 1 c × FieldOk fin (symCount st) q 2 d
-    go q c d true t e =
-        let same : _≡_ {A = ℕ × ℕ} (a, b) (c, d) = cc in
-        let ac : a ≡ c = ap (λ (z : ℕ × ℕ). z .0) same in
-        let bd : b ≡ d = ap (λ (z : ℕ × ℕ). z .1) same in
-        let pq : p ≡ q = eqb-true p q t in
-        (rw (pq, ac) at fa, rw (pq, bd) at fb)
-    go q c d false t e = h .memo-ok q c d e
+    go q c d (inl e) = (rw (e .0, e .1) at fa, rw (e .0, e .2) at fb)
+    go q c d (inr e) = h .memo-ok q c d e
 
 module _ (at cur : ℕ) (A : Args) (p : ℕ) where
   one-projection : (j : ℕ) (st : State) →
@@ -160,7 +118,7 @@ module _ (at cur : ℕ) (A : Args) (p : ℕ) where
       remembered a b s = record {
         grows = grow-same s (remember p a b s) refl refl;
         keeps = λ fin scs f inv m.
-            let kept = remember-inv fin scs s A cur p a b inv (made-field (m .0)) (made-field (m .1)) in
+            let kept = remember-inv fin scs s A cur p a b inv (m .0 .key) (m .1 .key) in
             (kept, pick-made i e (m .0) (m .1));
       }
 
@@ -227,7 +185,7 @@ module _
           (pairProjection-keeps at cur A r i p (os .2) is e) λ o s.
           step-then (k .step) s
           (λ fin scs ok w. w .results p (last-in (os .0) (omega (arith, k .count))))
-          (λ fin scs inv w m. made-stands plain (inv .good (o .0) (m .result .low)) w (rw input m))
+          (λ fin scs inv w m. made-stands plain (inv .good (o .0) (m .key .low)) w (rw input m))
 
       go : (x : Bool) → eqb i 1 ≡ x → (y : Bool) → eqb i 2 ≡ y → (t : Bool) → Holds P (elim (x || y) [
         | false ↦ finish at cur r (os .0) [] (operation []) (os .2)

@@ -13,20 +13,21 @@ use Prim.Native.Nat.{ℕ, _≤_, _<_}
 use native.Mathlib.Omega.{arith}
 use lib.Dec.{ltb}
 use lib.ListN.{length}
+use borrow.Author.Tests.{ltb-true}
 use Rattle.model.specs.Lists.{same, without}
 use Rattle.model.specs.Answer.{good}
 use Rattle.model.specs.Tree.{Rec, sameRec}
 use Rattle.model.specs.Shape.{fits, agrees}
 use Rattle.model.specs.Binding.{kind}
-use Rattle.model.specs.Intern.{Node, constant, unparsed, argument, func, operation, Sym, Scope, State, symAt, isKey}
+use Rattle.model.specs.Intern.{Node, constant, unparsed, argument, func, operation, Sym, Scope, State, Out, symAt, isKey}
 use Rattle.model.specs.Intern.{lookupIn, lookup, unionDeps, push, alloc, finish}
 use Rattle.laws.proofs.Apart.{none-some}
 use Rattle.laws.proofs.Holds.{Holds, holds-guard}
 use Rattle.laws.specs.Members.{In}
 use Rattle.laws.proofs.Members.{and-both, same-true, sameRec-true, without-keeps, without-cases}
-use Rattle.theory.specs.Good.{recAt, symKids, depsAt, nodeAt, symCount, isPlain, noArg, PairsOk, Plain, NodeOk, SymOk}
+use Rattle.theory.specs.Good.{recAt, symKids, depsAt, symCount, isPlain, noArg, PairsOk, Plain, NodeOk, SymOk}
 use Rattle.theory.proofs.Interning.Good.{plain-of}
-use Rattle.theory.specs.Inv.{Args, argSyms, InAny, Inv, Fits, Grow}
+use Rattle.theory.specs.Inv.{Args, argSyms, InAny, HasKey, Inv, Fits, Grow}
 use Rattle.theory.proofs.Interning.Inv.{grow-none, grow-then, fits-back}
 use Rattle.theory.proofs.Interning.Push.{newSym, push-grows, push-more, PartsAt, push-parts, push-inv}
 use Rattle.theory.proofs.Interning.Push.{unionDeps-covers, unionDeps-from}
@@ -64,6 +65,37 @@ module _ (ss : List Sym) (r : Rec) (ks : List ℕ) where
       let p = and-both (sameRec (recAt ss i) r) (same (symKids ss i) ks) e in
       (sameRec-true (recAt ss i) r (p .0), same-true (symKids ss i) ks (p .1))
 
+-- so it is, seen from the end
+pub found-key : {fin : List Sym} {scs : List Scope} {st : State} {A : Args} {cur i : ℕ} {r : Rec} {ks : List ℕ} →
+    Fits fin scs st → Inv fin scs st A cur → lookup (st .syms) r ks (st .tables) ≡ some i →
+    HasKey fin (symCount st) r ks i
+found-key {st} {i} {r} {ks} f h e =
+    let w = lookup-found (st .syms) r ks (st .tables) i e in
+    let low = h .tables-ok i (w .0) .0 in
+    let key = isKey-true (st .syms) r ks i (w .1) in
+    record {
+      low = low;
+      rec-is = sym (ap (λ (z : Sym). z .rec) (f .syms-fit i low)) ∙ key .0;
+      kids-is = sym (ap (λ (z : Sym). z .kids) (f .syms-fit i low)) ∙ key .1;
+      made-is = h .tables-ok i (w .0) .1;
+    }
+
+-- found, or made
+pub finish-cases : (P : ℕ × State → Type 0) (at cur : ℕ) (r : Rec) (ks own : List ℕ) (nd : Node) (st : State) →
+    ((i : ℕ) → lookup (st .syms) r ks (st .tables) ≡ some i → P (i, st)) →
+    (lookup (st .syms) r ks (st .tables) ≡ none → symCount st < 512 →
+    P (symCount st, push cur r ks (without (unionDeps (st .syms) ks) own) true nd st)) →
+    Holds P (finish at cur r ks own nd st)
+unfolding finish alloc
+finish-cases P at cur r ks own nd st found made = go (lookup (st .syms) r ks (st .tables)) refl
+  where
+    go : (o : Option ℕ) → lookup (st .syms) r ks (st .tables) ≡ o → Holds P (elim o as (λ z. Out) [
+      | some i ↦ good (i, st)
+      | none ↦ alloc at cur r ks (without (unionDeps (st .syms) ks) own) true nd st
+    ])
+    go (some i) e = found i e
+    go none e = holds-guard P (ltb (symCount st) 512) 12 at _ λ l. made e (ltb-true (symCount st) 512 l)
+
 -- ---- what a step owes
 
 -- a symbol that depends on arguments in force only
@@ -79,10 +111,19 @@ result-later m l h = record { low = omega (arith, h .low); within = h .within }
 
 -- one with this record and these children
 pub record Made (fin : List Sym) (n : ℕ) (A : Args) (r : Rec) (ks : List ℕ) (s : ℕ) : Type 0 where
-  pub result : Result fin n A s
-  pub rec-is : recAt fin s ≡ r
-  pub kids-is : symKids fin s ≡ ks
-  pub made-is : noArg (nodeAt fin s) ≡ true
+  pub key : HasKey fin n r ks s
+  pub within : (a : ℕ) → In a (depsAt fin s) → In a (argSyms A)
+
+-- a plain symbol depends on what its children depend on
+pub key-made : {fin : List Sym} {scs : List Scope} {n : ℕ} {A : Args} {r : Rec} {ks : List ℕ} {s : ℕ} →
+    SymOk fin scs s → isPlain (kind (r .shape)) ≡ true → HasKey fin n r ks s →
+    ((k : ℕ) → In k ks → (a : ℕ) → In a (depsAt fin k) → In a (argSyms A)) → Made fin n A r ks s
+key-made {fin} {scs} {A} {s} ok plain-is key kids = record { key = key; within = within }
+  where
+    within : (a : ℕ) → In a (depsAt fin s) → In a (argSyms A)
+    within a la =
+        let w = plain-of fin scs s ok (rw (key .rec-is) plain-is) (key .made-is) .from a la in
+        kids (w .0) (rw (key .kids-is) at (w .1)) a (w .2)
 
 -- a node for a plain record with these children
 abbrev pub PlainNode : List Sym → List Scope → Rec → List ℕ → Node → Type 0
@@ -144,36 +185,9 @@ module _ (cur : ℕ) (r : Rec) (ks : List ℕ) (st : State) (A : Args) (fin : Li
   -- one that is there
   found-made : Fits fin scs st → (i : ℕ) → lookup (st .syms) r ks (st .tables) ≡ some i →
       Made fin (symCount st) A r ks i
-  found-made f i e = record {
-    result = record { low = low; within = within };
-    rec-is = rec-is;
-    kids-is = kids-is;
-    made-is = made;
-  }
-    where
-      w : InAny i (st .tables) × (isKey (st .syms) r ks i ≡ true)
-      w = lookup-found (st .syms) r ks (st .tables) i e
-
-      key : (recAt (st .syms) i ≡ r) × (symKids (st .syms) i ≡ ks)
-      key = isKey-true (st .syms) r ks i (w .1)
-
-      low : i < symCount st
-      low = h .tables-ok i (w .0) .0
-
-      made : noArg (nodeAt fin i) ≡ true
-      made = h .tables-ok i (w .0) .1
-
-      rec-is : recAt fin i ≡ r
-      rec-is = sym (ap (λ (z : Sym). z .rec) (f .syms-fit i low)) ∙ key .0
-
-      kids-is : symKids fin i ≡ ks
-      kids-is = sym (ap (λ (z : Sym). z .kids) (f .syms-fit i low)) ∙ key .1
-
-      plain : Plain fin i
-      plain = plain-of fin scs i (h .good i low) (rw rec-is plain-is) made
-
-      within : (a : ℕ) → In a (depsAt fin i) → In a (argSyms A)
-      within a la = let v = plain .from a la in res (v .0) (rw kids-is at (v .1)) .within a (v .2)
+  found-made f i e =
+      let key = found-key f h e in
+      key-made (h .good i (key .low)) plain-is key (λ k l. res k l .within)
 
   -- a new one
   module _ (nd : Node) (fits-is : fits (record { rec = r; kids = length ks }) ≡ true) (agrees-is : agrees r ≡ true)
@@ -183,13 +197,13 @@ module _ (cur : ℕ) (r : Rec) (ks : List ℕ) (st : State) (A : Args) (fin : Li
     new-made = (
       push-inv fin scs A cur r ks deps true nd st f h ok (λ xs c e. absurd (rw e at pn)) (λ e. made) (λ e. within),
       record {
-        result = record {
+        key = record {
           low = push-more cur r ks deps true nd st;
-          within = λ a la. within a (rw (new .deps-is) at la);
+          rec-is = new .rec-is;
+          kids-is = new .kids-is;
+          made-is = rw (new .node-is) made;
         };
-        rec-is = new .rec-is;
-        kids-is = new .kids-is;
-        made-is = rw (new .node-is) made;
+        within = λ a la. within a (rw (new .deps-is) at la);
       },
     )
       where
@@ -259,18 +273,13 @@ Finished cur r ks nd st A o =
 pub finish-plain : (at cur : ℕ) (r : Rec) (ks : List ℕ) (nd : Node) (st : State) (A : Args) →
     isPlain (kind (r .shape)) ≡ true → fits (record { rec = r; kids = length ks }) ≡ true → agrees r ≡ true →
     Holds (Finished cur r ks nd st A) (finish at cur r ks [] nd st)
-unfolding finish alloc
-finish-plain at cur r ks nd st A plain-is fits-is agrees-is = go (lookup (st .syms) r ks (st .tables)) refl
-  where
-    go : (o : Option ℕ) → lookup (st .syms) r ks (st .tables) ≡ o → Holds (Finished cur r ks nd st A) (elim o [
-      | some i ↦ good (i, st)
-      | none ↦ alloc at cur r ks (plainDeps st ks) true nd st
-    ])
-    go (some i) e = record {
+finish-plain at cur r ks nd st A plain-is fits-is agrees-is =
+    finish-cases (Finished cur r ks nd st A) at cur r ks [] nd st
+    (λ i e. record {
       grows = grow-none st;
       keeps = λ fin scs f h pre. (h, found-made cur r ks st A fin scs plain-is h (pre .0) f i e);
-    }
-    go none e = holds-guard (Finished cur r ks nd st A) (ltb (symCount st) 512) 12 at _ λ l. record {
+    })
+    (λ e l. record {
       grows = push-grows cur r ks (plainDeps st ks) true nd st;
       keeps = λ fin scs f h pre. new-made cur r ks st A fin scs plain-is h (pre .0) nd fits-is agrees-is f (pre .1);
-    }
+    })

@@ -21,6 +21,7 @@ use Rattle.model.specs.Intern.{resolve}
 use Rattle.laws.proofs.Apart.{false-true}
 use Rattle.laws.proofs.Holds.{Holds, holds-bind, holds-guard}
 use Rattle.laws.specs.Members.{In, Once}
+use Rattle.laws.proofs.Members.{in-one}
 use Rattle.laws.specs.ArgLists.{ArgList, symsIn}
 use Rattle.theory.proofs.Meaning.Mean.{Val, bindSyms, mean}
 use Rattle.theory.proofs.Meaning.Coincide.{mean-arg}
@@ -29,7 +30,7 @@ use Rattle.theory.specs.Inv.{Args, HasArg, argSyms, keys, LamApart, Inv,
 use Rattle.theory.proofs.Interning.Inv.{lt-or, grow-none}
 use Rattle.theory.proofs.Interning.Inv.{grow-then, fits-back}
 use Rattle.theory.proofs.Interning.Push.{newSym, push-count, push-grows, PartsAt, push-parts, push-inv}
-use Rattle.theory.proofs.Interning.Finish.{Step}
+use Rattle.theory.proofs.Interning.Finish.{Result, Step}
 
 -- ---- making argument symbols
 
@@ -196,31 +197,25 @@ key-rest : (i j : ℕ) (env : Env) → eqb i j ≡ false → In j (i ∷ keys en
 key-rest i j env f (inl p) = absurd (eqb-false i j f (sym p))
 key-rest i j env f (inr k) = k
 
-env-one : (fin : List Sym) (n i a : ℕ) (env : Env) (A : Args) → a < n → depsAt fin a ≡ a ∷ [] → EnvOk fin n env A →
-    EnvOk fin n ((i, a) ∷ env) ((i, a) ∷ A)
+-- one more id, of a symbol that depends on arguments in force only
+pub env-add : {fin : List Sym} {n : ℕ} {env : Env} {A B : Args} (i : ℕ) {s : ℕ} → Result fin n B s →
+    ((a : ℕ) → In a (argSyms A) → In a (argSyms B)) → ((j a : ℕ) → HasArg j a B → In j (i ∷ keys env)) →
+    EnvOk fin n env A → EnvOk fin n ((i, s) ∷ env) B
 unfolding resolve
-env-one fin n i a env A l e h = record {
+env-add {fin} {n} {env} {A} {B} i {s} res more ids h = record {
   low = λ j. low j (eqb i j) refl;
-  deps-in = λ j b. deps j b (eqb i j) refl;
+  deps-in = λ j a. deps j a (eqb i j) refl;
   ids = ids;
 }
   where
-    low : (j : ℕ) (t : Bool) → eqb i j ≡ t → In j (i ∷ keys env) → elim t [ true ↦ a | false ↦ resolve env j ] < n
-    low j true f k = l
+    low : (j : ℕ) (t : Bool) → eqb i j ≡ t → In j (i ∷ keys env) → elim t [ true ↦ s | false ↦ resolve env j ] < n
+    low j true f k = res .low
     low j false f k = h .low j (key-rest i j env f k)
 
-    own : (b : ℕ) → In b (a ∷ []) → In b (a ∷ argSyms A)
-    own b (inl p) = inl p
-    own b (inr p) = absurd p
-
-    deps : (j b : ℕ) (t : Bool) → eqb i j ≡ t → In j (i ∷ keys env) →
-        In b (depsAt fin (elim t [ true ↦ a | false ↦ resolve env j ])) → In b (a ∷ argSyms A)
-    deps j b true f k d = own b (rw e at d)
-    deps j b false f k d = inr (h .deps-in j b (key-rest i j env f k) d)
-
-    ids : (j b : ℕ) → HasArg j b ((i, a) ∷ A) → In j (i ∷ keys env)
-    ids j b (inl p) = inl (p .0)
-    ids j b (inr k) = inr (h .ids j b k)
+    deps : (j a : ℕ) (t : Bool) → eqb i j ≡ t → In j (i ∷ keys env) →
+        In a (depsAt fin (elim t [ true ↦ s | false ↦ resolve env j ])) → In a (argSyms B)
+    deps j a true f k d = res .within a d
+    deps j a false f k d = more a (h .deps-in j a (key-rest i j env f k) d)
 
 pub env-bind : (fin : List Sym) (n : ℕ) (xs : ArgList) (ss : List ℕ) (env : Env) (A : Args) →
     ((a : ℕ) → In a ss → (a < n) × (depsAt fin a ≡ a ∷ [])) → EnvOk fin n env A →
@@ -229,7 +224,9 @@ env-bind fin n [] ss env A g h = h
 env-bind fin n (x ∷ xs) [] env A g h = h
 env-bind fin n (x ∷ xs) (a ∷ ss) env A g h =
     let w = g a (inl refl) in
-    env-one fin n (x .0) a _ _ (w .0) (w .1) (env-bind fin n xs ss env A (λ b k. g b (inr k)) h)
+    let rest = env-bind fin n xs ss env A (λ b k. g b (inr k)) h in
+    env-add (x .0) (record { low = w .0; within = λ b d. inl (in-one (rw (w .1) at d)) }) (λ b k. inr k)
+    (λ j b k. elim k [ inl e ↦ inl (e .0) | inr q ↦ inr (rest .ids j b q) ]) rest
 
 -- ---- what the environment means
 

@@ -1,6 +1,7 @@
 -- Laws of the invariant of interning (`Inv`), and of states that grow.
 --
--- In order: arguments in force (`Args`); tables; environments; states that grow (`Grow`, `Fits`); the scopes around a scope have lower numbers (`out-low`);
+-- In order: arguments in force (`Args`); tables; environments; states that grow (`Grow`, `Fits`); what is remembered,
+-- and states with the same symbols and scopes (`inv-same`); the scopes around a scope have lower numbers (`out-low`);
 -- placement stays within each scope whose arguments are depended on (`climb-stays`).
 --
 -- A state is judged from the symbols and scopes at the end, of which it has the first (`Fits`): so no fact on symbols
@@ -14,14 +15,17 @@ use mathlib.Core.List.{List, [], _∷_}
 use Prim.Native.Nat.{ℕ, suc, _≤_, _<_}
 use native.Mathlib.Omega.{arith}
 use native.Mathlib.Nat.{eq-or-lt-of-le, le-of-suc-le-suc}
+use lib.Dec.{eqb}
 use lib.ListN.{length, getD}
+use borrow.Author.Tests.{eqb-true}
 use Rattle.model.specs.Lists.{anyIn}
-use Rattle.model.specs.Intern.{Sym, Scope, State, Env, rootScope, climb, dropFirst}
-use Rattle.theory.specs.Inv.{Args, HasArg, argSyms, InAny, Chain, EnvOk, Grow, Fits}
+use Rattle.model.specs.Tree.{Rec}
+use Rattle.model.specs.Intern.{Sym, Scope, State, Env, rootScope, climb, dropFirst, recall, remember}
+use Rattle.theory.specs.Inv.{Args, HasArg, argSyms, InAny, Chain, HasKey, FieldOk, Inv, EnvOk, Grow, Fits}
 use Rattle.laws.proofs.Induction.{strong}
 use Rattle.laws.specs.Members.{In}
 use Rattle.laws.proofs.Members.{anyIn-false}
-use Rattle.theory.specs.Good.{argsAt, aroundAt, out}
+use Rattle.theory.specs.Good.{argsAt, aroundAt, out, symCount}
 
 -- ---- arguments in force: an id and its symbol
 
@@ -86,6 +90,46 @@ pub fits-back : (fin : List Sym) (scs : List Scope) (a b : State) → Grow a b �
 fits-back fin scs a b g f = record {
   syms-fit = λ i l. g .same-syms i l ∙ f .syms-fit i (omega arith);
   scopes-fit = λ i l. g .same-scopes i l ∙ f .scopes-fit i (omega arith);
+}
+
+-- ---- what is remembered
+
+-- a symbol with a key is one of more symbols
+pub key-later : {fin : List Sym} {n : ℕ} (m : ℕ) {r : Rec} {ks : List ℕ} {i : ℕ} → n ≤ m → HasKey fin n r ks i →
+    HasKey fin m r ks i
+key-later m l h = record { low = omega (arith, h .low); rec-is = h .rec-is; kids-is = h .kids-is; made-is = h .made-is }
+
+-- once (a, b) is remembered of p: what is recalled is this, or was before
+pub recall-cases : (p a b : ℕ) (st : State) (q c d : ℕ) → recall (remember p a b st .memo) q ≡ some (c, d) →
+    ((p ≡ q) × (a ≡ c) × (b ≡ d)) ⊎ (recall (st .memo) q ≡ some (c, d))
+unfolding recall
+recall-cases p a b st q c d = go (eqb p q) refl
+  where
+    go : (t : Bool) → eqb p q ≡ t →
+        _≡_ {A = Option (ℕ × ℕ)} (elim t [ true ↦ some (a, b) | false ↦ recall (st .memo) q ]) (some (c, d)) →
+        ((p ≡ q) × (a ≡ c) × (b ≡ d)) ⊎ (recall (st .memo) q ≡ some (c, d))
+    go true t e =
+        let same : _≡_ {A = ℕ × ℕ} (a, b) (c, d) = cc in
+        inl (eqb-true p q t, ap (λ (z : ℕ × ℕ). z .0) same, ap (λ (z : ℕ × ℕ). z .1) same)
+    go false t e = inr e
+
+-- the invariant is of symbols and scopes, of tables that hold no more, and of what is remembered
+pub inv-same : {fin : List Sym} {scs : List Scope} {st : State} {A : Args} {cur : ℕ} (ts : List (List ℕ))
+    (memo : List (ℕ × ℕ × ℕ)) (n : ℕ) → ((i : ℕ) → InAny i ts → InAny i (st .tables)) →
+    ((p a b : ℕ) → recall memo p ≡ some (a, b) →
+    FieldOk fin (symCount st) p 1 a × FieldOk fin (symCount st) p 2 b) → Inv fin scs st A cur →
+    Inv fin scs (record { syms = st .syms; tables = ts; scopes = st .scopes; memo = memo; readings = n }) A cur
+inv-same ts memo n tables memo-ok h = record {
+  good = h .good;
+  cur-low = h .cur-low;
+  chain = h .chain;
+  tables-ok = λ i k. h .tables-ok i (tables i k);
+  memo-ok = memo-ok;
+  args-low = h .args-low;
+  arg-low = h .arg-low;
+  lam-ok = h .lam-ok;
+  arg-scope = h .arg-scope;
+  place-ok = h .place-ok;
 }
 
 -- ---- placement

@@ -152,11 +152,11 @@ madeOf r ts ms d = made r (unfoldAll ts ms d)
 pub made-stands : {fin : List Sym} {scs : List Scope} {n m : ℕ} {A : Args} {env : Env} {r : Rec} {op s : ℕ} {ts : Trees}
     {ks brs : List ℕ} → PlainRec r (many ts) → SymOk fin scs s → AllStand fin scs n A env op 0 false ts ks brs →
     Made fin m A r ks s → StandsFor fin m A env s (madeOf r ts)
-made-stands {fin} {scs} {r} {s} p ok w m = record {
-  result = m .result;
+made-stands {fin} {scs} {r} {s} p ok w m = let k = m .key in record {
+  result = record { low = k .low; within = m .within };
   means = λ ρ ms e d.
-      mean-plain fin scs s ok (rw (m .rec-is) (p .kind-is)) (m .made-is) ρ d
-      ∙ ap₂ made (m .rec-is) (ap (λ (z : List ℕ). meanAll (mean fin) z ρ d) (m .kids-is) ∙ w .each-means refl ρ ms e d);
+      mean-plain fin scs s ok (rw (k .rec-is) (p .kind-is)) (k .made-is) ρ d
+      ∙ ap₂ made (k .rec-is) (ap (λ (z : List ℕ). meanAll (mean fin) z ρ d) (k .kids-is) ∙ w .each-means refl ρ ms e d);
 }
 
 nodeOf-plain : (fin : List Sym) (scs : List Scope) (r : Rec) (ks brs : List ℕ) →
@@ -188,7 +188,7 @@ finish-keeps at {st} {A} {cur} {env} {r} {ts} {os} nd p k right =
     holds-map _ (KeepsMeaning st A cur env (madeOf r ts)) (finish at cur r (os .0) [] nd (os .2))
     (finish-plain at cur r (os .0) nd (os .2) A (p .kind-is) (rw (k .count) (p .fits-is)) (p .agrees-is)) λ o s.
     step-then (k .step) s (λ fin scs ok w. (w .results, right fin scs (w .pairs)))
-    (λ fin scs inv w m. made-stands p (inv .good (o .0) (m .result .low)) w m)
+    (λ fin scs inv w m. made-stands p (inv .good (o .0) (m .key .low)) w m)
 
 pub internGeneral-keeps : (at cur : ℕ) (r : Rec) (env : Env) (A : Args) (ts : Trees) (st : State) (m : Outs) →
     PlainRec r (many ts) → Holds (KeepsMeanings st A cur env (r .opcode) 0 false ts) m →

@@ -12,11 +12,10 @@
 use mathlib.Core.Path.{_≡_, refl, ap, sym, _∙_}
 use mathlib.Core.Logic.{_⊎_, inl, inr}
 use mathlib.Core.Bool.{true, false}
-use mathlib.Core.Option.{Option, none, some}
+use mathlib.Core.Option.{some}
 use mathlib.Core.List.{List, [], _∷_}
 use Prim.Native.Nat.{ℕ, suc, _≤_, _<_}
 use native.Mathlib.Omega.{arith}
-use lib.Dec.{ltb}
 use lib.ListN.{length, getD}
 use Rattle.model.specs.Lists.{without}
 use Rattle.model.specs.Answer.{good}
@@ -24,8 +23,8 @@ use Rattle.model.specs.Tree.{Rec}
 use Rattle.model.specs.Binding.{kind, argIds}
 use Rattle.model.specs.Unfold.{Unfolded, Unfoldeds, lam, more, done}
 use Rattle.model.specs.Intern.{Node, constant, unparsed, argument, func, operation, Sym, Scope, State, symAt, rootScope}
-use Rattle.model.specs.Intern.{lookup, unionDeps, push, placement, alloc, finish, bindArgs, withOpts}
-use Rattle.laws.proofs.Holds.{Holds, holds-guard}
+use Rattle.model.specs.Intern.{unionDeps, push, finish, bindArgs, withOpts}
+use Rattle.laws.proofs.Holds.{Holds}
 use Rattle.laws.specs.Members.{In}
 use Rattle.laws.proofs.Members.{clash, without-keeps, without-cases, in-or-not, in-one}
 use Rattle.laws.specs.ArgLists.{symsIn, optsIn, boundBy}
@@ -39,9 +38,9 @@ use Rattle.theory.proofs.Interning.Good.{lam-of}
 use Rattle.theory.specs.Inv.{Args, HasArg, argSyms, LamApart, Inv, Fits, Grow}
 use Rattle.theory.proofs.Interning.Inv.{has-arg, arg-in}
 use Rattle.theory.proofs.Interning.Inv.{grow-none, fits-back, out-low}
-use Rattle.theory.proofs.Interning.Push.{push-grows, push-is, push-more, push-inv, unionDeps-covers}
+use Rattle.theory.proofs.Interning.Push.{newSym, push-grows, PartsAt, push-parts, push-more, push-inv, unionDeps-covers}
 use Rattle.theory.proofs.Interning.Push.{unionDeps-from}
-use Rattle.theory.proofs.Interning.Finish.{Result, lookup-found, isKey-true}
+use Rattle.theory.proofs.Interning.Finish.{Result, found-key, finish-cases}
 use Rattle.theory.proofs.Interning.Fresh.{ArgsMade, bindArgs-cases, bindArgs-old, bindArgs-new}
 use Rattle.theory.proofs.Interning.Scopes.{leave-inv, pair-of}
 
@@ -109,8 +108,8 @@ module _
 
   left-inv : Inv fin scs st A cur
   left-inv =
-      leave-inv fin scs cur sc st (st .tables) A (withArgs r as' A) (pre .inv)
-      (omega (arith, pre .cur-low, pre .inv .cur-low)) (ap (λ (z : Scope). z .around) (pre .scope-is)) (λ i h. h)
+      leave-inv fin scs cur sc st A (withArgs r as' A) (pre .inv)
+      (omega (arith, pre .cur-low, pre .inv .cur-low)) (ap (λ (z : Scope). z .around) (pre .scope-is))
       (λ i a h. bindArgs-old i a (boundBy r) as' A h) (λ i a h g. old-not-new i a h (rw (pre .scope-is) at g))
 
   -- what the body depends on, but for the new arguments, was in force before
@@ -196,26 +195,8 @@ module _
   -- ---- a lambda that is made
 
   module _ (f : Fits fin scs (lamMade st cur sc r as' k)) where
-    made-is : symAt fin (symCount st) ≡ record {
-      rec = r;
-      kids = k ∷ [];
-      deps = lamDeps st as' k;
-      scope = placement st cur (lamDeps st as' k);
-      node = func (argsWith r as') sc;
-    }
-    made-is = push-is fin scs cur r (k ∷ []) (lamDeps st as' k) true (func (argsWith r as') sc) st f
-
-    rec-is : recAt fin (symCount st) ≡ r
-    rec-is = ap (λ (z : Sym). z .rec) made-is
-
-    kids-is : symKids fin (symCount st) ≡ k ∷ []
-    kids-is = ap (λ (z : Sym). z .kids) made-is
-
-    deps-is : depsAt fin (symCount st) ≡ lamDeps st as' k
-    deps-is = ap (λ (z : Sym). z .deps) made-is
-
-    node-is : nodeAt fin (symCount st) ≡ func (argsWith r as') sc
-    node-is = ap (λ (z : Sym). z .node) made-is
+    new : PartsAt fin (symCount st) (newSym cur r (k ∷ []) (lamDeps st as' k) (func (argsWith r as') sc) st)
+    new = push-parts fin scs cur r (k ∷ []) (lamDeps st as' k) true (func (argsWith r as') sc) st f
 
     same-body : (j : ℕ) → In j (k ∷ []) → symAt (st .syms) j ≡ symAt fin j
     same-body j h =
@@ -238,24 +219,24 @@ module _
 
         go : In a as' ⊎ (In a as' → ⊥) → In a (depsAt fin (symCount st)) ⊎ In a (symsIn (argsWith r as'))
         go (inl g) = inr (rw new-args g)
-        go (inr g) = inl (rw deps-is (without-keeps a (unionDeps (st .syms) (k ∷ [])) as' all g))
+        go (inr g) = inl (rw (new .deps-is) (without-keeps a (unionDeps (st .syms) (k ∷ [])) as' all g))
 
     deps-outer : (a : ℕ) → In a (lamDeps st as' k) → In a (argSyms A)
     deps-outer a h = let w = deps-body a h in body-outer a (w .0) (w .1)
 
     made-lambda : Lam fin scs (symCount st) (argsWith r as') sc
     made-lambda = record {
-      shape-is = ap (λ (z : Rec). z .shape) rec-is ∙ pre .lambda-is .shape-is;
-      opcode-is = ap (λ (z : Rec). z .opcode) rec-is ∙ pre .lambda-is .opcode-is;
+      shape-is = ap (λ (z : Rec). z .shape) (new .rec-is) ∙ pre .lambda-is .shape-is;
+      opcode-is = ap (λ (z : Rec). z .opcode) (new .rec-is) ∙ pre .lambda-is .opcode-is;
       aux-is =
-          ap (λ (z : Rec). z .aux) rec-is ∙ pre .lambda-is .aux-is
+          ap (λ (z : Rec). z .aux) (new .rec-is) ∙ pre .lambda-is .aux-is
           ∙ sym (withOpts-length (boundBy r) as' (pre .many-args));
-      aux-low = rw rec-is (pre .lambda-is .aux-low);
+      aux-low = rw (new .rec-is) (pre .lambda-is .aux-low);
       body = k;
-      kids-is = kids-is;
+      kids-is = new .kids-is;
       cover = body-deps;
-      from = λ a h. deps-body a (rw deps-is at h) .0;
-      opts-is = new-opts ∙ ap (λ (z : Rec). optsIn (boundBy z)) (sym rec-is);
+      from = λ a h. deps-body a (rw (new .deps-is) at h) .0;
+      opts-is = new-opts ∙ ap (λ (z : Rec). optsIn (boundBy z)) (sym (new .rec-is));
       valid = rw new-opts (pre .lambda-is .valid);
       args-low = λ a h. omega (arith, pre .args-are .low a (rw new-args at h), pre .args-low);
       args-are = λ a h. pre .args-are .nodes a (rw new-args at h);
@@ -269,11 +250,11 @@ module _
 
     made-ok : SymOk fin scs (symCount st)
     made-ok = record {
-      low = λ j h. let e = in-one (rw kids-is at h) in omega (arith, pre .body .low);
+      low = λ j h. let e = in-one (rw (new .kids-is) at h) in omega (arith, pre .body .low);
       deps-low = λ a h.
-          let d = pre .inv .good k (pre .body .low) .deps-low a (deps-body a (rw deps-is at h) .0) in
+          let d = pre .inv .good k (pre .body .low) .deps-low a (deps-body a (rw (new .deps-is) at h) .0) in
           omega (arith, pre .body .low);
-      node-is = rw node-is made-lambda;
+      node-is = rw (new .node-is) made-lambda;
     }
 
     made-rel : LamApart fin scs (scopeCount st) A cur (symCount st) (argsWith r as') sc
@@ -283,7 +264,7 @@ module _
           let l = out-low scs (scopeCount st) (pre .inv .chain) cur sc (left-inv .cur-low) h in
           absurd (omega (arith, pre .cur-low));
       apart = λ i a h g. old-not-new i a h (rw new-args at g);
-      ids-apart = λ i a j h lj la li. pre .ids i a h (rw rec-is at li);
+      ids-apart = λ i a j h lj la li. pre .ids i a h (rw (new .rec-is) at li);
     }
 
     made-inv : Inv fin scs (lamMade st cur sc r as' k) A cur
@@ -301,14 +282,14 @@ module _
     made-result : Result fin (symCount (lamMade st cur sc r as' k)) A (symCount st)
     made-result = record {
       low = push-more cur r (k ∷ []) (lamDeps st as' k) true (func (argsWith r as') sc) st;
-      within = λ a h. deps-outer a (rw deps-is at h);
+      within = λ a h. deps-outer a (rw (new .deps-is) at h);
     }
 
     made-mean : LamMean fin r as' k (symCount st)
     made-mean ρ d =
-        mean-lam fin scs (symCount st) (argsWith r as') sc made-ok node-is ρ d
-        ∙ lamOf-same rec-is new-opts
-        (ap (λ (z : List ℕ). meanAll (mean fin) z (bindSyms (suc d) 0 (argsWith r as') ρ) (suc d)) kids-is)
+        mean-lam fin scs (symCount st) (argsWith r as') sc made-ok (new .node-is) ρ d
+        ∙ lamOf-same (new .rec-is) new-opts
+        (ap (λ (z : List ℕ). meanAll (mean fin) z (bindSyms (suc d) 0 (argsWith r as') ρ) (suc d)) (new .kids-is))
 
 -- ---- found or made
 
@@ -320,34 +301,19 @@ pub record LamDone (st st' : State) (A : Args) (cur sc : ℕ) (r : Rec) (as' : L
 
 pub finish-lambda : (at cur sc : ℕ) (r : Rec) (k : ℕ) (as' : List ℕ) (st : State) (A : Args) →
     Holds (λ o. LamDone st (o .1) A cur sc r as' k (o .0)) (finish at cur r (k ∷ []) as' (func (argsWith r as') sc) st)
-unfolding finish alloc
-finish-lambda at cur sc r k as' st A = go (lookup (st .syms) r (k ∷ []) (st .tables)) refl
-  where
-    P : ℕ × State → Type 0
-    P o = LamDone st (o .1) A cur sc r as' k (o .0)
-
-    found : (i : ℕ) → lookup (st .syms) r (k ∷ []) (st .tables) ≡ some i → P (i, st)
-    found i e = record {
+finish-lambda at cur sc r k as' st A =
+    finish-cases (λ o. LamDone st (o .1) A cur sc r as' k (o .0)) at cur r (k ∷ []) as' (func (argsWith r as') sc) st
+    (λ i e. record {
       grows = grow-none st;
       keeps = λ fin scs f pre.
-          let w = lookup-found (st .syms) r (k ∷ []) (st .tables) i e in
-          let low = pre .inv .tables-ok i (w .0) .0 in
-          let key = isKey-true (st .syms) r (k ∷ []) i (w .1) in
-          let re = ap (λ (z : Sym). z .rec) (sym (f .syms-fit i low)) ∙ key .0 in
-          let ke = ap (λ (z : Sym). z .kids) (sym (f .syms-fit i low)) ∙ key .1 in
-          let v = found-func pre i low re (pre .inv .tables-ok i (w .0) .1) in
-          (left-inv pre, found-result pre low (v .2) re ke, found-mean pre low (v .2) re ke);
-    }
-
-    new : P (symCount st, lamMade st cur sc r as' k)
-    new = record {
+          let key = found-key f (pre .inv) e in
+          let v = found-func pre i (key .low) (key .rec-is) (key .made-is) in (
+            left-inv pre,
+            found-result pre (key .low) (v .2) (key .rec-is) (key .kids-is),
+            found-mean pre (key .low) (v .2) (key .rec-is) (key .kids-is),
+          );
+    })
+    (λ e l. record {
       grows = push-grows cur r (k ∷ []) (lamDeps st as' k) true (func (argsWith r as') sc) st;
       keeps = λ fin scs f pre. (made-inv pre f, made-result pre f, made-mean pre f);
-    }
-
-    go : (o : Option ℕ) → lookup (st .syms) r (k ∷ []) (st .tables) ≡ o → Holds P (elim o [
-      | some i ↦ good (i, st)
-      | none ↦ alloc at cur r (k ∷ []) (lamDeps st as' k) true (func (argsWith r as') sc) st
-    ])
-    go (some i) e = found i e
-    go none e = holds-guard P (ltb (symCount st) 512) 12 at _ λ l. new
+    })

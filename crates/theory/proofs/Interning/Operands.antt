@@ -9,29 +9,26 @@ use mathlib.Core.Logic.{inl, inr}
 use mathlib.Core.Bool.{Bool, true, false, not, _&&_}
 use mathlib.Core.Option.{none}
 use mathlib.Core.List.{List, [], _∷_, _++_}
-use Prim.Native.Nat.{ℕ, suc, _≤_, _<_}
+use Prim.Native.Nat.{ℕ, suc, _≤_}
 use native.Mathlib.Omega.{arith}
-use lib.Dec.{eqb}
 use lib.ListN.{length, getD}
-use borrow.Author.Tests.{eq-eqb}
 use Rattle.model.specs.Lists.{last}
 use Rattle.model.specs.Tree.{Tree, Trees, node, nil, cons, many, isNil, top}
 use Rattle.model.specs.Binding.{isDef, idOf, after}
 use Rattle.model.specs.Unfold.{more, unfoldAt, unfoldItem, unfoldLast}
-use Rattle.model.specs.Intern.{Sym, Scope, State, Env, Out, resolve, openThunk, closeThunk, dropFirst, thunked, branch}
+use Rattle.model.specs.Intern.{Sym, Scope, State, Env, Out, openThunk, closeThunk, dropFirst, thunked, branch}
 use Rattle.model.specs.Intern.{rootScope, bindDef, internScoped}
 use Rattle.laws.proofs.Holds.{Holds, holds-bind, holds-map}
-use Rattle.laws.specs.Members.{In}
 use Rattle.laws.proofs.Members.{clash}
 use Rattle.theory.proofs.Meaning.Mean.{meanAll}
 use Rattle.theory.specs.Checked.{Checked, CheckedIn}
 use Rattle.theory.proofs.Acceptance.Checked.{checked-head, checked-place}
-use Rattle.theory.specs.Good.{PairOk, PairsOk, out, depsAt, scopeCount, symCount}
-use Rattle.theory.specs.Inv.{Args, argSyms, keys, Inv, EnvOk, Fits, Grow}
-use Rattle.theory.proofs.Interning.Inv.{any-opened, any-closed, env-later, grow-same}
+use Rattle.theory.specs.Good.{PairOk, PairsOk, out, scopeCount, symCount}
+use Rattle.theory.specs.Inv.{Args, keys, Inv, EnvOk, Fits, Grow}
+use Rattle.theory.proofs.Interning.Inv.{any-opened, any-closed, env-later, grow-same, inv-same}
 use Rattle.theory.proofs.Interning.Inv.{fits-back, grow-none, grow-then}
 use Rattle.theory.proofs.Interning.Finish.{Result, Results, Step, step-gives, step-then, result-later}
-use Rattle.theory.proofs.Interning.Fresh.{sem-one}
+use Rattle.theory.proofs.Interning.Fresh.{env-add, sem-one}
 use Rattle.theory.proofs.Interning.Scopes.{open-grows, open-is, open-inv, leave-inv, pair-of}
 use Rattle.theory.proofs.Interning.Keep.{Symbols, Unfolding, Means, EachMeans, StandsFor, AllStand, InForce, KeepsMeaning}
 use Rattle.theory.proofs.Interning.Keep.{KeepsMeanings}
@@ -56,8 +53,9 @@ module _ (cur : ℕ) (st : State) (A : Args) where
       Inv fin scs st A cur → scopeCount st ≤ scopeCount s → Inv fin scs s A (scopeCount st) →
       Inv fin scs (closeThunk s) A cur
   thunk-closes fin scs s f inv l h =
-      leave-inv fin scs cur (scopeCount st) s (dropFirst (s .tables)) A A h (omega (arith, inv .cur-low))
-      (ap (λ (z : Scope). z .around) is) (λ i h. any-closed i (s .tables) h) (λ i a h. h) (λ i a h g. rw is at g)
+      inv-same (dropFirst (s .tables)) (s .memo) (s .readings) (λ i h. any-closed i (s .tables) h) (h .memo-ok)
+      (leave-inv fin scs cur (scopeCount st) s A A h (omega (arith, inv .cur-low)) (ap (λ (z : Scope). z .around) is)
+      (λ i a h. h) (λ i a h g. rw is at g))
     where
       is : getD scs (scopeCount st) rootScope ≡ record { around = out scs cur; args = none }
       is = open-is fin scs cur none ([] ∷ st .tables) st (inv .cur-low) f
@@ -114,25 +112,7 @@ bindDef-keys t s env = go (isDef t)
 -- an id bound to a symbol that depends on arguments in force only
 env-more : {fin : List Sym} {n : ℕ} {env : Env} {A : Args} (i : ℕ) {s : ℕ} → Result fin n A s → EnvOk fin n env A →
     EnvOk fin n ((i, s) ∷ env) A
-unfolding resolve
-env-more {fin} {n} {env} {A} i {s} res h = record {
-  low = λ j k. low j (eqb i j) refl k;
-  deps-in = λ j a k d. deps j a (eqb i j) refl k d;
-  ids = λ j a k. inr (h .ids j a k);
-}
-  where
-    rest : (j : ℕ) → eqb i j ≡ false → In j (i ∷ keys env) → In j (keys env)
-    rest j f (inl p) = absurd (clash (eqb i j) (eq-eqb i j (sym p)) f)
-    rest j f (inr k) = k
-
-    low : (j : ℕ) (b : Bool) → eqb i j ≡ b → In j (i ∷ keys env) → elim b [ true ↦ s | false ↦ resolve env j ] < n
-    low j true f k = res .low
-    low j false f k = h .low j (rest j f k)
-
-    deps : (j a : ℕ) (b : Bool) → eqb i j ≡ b → In j (i ∷ keys env) →
-        In a (depsAt fin (elim b [ true ↦ s | false ↦ resolve env j ])) → In a (argSyms A)
-    deps j a true f k d = res .within a d
-    deps j a false f k d = h .deps-in j a (rest j f k) d
+env-more i res h = env-add i res (λ a k. k) (λ j a k. inr (h .ids j a k)) h
 
 pub bindDef-env : {fin : List Sym} {n : ℕ} {env : Env} {A : Args} (t : Tree) {s : ℕ} →
     Result fin n A s → EnvOk fin n env A → EnvOk fin n (bindDef t s env) A

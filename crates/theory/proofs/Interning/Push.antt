@@ -8,7 +8,7 @@ use mathlib.Core.Path.{_≡_, refl, ap, sym, _∙_}
 use mathlib.Core.Logic.{_⊎_, inl, inr}
 use mathlib.Core.Bool.{Bool, true, false}
 use mathlib.Core.List.{List, [], _∷_, _++_}
-use Prim.Native.Nat.{ℕ, suc, _≤_, _<_}
+use Prim.Native.Nat.{ℕ, suc, _<_}
 use native.Mathlib.Omega.{arith}
 use lib.ListN.{length, length-append, List·getD-append}
 use lib.Seq.{getD-append-seam}
@@ -19,7 +19,7 @@ use Rattle.laws.proofs.Members.{union-left, union-right, union-cases}
 use Rattle.laws.specs.ArgLists.{ArgList}
 use Rattle.theory.specs.Good.{recAt, symKids, depsAt, scopeAt, nodeAt, symCount, scopeCount, noArg, argsAt, out, SymOk}
 use Rattle.theory.specs.Inv.{Args, argSyms, InAny, FieldOk, LamApart, Inv, Fits, Grow}
-use Rattle.theory.proofs.Interning.Inv.{has-arg, lt-or}
+use Rattle.theory.proofs.Interning.Inv.{has-arg, lt-or, key-later}
 use Rattle.theory.proofs.Interning.Inv.{out-low, climb-stays, climb-same}
 
 -- ---- the state with one more symbol
@@ -79,19 +79,11 @@ push-parts fin scs cur r ks deps b nd st f = record {
 
 -- ---- the invariant
 
-enter-cases : (i n : ℕ) (ts : List (List ℕ)) → InAny i (enter n ts) → (i ≡ n) ⊎ InAny i ts
+pub enter-cases : (i n : ℕ) (ts : List (List ℕ)) → InAny i (enter n ts) → (i ≡ n) ⊎ InAny i ts
 enter-cases i n [] h = absurd h
 enter-cases i n (t ∷ ts) (inl (inl e)) = inl e
 enter-cases i n (t ∷ ts) (inl (inr h)) = inr (inl h)
 enter-cases i n (t ∷ ts) (inr h) = inr (inr h)
-
-field-later : (fin : List Sym) (n m p j a : ℕ) → n ≤ m → FieldOk fin n p j a → FieldOk fin m p j a
-field-later fin n m p j a l h = record {
-  low = omega arith;
-  rec-is = h .rec-is;
-  kids-is = h .kids-is;
-  made-is = h .made-is;
-}
 
 -- the symbol is good; if it is a lambda, it goes with what is in force; if it is shared, it is no argument; and if it
 -- is no argument, it depends on arguments in force only
@@ -132,7 +124,7 @@ push-inv fin scs A cur r ks deps b nd st f h ok lam shared within = record {
     old-or-new i l = lt-or i n (omega (arith, count))
 
     later : (p j a : ℕ) → FieldOk fin n p j a → FieldOk fin (symCount next) p j a
-    later p j a k = field-later fin n (symCount next) p j a (omega (arith, count)) k
+    later p j a k = key-later (symCount next) (omega (arith, count)) k
 
     old : (i : ℕ) → InAny i (st .tables) → (i < symCount next) × (noArg (nodeAt fin i) ≡ true)
     old i k = (omega (arith, h .tables-ok i k .0, count), h .tables-ok i k .1)

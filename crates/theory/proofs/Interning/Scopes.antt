@@ -150,28 +150,17 @@ open-inv fin scs cur o ts st A B n f h tables new olds args-old split = record {
 
 -- ---- the invariant outside again
 
-abbrev withTables : List (List ℕ) → State → State
-withTables ts st = record {
-  syms = st .syms;
-  tables = ts;
-  scopes = st .scopes;
-  memo = st .memo;
-  readings = st .readings;
-}
-
--- what is in force outside was in force inside, and is no argument of the scope that is left; the tables hold no more
--- than before
-pub leave-inv : (fin : List Sym) (scs : List Scope) (cur sc : ℕ) (st : State) (ts : List (List ℕ)) (A B : Args) →
+-- what is in force outside was in force inside, and is no argument of the scope that is left
+pub leave-inv : (fin : List Sym) (scs : List Scope) (cur sc : ℕ) (st : State) (A B : Args) →
     Inv fin scs st B sc → cur < scopeCount st → aroundAt scs sc ≡ out scs cur →
-    ((i : ℕ) → InAny i ts → InAny i (st .tables)) →
     ((i a : ℕ) → HasArg i a A → HasArg i a B) →
     ((i a : ℕ) → HasArg i a A → In a (argsAt scs sc) → ⊥) →
-    Inv fin scs (withTables ts st) A cur
-leave-inv fin scs cur sc st ts A B h l e tables more apart = record {
+    Inv fin scs st A cur
+leave-inv fin scs cur sc st A B h l e more apart = record {
   good = h .good;
   cur-low = l;
   chain = h .chain;
-  tables-ok = λ i k. h .tables-ok i (tables i k);
+  tables-ok = h .tables-ok;
   memo-ok = h .memo-ok;
   args-low = h .args-low;
   arg-low = λ i a k. h .arg-low i a (more i a k);

@@ -29,7 +29,7 @@ use Rattle.theory.proofs.Acceptance.Records.{kind-shape, fits-at, def-c
 use Rattle.theory.proofs.Acceptance.Records.{lam-rec}
 use Rattle.theory.specs.Good.{isPlain}
 use Rattle.theory.specs.Inv.{Args, keys, Inv}
-use Rattle.theory.proofs.Interning.Inv.{grow-none, grow-then, grow-same}
+use Rattle.theory.proofs.Interning.Inv.{grow-none, grow-then, grow-same, inv-same}
 use Rattle.theory.proofs.Interning.Keep.{Unfolding, KeepsMeaning, KeepsMeanings, KidsKeep, PlainRec, madeOf, internLast-keeps}
 use Rattle.theory.proofs.Interning.Keep.{internGeneral-keeps}
 use Rattle.theory.proofs.Interning.Fields.{internField-keeps}
@@ -148,18 +148,7 @@ module _
 -- a reading counts, and changes no more
 pub read-inv : {st : State} {A : Args} {cur : ℕ} {fin : List Sym} {scs : List Scope} → Inv fin scs st A cur →
     Inv fin scs (read st) A cur
-read-inv inv = record {
-  good = inv .good;
-  cur-low = inv .cur-low;
-  chain = inv .chain;
-  tables-ok = inv .tables-ok;
-  memo-ok = inv .memo-ok;
-  args-low = inv .args-low;
-  arg-low = inv .arg-low;
-  lam-ok = inv .lam-ok;
-  arg-scope = inv .arg-scope;
-  place-ok = inv .place-ok;
-}
+read-inv {st} inv = inv-same (st .tables) (st .memo) (suc (st .readings)) (λ i k. k) (inv .memo-ok) inv
 
 read-kept : {st : State} {A : Args} {cur : ℕ} {env : Env} {u : Unfolding} {o : ℕ × State} →
     KeepsMeaning (read st) A cur env u o → KeepsMeaning st A cur env u o

@@ -8,24 +8,22 @@ use mathlib.Core.Option.{Option, none, some}
 use mathlib.Core.List.{List, [], _∷_, _++_}
 use Prim.Native.Nat.{ℕ, suc, _≤_, _<_}
 use native.Mathlib.Omega.{arith}
-use lib.Dec.{ltb}
 use lib.ListN.{length, List·getD-append}
 use lib.Seq.{getD-append-seam}
 use borrow.Author.Tests.{eq-eqb}
 use Rattle.model.specs.Lists.{same, without}
-use Rattle.model.specs.Answer.{good}
 use Rattle.model.specs.Tree.{Rec, sameRec}
-use Rattle.model.specs.Intern.{Node, Sym, State, Out, symAt, noSym, isKey, lookupIn, lookup, unionDeps, enter, push}
-use Rattle.model.specs.Intern.{alloc, finish}
+use Rattle.model.specs.Intern.{Node, Sym, State, symAt, noSym, isKey, lookupIn, lookup, unionDeps, enter, push}
+use Rattle.model.specs.Intern.{finish}
 use Rattle.laws.proofs.Apart.{none-some}
-use Rattle.laws.proofs.Holds.{Holds, holds-guard}
+use Rattle.laws.proofs.Holds.{Holds}
 use Rattle.laws.specs.Members.{In}
 use Rattle.laws.proofs.Members.{both-and, same-refl}
 use Rattle.theory.specs.Good.{symCount}
 use Rattle.theory.proofs.Bounds.Steps.{enter-low, enter-length}
 use Rattle.theory.specs.Inv.{InAny}
 use Rattle.theory.proofs.Interning.Push.{newSym, one-more}
-use Rattle.theory.proofs.Interning.Finish.{lookup-found, isKey-true}
+use Rattle.theory.proofs.Interning.Finish.{lookup-found, isKey-true, finish-cases}
 use Rattle.theory.proofs.Interning.Reread.Later.{Tabled, Later, later-none, Calm, calm-still}
 
 -- ---- among more symbols
@@ -157,14 +155,9 @@ push-found cur r ks deps nd s e = record {
 
 pub finish-found : (at cur : ℕ) (r : Rec) (ks own : List ℕ) (nd : Node) (s : State) →
     Holds (Found s r ks) (finish at cur r ks own nd s)
-unfolding finish alloc
-finish-found at cur r ks own nd s = go (lookup (s .syms) r ks (s .tables)) refl
-  where
-    go : (f : Option ℕ) → lookup (s .syms) r ks (s .tables) ≡ f → Holds (Found s r ks) (elim f as (λ z. Out) [
-      | some i ↦ good (i, s)
-      | none ↦ alloc at cur r ks (without (unionDeps (s .syms) ks) own) true nd s
-    ])
-    go (some i) e = record {
+finish-found at cur r ks own nd s =
+    finish-cases (Found s r ks) at cur r ks own nd s
+    (λ i e. record {
       scopes-are = refl;
       readings-are = refl;
       memo-is = refl;
@@ -172,10 +165,8 @@ finish-found at cur r ks own nd s = go (lookup (s .syms) r ks (s .tables)) refl
       tabled = λ h. h;
       later = λ h. later-none s;
       found = λ h. e;
-    }
-    go none e =
-        holds-guard (Found s r ks) (ltb (symCount s) 512) 12 at _ λ l.
-        push-found cur r ks (without (unionDeps (s .syms) ks) own) nd s e
+    })
+    (λ e l. push-found cur r ks (without (unionDeps (s .syms) ks) own) nd s e)
 
 module _ (s : State) (r : Rec) (ks : List ℕ) (o : ℕ × State) (h : Tabled s) (w : Found s r ks o) where
   pub found-low : o .0 < symCount (o .1)

@@ -16,7 +16,7 @@ use Rattle.model.specs.Intern.{operation, Sym, State, Out, symAt, recall, remem
 use Rattle.model.specs.Intern.{pairProjection}
 use Rattle.laws.proofs.Apart.{none-some}
 use Rattle.laws.proofs.Holds.{Holds, holds-bind}
-use Rattle.theory.proofs.Bounds.Steps.{pick-low}
+use Rattle.theory.proofs.Bounds.Steps.{pick-low, recall-low}
 use Rattle.theory.specs.Good.{symCount}
 use Rattle.theory.proofs.Interning.Finish.{lookup-found, isKey-true}
 use Rattle.theory.proofs.Interning.Reread.Later.{Tabled, Low, Later, later-none, later-then, Calm, calm-still}
@@ -34,21 +34,11 @@ module _ (p a b : ℕ) (s : State) where
   remember-own = ap (λ (t : Bool). first t (a, b) (recall (s .memo) p)) (eq-eqb p p refl)
 
   remember-tabled : Tabled s → a < symCount s → b < symCount s → Tabled (remember p a b s)
-  unfolding recall
   remember-tabled h la lb = record {
     some-table = h .some-table;
     entries-low = h .entries-low;
-    memo-low = λ q x y e. go q x y (eqb p q) e;
+    memo-low = recall-low p a b s (symCount s) la lb (h .memo-low);
   }
-    where
-      go : (q x y : ℕ) (t : Bool) → first t (a, b) (recall (s .memo) q) ≡ some (x, y) →
-          (x < symCount s) × (y < symCount s)
-      go q x y true e =
-          let z : _≡_ {A = ℕ × ℕ} (a, b) (x, y) = cc in
-          let ax : a ≡ x = ap (λ (v : ℕ × ℕ). v .0) z in
-          let by : b ≡ y = ap (λ (v : ℕ × ℕ). v .1) z in
-          (omega arith, omega arith)
-      go q x y false e = h .memo-low q x y e
 
   -- nothing was remembered of the symbol before
   remember-later : recall (s .memo) p ≡ none → Later s (remember p a b s)
