@@ -17,7 +17,7 @@ use Rattle.model.specs.Schedule.{schedule}
 use Rattle.laws.proofs.Induction.{strong}
 use Rattle.laws.proofs.Down.{down-step}
 use Rattle.laws.specs.Members.{Under}
-use Rattle.laws.proofs.Walks.{under-holds, every-none, every-if, every-rel, visit-every, body-every}
+use Rattle.laws.proofs.Walks.{under-holds, if-holds, every-none, every-rel, visit-every, body-every}
 use Rattle.laws.proofs.Walks.{collect-every, order-every}
 
 -- ---- lists of lower numbers
@@ -72,7 +72,7 @@ module _ (g : Graph) (kids-low : (s : ℕ) → Under s (symOf g s .kids)) where
   pub neighbours-fall : (sc : ℕ) → Falls (neighbours g sc)
   unfolding neighbours
   neighbours-fall sc s =
-      every-if (λ x. x < s) (isArg (symOf g s .node)) [] _ (every-none (λ x. x < s))
+      if-holds (Under s) (isArg (symOf g s .node)) [] _ (every-none (λ x. x < s))
       (every-rel (λ x. x < s) (relOf g s sc) (symOf g s .kids) (freeVars g s) (kids-low s) (free-falls s))
 
   pub schedule-low : (root sc : ℕ) → Under (suc root) (schedule g root sc)

@@ -16,6 +16,7 @@ use Rattle.model.specs.Intern.{Sym, symAt}
 use Rattle.model.specs.Gate.{reach}
 use Rattle.laws.specs.Members.{In, Once}
 use Rattle.laws.proofs.Members.{isIn-false, in-either}
+use Rattle.laws.proofs.Walks.{if-holds}
 
 pub snoc-once : (xs : List ℕ) (y : ℕ) → Once xs → (In y xs → ⊥) → Once (xs ++ (y ∷ []))
 snoc-once [] y h new = (λ i. i, tt)
@@ -43,13 +44,8 @@ pub reach-once : (ss : List Sym) (n : ℕ) (seen : List ℕ) → Once seen → O
 unfolding reach
 reach-once ss zero seen h = h
 reach-once ss (suc n) seen h =
-    go (isIn n seen) (reach-once ss n (union seen (symAt ss n .kids)) (union-once seen (symAt ss n .kids) h))
-    (reach-once ss n seen h)
-  where
-    go : (b : Bool) → Once (reach ss n (union seen (symAt ss n .kids))) → Once (reach ss n seen) →
-        Once (elim b [ true ↦ reach ss n (union seen (symAt ss n .kids)) | false ↦ reach ss n seen ])
-    go true a c = a
-    go false a c = c
+    if-holds Once (isIn n seen) _ _
+    (reach-once ss n (union seen (symAt ss n .kids)) (union-once seen (symAt ss n .kids) h)) (reach-once ss n seen h)
 
 pub count-short : (n : ℕ) (xs : List ℕ) → count n xs ≤ length xs
 unfolding count

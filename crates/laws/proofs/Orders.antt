@@ -23,6 +23,7 @@ use Rattle.laws.proofs.Induction.{strong}
 use Rattle.laws.proofs.Down.{under-low, under-same, down-step}
 use Rattle.laws.specs.Members.{In, Every, Under}
 use Rattle.laws.proofs.Members.{not-in-isIn, isIn-false}
+use Rattle.laws.proofs.Walks.{eqB, operands-cons}
 use Rattle.laws.proofs.Falls.{or-below, visit-low, body-falls, free-falls}
 
 -- ---- a step for each of a list
@@ -167,22 +168,15 @@ pub operands-last : (b : Bool) (op j : ℕ) (ks : List ℕ) (k : ℕ) →
 unfolding operands
 operands-last true op j [] k = let e : j + 0 ≡ j = omega arith in rw e
 operands-last false op j [] k = let e : j + 0 ≡ j = omega arith in rw e
-operands-last true op j (x ∷ ks) k =
+operands-last b op j (x ∷ ks) k =
     let e : j + suc (length ks) ≡ suc j + length ks = omega arith in
-    rw e (go (thunked op j) _ _ _ (operands-last true op (suc j) ks k))
+    rw (e, operands-cons b op j x (ks ++ (k ∷ [])), operands-cons b op j x ks)
+    (go (eqB b (thunked op j)) _ _ _ (operands-last b op (suc j) ks k))
   where
     go : (t : Bool) (xs ys zs : List ℕ) → xs ≡ ys ++ zs →
         _≡_ {A = List ℕ} (elim t [ true ↦ x ∷ xs | false ↦ xs ]) (elim t [ true ↦ x ∷ ys | false ↦ ys ] ++ zs)
     go true xs ys zs e = ap (λ (l : List ℕ). x ∷ l) e
     go false xs ys zs e = e
-operands-last false op j (x ∷ ks) k =
-    let e : j + suc (length ks) ≡ suc j + length ks = omega arith in
-    rw e (go (thunked op j) _ _ _ (operands-last false op (suc j) ks k))
-  where
-    go : (t : Bool) (xs ys zs : List ℕ) → xs ≡ ys ++ zs →
-        _≡_ {A = List ℕ} (elim t [ true ↦ xs | false ↦ x ∷ xs ]) (elim t [ true ↦ ys | false ↦ x ∷ ys ] ++ zs)
-    go true xs ys zs e = e
-    go false xs ys zs e = ap (λ (l : List ℕ). x ∷ l) e
 
 -- ---- free lists
 

@@ -1,6 +1,6 @@
 -- What every member of a walk has: a property that neighbours keep holds of all that is visited, and of free lists.
 --
--- In order: `under`; lists put together; a visit (`visit-every`); the parts of a free list (`body-every`,
+-- In order: one of two; `under`; operands; lists put together; a visit (`visit-every`); the parts of a free list (`body-every`,
 -- `collect-every`, `order-every`). That schedules hold what is reached, and that they fall, are such properties.
 -- Assumes nothing.
 use mathlib.Core.Path.{_≡_, refl, sym, subst}
@@ -21,6 +21,11 @@ use Rattle.laws.proofs.Down.{down-step}
 use Rattle.laws.specs.Members.{In, Every}
 use Rattle.laws.proofs.Members.{in-either, add-cases}
 
+-- what holds of both holds of either
+pub if-holds : {A : Type 0} (P : A → Type 0) (b : Bool) (x y : A) → P x → P y → P (elim b [ true ↦ x | false ↦ y ])
+if-holds P true x y h k = h
+if-holds P false x y h k = k
+
 -- what holds of f below n, and of z, holds of `under`
 pub under-holds : {A : Type 0} (Q : A → Type 0) (z : A) (n : ℕ) (f : ℕ → A) (d : ℕ) →
     (d < n → Q (f d)) → Q z → Q (under z n f d)
@@ -31,11 +36,30 @@ under-holds Q z n f d h k = go (ltb d n) refl
     go true e = h (ltb-true d n e)
     go false e = k
 
+-- whether operand j is among those that are thunks, or that are not
+abbrev pub eqB : Bool → Bool → Bool
+eqB true t = t
+eqB false t = not t
+
+pub operands-cons : (b : Bool) (op j k : ℕ) (ks : List ℕ) → operands b op j (k ∷ ks) ≡ elim (eqB b (thunked op j)) [
+  | true ↦ k ∷ operands b op (suc j) ks
+  | false ↦ operands b op (suc j) ks
+]
+unfolding operands
+operands-cons true op j k ks = refl
+operands-cons false op j k ks = go (thunked op j)
+  where
+    go : (t : Bool) →
+        _≡_ {A = List ℕ} (elim t [ true ↦ operands false op (suc j) ks | false ↦ k ∷ operands false op (suc j) ks ])
+        (elim (not t) [ true ↦ k ∷ operands false op (suc j) ks | false ↦ operands false op (suc j) ks ])
+    go true = refl
+    go false = refl
+
 module _ (P : ℕ → Type 0) where
   pub every-none : Every P []
   every-none s m = absurd m
 
-  every-cons : (x : ℕ) (xs : List ℕ) → P x → Every P xs → Every P (x ∷ xs)
+  pub every-cons : (x : ℕ) (xs : List ℕ) → P x → Every P xs → Every P (x ∷ xs)
   every-cons x xs p h s (inl e) = subst P (sym e) p
   every-cons x xs p h s (inr m) = h s m
 
@@ -51,10 +75,6 @@ module _ (P : ℕ → Type 0) where
       go : In s xs ⊎ In s ys → P s
       go (inl m) = h s m
       go (inr m) = k s m
-
-  pub every-if : (b : Bool) (xs ys : List ℕ) → Every P xs → Every P ys → Every P (elim b [ true ↦ xs | false ↦ ys ])
-  every-if true xs ys h k = h
-  every-if false xs ys h k = k
 
   pub every-rel : (r : Rel) (xs ys : List ℕ) → Every P xs → Every P ys →
       Every P (elim r [ local ↦ xs | deeper ↦ ys | outside ↦ [] ])
@@ -82,7 +102,7 @@ module _ (P : ℕ → Type 0) where
   unfolding visit visitStep
   visit-every nb h = strong (λ s. P s → (o : List ℕ) → Every P o → Every P (visit nb s o)) λ s ih p o k.
       subst (λ (f : List ℕ → List ℕ). Every P (f o)) (sym (down-step (λ o. o) (visitStep nb) s))
-      (every-if (isIn s o) o _ k
+      (if-holds (Every P) (isIn s o) o _ k
       (every-join (each (under (λ o. o) s (visit nb)) (nb s) o) (s ∷ [])
       (each-every (under (λ o. o) s (visit nb)) (lower s ih) (nb s) o (h s p) k)
       (every-cons s [] p every-none)))
@@ -100,14 +120,14 @@ module _ (P : ℕ → Type 0) where
     body-every [] h = h
     body-every (d ∷ ds) h =
         let rest = body-every ds (every-tail d ds h) in
-        every-if (isArg (symOf g d .node) || isOutside (relOf g d cs)) (bodyOnly g cs ds) (d ∷ bodyOnly g cs ds) rest
-        (every-cons d (bodyOnly g cs ds) (every-head d ds h) rest)
+        if-holds (Every P) (isArg (symOf g d .node) || isOutside (relOf g d cs)) (bodyOnly g cs ds)
+        (d ∷ bodyOnly g cs ds) rest (every-cons d (bodyOnly g cs ds) (every-head d ds h) rest)
 
     outsiders-every : (ds o : List ℕ) → Every P ds → Every P o → Every P (outsiders g cs ds o)
     unfolding outsiders
     outsiders-every [] o h k = k
     outsiders-every (d ∷ ds) o h k =
-        every-if (not (isArg (symOf g d .node)) && isOutside (relOf g d cs))
+        if-holds (Every P) (not (isArg (symOf g d .node)) && isOutside (relOf g d cs))
         (outsiders g cs ds (add o d)) (outsiders g cs ds o)
         (outsiders-every ds (add o d) (every-tail d ds h) (add-every o d k (every-head d ds h)))
         (outsiders-every ds o (every-tail d ds h) k)
@@ -126,14 +146,11 @@ module _ (P : ℕ → Type 0) where
   unfolding operands
   operands-every true op j [] h = h
   operands-every false op j [] h = h
-  operands-every true op j (k ∷ ks) h =
-      let others = operands true op (suc j) ks in
-      let rest = operands-every true op (suc j) ks (every-tail k ks h) in
-      every-if (thunked op j) (k ∷ others) others (every-cons k others (every-head k ks h) rest) rest
-  operands-every false op j (k ∷ ks) h =
-      let others = operands false op (suc j) ks in
-      let rest = operands-every false op (suc j) ks (every-tail k ks h) in
-      every-if (thunked op j) others (k ∷ others) rest (every-cons k others (every-head k ks h) rest)
+  operands-every b op j (k ∷ ks) h =
+      let others = operands b op (suc j) ks in
+      let rest = operands-every b op (suc j) ks (every-tail k ks h) in
+      rw (operands-cons b op j k ks)
+      (if-holds (Every P) (eqB b (thunked op j)) (k ∷ others) others (every-cons k others (every-head k ks h) rest) rest)
 
   pub order-every : (y : Sym) → Every P (y .kids) → Every P (localDepOrder y)
   unfolding localDepOrder

@@ -11,7 +11,7 @@ use Rattle.model.specs.Gate.{Graph, symOf}
 use Rattle.model.specs.Schedule.{isArg, Rel, local, deeper, outside, isOutside, relOf, each, visit, bodyOnly}
 use Rattle.model.specs.Schedule.{bodyNeighbours, freeVars, neighbours}
 use Rattle.laws.specs.Members.{In, Under}
-use Rattle.laws.proofs.Walks.{every-none, every-if, every-rel}
+use Rattle.laws.proofs.Walks.{if-holds, every-none, every-rel}
 use Rattle.laws.proofs.Falls.{body-falls, free-falls, neighbours-fall}
 use Rattle.laws.proofs.Short.{visit-adds}
 use Rattle.laws.proofs.Orders.{each-same, unless, each-body, visited, visit-opens, Adds, each-fresh, own-local}
@@ -56,7 +56,7 @@ module _ (g : Graph) (kids-low : (s : ℕ) → Under s (symOf g s .kids)) (cs : 
   pub near-low : (b : Bool) (s : ℕ) → Under s (nearOf g b cs s)
   unfolding nearOf
   near-low b s =
-      every-if (λ x. x < s) (stops g b s) [] _ (every-none (λ x. x < s))
+      if-holds (Under s) (stops g b s) [] _ (every-none (λ x. x < s))
       (every-rel (λ x. x < s) (relOf g s cs) (symOf g s .kids) (freeVars g s) (kids-low s) (free-falls g kids-low s))
 
 -- ---- steps and visits

@@ -17,7 +17,7 @@ use Rattle.model.specs.Schedule.{neighbours, schedule}
 use Rattle.laws.proofs.Induction.{strong}
 use Rattle.laws.proofs.Down.{down-step}
 use Rattle.laws.specs.Members.{In, Every}
-use Rattle.laws.proofs.Walks.{under-holds, every-none, every-if, every-rel, visit-every, body-every, collect-every}
+use Rattle.laws.proofs.Walks.{if-holds, under-holds, every-none, every-rel, visit-every, body-every, collect-every}
 use Rattle.laws.proofs.Walks.{order-every}
 use Rattle.laws.specs.ArgLists.{ArgList, symsIn}
 use Rattle.theory.specs.Good.{NodeOk, Goods, depsAt, symKids, nodeAt}
@@ -76,7 +76,7 @@ module _ (g : Graph) where
     where
       near : (s : ℕ) → Reached r s → Every (Reached r) (neighbours g sc s)
       near s p =
-          every-if (Reached r) (isArg (symOf g s .node)) [] _ (every-none (Reached r))
+          if-holds (Every (Reached r)) (isArg (symOf g s .node)) [] _ (every-none (Reached r))
           (every-rel (Reached r) (relOf g s sc) (symOf g s .kids) (freeVars g s) (kids-below r s p)
           (λ t m. below-then (g .syms) r s t p (freeVars-below s t m)))
 
