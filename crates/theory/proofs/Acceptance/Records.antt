@@ -1,8 +1,8 @@
--- What checks 4 and 5 say of one record, by its kind: how many children it has, its opcode, its literal.
+-- What checks 4, 5 and 10 say of one record, by its kind: how many children it has, its opcode, its literal.
 --
 -- In order: the shape of a kind (`kind-shape`); check 4 in its parts (`fits-at`) and the children it asks for; check
 -- 5, where an opcode and a shape go only together; a field's record, known but for its number (`field-rec`); a
--- lambda's record, whose opts read back (`lam-rec`).
+-- lambda's record, whose opts read back (`lam-rec`); a use (`use-bound`).
 -- Interning uses each law at a record of its kind.
 -- Assumes nothing.
 use mathlib.Core.Path.{_≡_, refl, ap, sym, _∙_, subst}
@@ -14,14 +14,16 @@ use Prim.Native.Nat.{ℕ, suc, _≤_}
 use native.Mathlib.Omega.{arith}
 use lib.Dec.{eqb, leb}
 use lib.ListN.{length, getD}
-use borrow.Author.Tests.{eqb-true, eq-eqb, leb-true}
+use borrow.Author.Tests.{eqb-true, eq-eqb, leb-true, not-false}
 use Rattle.model.specs.Lists.{isIn}
-use Rattle.model.specs.Tree.{Rec, rec}
+use Rattle.model.specs.Tree.{Rec, rec, Trees, node}
 use Rattle.model.specs.Shape.{Shape, shapes, fits, agrees, Pairs, shapeOf, bothWays, oneWay, aByte, whole}
-use Rattle.model.specs.Binding.{Kind, kind, valUse, valDef, block, lambda, field, other}
+use Rattle.model.specs.Faults.{faults}
+use Rattle.model.specs.Binding.{Kind, kind, valUse, valDef, block, lambda, field, other, idOf, unbound}
+use Rattle.laws.specs.Clear.{Clear}
 use Rattle.laws.proofs.Apart.{none-some, false-true}
 use Rattle.laws.specs.Members.{In}
-use Rattle.laws.proofs.Members.{clash, and-both, in-one}
+use Rattle.laws.proofs.Members.{clash, and-both, in-one, isIn-true}
 use Rattle.laws.specs.ArgLists.{optsIn, boundBy, AllOpts}
 use Rattle.laws.proofs.ArgLists.{args-length, args-opts}
 use Rattle.theory.specs.Checked.{FitsWith}
@@ -194,3 +196,11 @@ lam-rec r n e h g = record {
   aux-low = fits-at r n 12 e h .aux-is;
   valid = args-opts (r .aux) (r .lit) (fits-at r n 12 e h .right-is);
 }
+
+-- ---- a use: check 10 says that its id is in force where it stands
+
+pub use-bound : (r : Rec) (ts : Trees) (ids : List ℕ) → Clear (unbound (node r ts) ids) → r .shape ≡ 7 → In (idOf r) ids
+unfolding faults
+use-bound r ts ids known e =
+    let test = subst (λ (z : Bool). (z && not (isIn (idOf r) ids)) ≡ false) (eq-eqb (r .shape) 7 e) (known .0) in
+    isIn-true (idOf r) ids (not-false (isIn (idOf r) ids) test)

@@ -2,17 +2,17 @@
 -- Trees uses. Each record read leaves room for a slot and a scope more than before, which its parent takes.
 -- In order: ids and their symbols; children; the opts of a lambda; each kind of record.
 -- Assumes nothing.
-use mathlib.Core.Path.{_≡_, refl, sym, subst}
+use mathlib.Core.Path.{_≡_, refl, sym}
 use mathlib.Core.Logic.{inl, inr}
-use mathlib.Core.Bool.{Bool, true, false, not, _&&_, _||_}
+use mathlib.Core.Bool.{Bool, true, false, _||_}
 use mathlib.Core.Option.{Option, none, some}
 use mathlib.Core.List.{List, [], _∷_, _++_}
 use Prim.Native.Nat.{ℕ, zero, suc, _+_, _-_, _≤_, _<_}
 use native.Mathlib.Omega.{arith}
 use lib.Dec.{eqb}
 use lib.ListN.{length, getD, take, drop}
-use borrow.Author.Tests.{eq-eqb, eqb-false, not-false}
-use Rattle.model.specs.Lists.{isIn, last}
+use borrow.Author.Tests.{eqb-false}
+use Rattle.model.specs.Lists.{last}
 use Rattle.model.specs.Answer.{_>>=_}
 use Rattle.model.specs.Tree.{Rec, rec, Tree, Trees, node, nil, cons, many, top}
 use Rattle.model.specs.Shape.{aOpt, shapes}
@@ -25,19 +25,19 @@ use Rattle.model.specs.Intern.{nodeOf, internLast, internGeneral, internField, 
 use Rattle.laws.specs.Clear.{Clear}
 use Rattle.laws.proofs.Holds.{Holds, holds-bind, holds-map}
 use Rattle.laws.specs.Members.{In, Every, Under}
-use Rattle.laws.proofs.Members.{clash, isIn-true}
+use Rattle.laws.proofs.Members.{clash}
 use Rattle.laws.specs.ArgLists.{symsIn, optsIn, boundBy}
 use Rattle.laws.proofs.ArgLists.{args-length, withOpts-syms, withOpts-opts, withOpts-length}
 use Rattle.theory.specs.Checked.{Fine}
 use Rattle.theory.proofs.Acceptance.Records.{kind-shape, def-child, fits-at, field-child, lam-child, op-field}
-use Rattle.theory.proofs.Acceptance.Records.{op-lambda, lam-rec}
+use Rattle.theory.proofs.Acceptance.Records.{op-lambda, lam-rec, use-bound}
 use Rattle.theory.specs.Good.{symCount, scopeCount}
 use Rattle.theory.specs.Inv.{keys}
 use Rattle.theory.specs.Sound.{RecHas, OptsHave, NodeSound, StateSound, Room, thunks, Pays}
 use Rattle.theory.proofs.Interning.Keep.{last-in}
 use Rattle.theory.proofs.Bounds.Sound.{every-take, every-drop}
 use Rattle.theory.proofs.Bounds.Sound.{room-less, under-more, Keeps, keeps-none, keeps-then, keeps-less}
-use Rattle.theory.proofs.Bounds.Sound.{KeepsOne, KeepsArgs, KeepsAll}
+use Rattle.theory.proofs.Bounds.Sound.{KeepsOne, KeepsArgs, KeepsAll, one-then, one-less, all-then}
 use Rattle.theory.proofs.Bounds.Steps.{finish-keeps, allocArgs-keeps, projections-keep, field-thunks, open-sound}
 use Rattle.theory.proofs.Bounds.Steps.{open-room, open-more}
 
@@ -110,16 +110,11 @@ node-of : (B : ℕ → Type 0) (i m : ℕ) (r : Rec) (ks brs : List ℕ) → Und
 unfolding nodeOf
 node-of B i m r ks brs h l = go (eqb (r .shape) 0) refl (eqb (r .shape) 1) refl
   where
-    shape : (n : ℕ) → (n ≡ 0 → ⊥) → (n ≡ 1 → ⊥) → 2 ≤ n
-    shape zero a b = absurd (a refl)
-    shape (suc zero) a b = absurd (b refl)
-    shape (suc (suc n)) a b = omega arith
-
     go : (x : Bool) → eqb (r .shape) 0 ≡ x → (y : Bool) → eqb (r .shape) 1 ≡ y →
         NodeSound B i m r ks (elim x [ true ↦ constant | false ↦ elim y [ true ↦ unparsed | false ↦ operation brs ] ])
     go true e y f = tt
     go false e true f = tt
-    go false e false f = (h, shape (r .shape) (eqb-false (r .shape) 0 e) (eqb-false (r .shape) 1 f), l)
+    go false e false f = (h, omega (arith, eqb-false (r .shape) 0 e, eqb-false (r .shape) 1 f), l)
 
 -- ---- the opts of a lambda
 
@@ -154,13 +149,6 @@ lambda-kids op nil e m = absurd (omega arith)
 lambda-kids op (cons t nil) e m = rw (lambda-plain op e 0, plainKids) refl
 lambda-kids op (cons t (cons u ts)) e m = absurd (omega arith)
 
--- a use is of an id that is in force where it stands
-use-bound : (r : Rec) (ts : Trees) (ids : List ℕ) → Clear (unbound (node r ts) ids) → r .shape ≡ 7 → In (idOf r) ids
-unfolding faults
-use-bound r ts ids known e =
-    let test = subst (λ (z : Bool). (z && not (isIn (idOf r) ids)) ≡ false) (eq-eqb (r .shape) 7 e) (known .0) in
-    isIn-true (idOf r) ids (not-false (isIn (idOf r) ids) test)
-
 module _ (B : ℕ → Type 0) (b0 : B 0) (b1 : B 1) (b2 : B 2) (at cur : ℕ) (r : Rec) (ts : Trees) (has : RecHas B r)
     (fine : Fine (node r ts)) (ids : List ℕ) (known : Clear (unbound (node r ts) ids)) (env : Env) (kids : Kids)
     (kk : KidsKeep B (inside r ++ ids) (r .opcode) ts kids) (st : State) (k c : ℕ) (sound : StateSound B st)
@@ -171,7 +159,7 @@ module _ (B : ℕ → Type 0) (b0 : B 0) (b1 : B 1) (b2 : B 2) (at cur : ℕ) (r
   abbrev Kept : List ℕ × List ℕ × State → Type 0
   Kept = KeepsAll B st (suc k + many ts) (suc c) (many ts) (r .opcode) 0
 
-  -- and so it is bound
+  -- a use is of an id that is bound
   use-low : kind (r .shape) ≡ valUse → In (idOf r) (keys env) × (resolve env (idOf r) < symCount st)
   use-low e = envs (idOf r) (use-bound r ts ids known (kind-shape (r .shape) valUse e .shape))
 
@@ -182,20 +170,13 @@ module _ (B : ℕ → Type 0) (b0 : B 0) (b1 : B 1) (b2 : B 2) (at cur : ℕ) (r
       holds-map (KeepsAll B st' (j + many ts) (suc d + plainKids (r .opcode) 0 ts) (many ts) (r .opcode) 0)
       (KeepsAll B st (j + many ts) (suc d) (many ts) (r .opcode) 0) (kids cur env st')
       (kk cur env st' j (suc d) (w .sound) (omega (arith, w .more-scopes)) envs' (w .room) (λ i t. omega arith)) λ os v.
-      record {
-        keeps = keeps-then B st st' (os .2) j (suc d) (j + many ts) (suc d) w
-            (keeps-less B st' (os .2) (j + many ts) _ (j + many ts) (suc d) (omega arith) (omega arith) (v .keeps));
-        low = v .low;
-        count = v .count;
-        branches = v .branches;
-        thunks-are = v .thunks-are;
-      }
+      all-then w v (omega arith) (omega arith)
     where
       envs' : EnvLow (inside r ++ ids) env (symCount st')
       envs' = rw e (env-more ids env (symCount st) (symCount st') (w .more-syms) envs)
 
   first-kids : (inside r ≡ []) → Holds Kept (kids cur env st)
-  first-kids e = kids-keep e st (suc k) c (keeps-none B st (suc k) (suc c) sound room)
+  first-kids e = kids-keep e st (suc k) c (keeps-none sound room)
 
   -- a key's symbol, from a later state
   key-keeps : (ks own : List ℕ) (nd : Node) (st' : State) (j : ℕ) → suc k + length ks ≤ j → Keeps B st st' j (suc c) →
@@ -206,7 +187,7 @@ module _ (B : ℕ → Type 0) (b0 : B 0) (b1 : B 1) (b2 : B 2) (at cur : ℕ) (r
       (finish-keeps B at cur r has ks own nd st' (suc k) (suc c) (suc k) (omega arith) (omega arith) (w .sound)
       (omega (arith, w .more-scopes)) ul ns (room-less st' j (suc c) (suc k + length ks) (suc c) l (omega arith)
       (w .room))) λ o v.
-      record { keeps = keeps-then B st st' (o .1) j (suc c) (suc k) (suc c) w (v .keeps); low = v .low }
+      one-then w v
 
   general-keeps : (m : Outs) (j : ℕ) → suc k + many ts ≤ j → Holds (KeepsAll B st j (suc c) (many ts) (r .opcode) 0) m →
       Holds Post (internGeneral at cur r m)
@@ -248,10 +229,7 @@ module _ (B : ℕ → Type 0) (b0 : B 0) (b1 : B 1) (b2 : B 2) (at cur : ℕ) (r
           (w .low))
           (room-less (os .2) (suc k + many ts) (suc c) (suc k) (suc c) (omega arith) (omega arith) (w .keeps .room)))
           λ o v.
-          record {
-            keeps = keeps-then B st (os .2) (o .1) (suc k + many ts) (suc c) (suc k) (suc c) (w .keeps) (v .keeps);
-            low = v .low;
-          }
+          one-then (w .keeps) v
 
       fields : (os : List ℕ × List ℕ × State) → Kept os → (x y : Bool) → Holds Post (elim x as (λ z. Out) [
         | false ↦ finish at cur r (os .0) [] (operation []) (os .2)
@@ -300,10 +278,8 @@ module _ (B : ℕ → Type 0) (b0 : B 0) (b1 : B 1) (b2 : B 2) (at cur : ℕ) (r
           (open-room cur (some as') (md .2 .tables) (md .2) (suc k) c (w .keeps .room))
           (λ j t. absurd (clash (thunked (r .opcode) j) t (lambda-plain (r .opcode) op j)))) λ os v.
           key-keeps (os .0) as' (func (withOpts xs as') sc) (os .2) (suc k + many ts) (omega (arith, v .count))
-          (keeps-then B st st2 (os .2) (suc k) c (suc k + many ts) (suc c) later
-          (keeps-less B st2 (os .2) (suc k + many ts) (c + plainKids (r .opcode) 0 ts) (suc k + many ts) (suc c)
-          (omega arith)
-          (omega (arith, lambda-kids (r .opcode) ts op one)) (v .keeps)))
+          (keeps-then later
+          (keeps-less (v .keeps) (omega arith) (omega (arith, lambda-kids (r .opcode) ts op one))))
           (v .low) (node-sound os v)
         where
           as' : List ℕ
@@ -357,14 +333,11 @@ module _ (B : ℕ → Type 0) (b0 : B 0) (b1 : B 1) (b2 : B 2) (at cur : ℕ) (r
   last-child l e =
       holds-map (KeepsOne B st (suc k + many ts) (suc c)) Post (internLast (kids cur env st))
       (last-keeps B st (suc k + many ts) (suc c) (many ts) (r .opcode) (kids cur env st) l (first-kids e)) λ o w.
-      record {
-        keeps = keeps-less B st (o .1) (suc k + many ts) (suc c) (suc k) (suc c) (omega arith) (omega arith) (w .keeps);
-        low = w .low;
-      }
+      one-less w (omega arith) (omega arith)
 
   pub kind-keeps : (kd : Kind) → kind (r .shape) ≡ kd → Holds Post (internKind kd at cur r env kids st)
   unfolding internKind shapes
-  kind-keeps valUse e = record { keeps = keeps-none B st (suc k) (suc c) sound room; low = use-low e .1 }
+  kind-keeps valUse e = record { keeps = keeps-none sound room; low = use-low e .1 }
   kind-keeps valDef e =
       last-child (omega (arith, def-child r (many ts) (kind-shape (r .shape) valDef e .shape) (fine .0)))
       (inside-of r valDef e)

@@ -46,12 +46,12 @@ pub record Keeps (B : ℕ → Type 0) (st st' : State) (k c : ℕ) : Type 0 wher
   pub more-scopes : scopeCount st ≤ scopeCount st'
   pub tables-kept : length (st' .tables) ≡ length (st .tables)
 
-pub keeps-none : (B : ℕ → Type 0) (st : State) (k c : ℕ) → StateSound B st → Room st k c → Keeps B st st k c
-keeps-none B st k c h r =
+pub keeps-none : {B : ℕ → Type 0} {st : State} {k c : ℕ} → StateSound B st → Room st k c → Keeps B st st k c
+keeps-none h r =
     record { sound = h; room = r; more-syms = omega arith; more-scopes = omega arith; tables-kept = refl }
 
-pub keeps-then : (B : ℕ → Type 0) (a b c : State) (k d j e : ℕ) → Keeps B a b k d → Keeps B b c j e → Keeps B a c j e
-keeps-then B a b c k d j e g h = record {
+pub keeps-then : {B : ℕ → Type 0} {a b c : State} {k d j e : ℕ} → Keeps B a b k d → Keeps B b c j e → Keeps B a c j e
+keeps-then g h = record {
   sound = h .sound;
   room = h .room;
   more-syms = omega (arith, g .more-syms, h .more-syms);
@@ -59,8 +59,8 @@ keeps-then B a b c k d j e g h = record {
   tables-kept = h .tables-kept ∙ g .tables-kept;
 }
 
-pub keeps-less : (B : ℕ → Type 0) (a b : State) (k c j d : ℕ) → j ≤ k → d ≤ c → Keeps B a b k c → Keeps B a b j d
-keeps-less B a b k c j d lj ld h = record {
+pub keeps-less : {B : ℕ → Type 0} {a b : State} {k c j d : ℕ} → Keeps B a b k c → j ≤ k → d ≤ c → Keeps B a b j d
+keeps-less {b} {k} {c} {j} {d} h lj ld = record {
   sound = h .sound;
   room = room-less b k c j d lj ld (h .room);
   more-syms = h .more-syms;
@@ -85,6 +85,24 @@ pub record KeepsAll (B : ℕ → Type 0) (st : State) (k c n op j : ℕ) (os : L
   pub count : length (os .0) ≡ n
   pub branches : Under (scopeCount (os .2)) (os .1)
   pub thunks-are : length (os .1) ≡ thunks op j (os .0)
+
+pub one-then : {B : ℕ → Type 0} {st st' : State} {k c j d : ℕ} {o : ℕ × State} → Keeps B st st' k c →
+    KeepsOne B st' j d o → KeepsOne B st j d o
+one-then g w = record { keeps = keeps-then g (w .keeps); low = w .low }
+
+pub one-less : {B : ℕ → Type 0} {st : State} {k c j d : ℕ} {o : ℕ × State} → KeepsOne B st k c o → j ≤ k → d ≤ c →
+    KeepsOne B st j d o
+one-less w lj ld = record { keeps = keeps-less (w .keeps) lj ld; low = w .low }
+
+pub all-then : {B : ℕ → Type 0} {st st' : State} {k c j d l e n op i : ℕ} {os : List ℕ × List ℕ × State} →
+    Keeps B st st' k c → KeepsAll B st' j d n op i os → l ≤ j → e ≤ d → KeepsAll B st l e n op i os
+all-then g w lj ld = record {
+  keeps = keeps-then g (keeps-less (w .keeps) lj ld);
+  low = w .low;
+  count = w .count;
+  branches = w .branches;
+  thunks-are = w .thunks-are;
+}
 
 pub under-more : (n m : ℕ) (xs : List ℕ) → n ≤ m → Under n xs → Under m xs
 under-more n m xs l h x i = omega (arith, h x i)

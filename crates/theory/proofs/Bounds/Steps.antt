@@ -19,8 +19,9 @@ use Rattle.model.specs.Intern.{Node, argument, operation, Sym, Scope, State, Ou
 use Rattle.model.specs.Intern.{placement, unionDeps, enter, push, alloc, finish, allocArgs, openScope, recall}
 use Rattle.model.specs.Intern.{remember, pick, newProjections, pairProjection, thunked, read}
 use Rattle.laws.proofs.Slots.{slots-more}
+use Rattle.laws.proofs.Walks.{if-holds, every-cons}
 use Rattle.laws.proofs.Holds.{Holds, holds-guard, holds-bind}
-use Rattle.laws.specs.Members.{Every, Under}
+use Rattle.laws.specs.Members.{Under}
 use Rattle.laws.proofs.Members.{without-cases}
 use Rattle.theory.specs.Good.{argsIn, symCount, scopeCount}
 use Rattle.theory.specs.Inv.{InAny}
@@ -28,7 +29,7 @@ use Rattle.theory.proofs.Interning.Inv.{lt-or, recall-cases}
 use Rattle.theory.proofs.Interning.Push.{enter-cases, unionDeps-from, one-more}
 use Rattle.theory.proofs.Interning.Finish.{lookup-found, finish-cases}
 use Rattle.theory.specs.Sound.{RecHas, thunks, NodeSound, SymSound, scopeOf, StateSound, Room}
-use Rattle.theory.proofs.Bounds.Sound.{room-less, keeps-none, keeps-then, keeps-less, KeepsOne, KeepsArgs}
+use Rattle.theory.proofs.Bounds.Sound.{room-less, keeps-none, keeps-then, KeepsOne, KeepsArgs, one-less}
 use Rattle.theory.proofs.Bounds.Sound.{sym-more}
 
 -- ---- a new symbol
@@ -44,14 +45,10 @@ unfolding climb
 climb-low scs deps [] m z h = z
 climb-low scs deps (s ∷ l) m z h = go (getD scs s rootScope .args) (climb-low scs deps l m z (λ x i. h x (inr i)))
   where
-    turn : (b : Bool) → climb scs deps l < m → elim b [ true ↦ s | false ↦ climb scs deps l ] < m
-    turn true r = h s (inl refl)
-    turn false r = r
-
     go : (o : Option (List ℕ)) → climb scs deps l < m →
         elim o [ none ↦ s | some xs ↦ elim (anyIn xs deps) [ true ↦ s | false ↦ climb scs deps l ] ] < m
     go none r = h s (inl refl)
-    go (some xs) r = turn (anyIn xs deps) r
+    go (some xs) r = if-holds (λ x. x < m) (anyIn xs deps) s (climb scs deps l) (h s (inl refl)) r
 
 pub enter-low : (n m : ℕ) (ts : List (List ℕ)) → m < n → ((i : ℕ) → InAny i ts → i < n) → (i : ℕ) → InAny i (enter m ts) →
     i < n
@@ -147,15 +144,10 @@ module _ (B : ℕ → Type 0) (at cur : ℕ) (r : Rec) (has : RecHas B r) where
   finish-keeps ks own nd st k c j lj ls h cl kl ns rm =
       finish-cases (KeepsOne B st j c) at cur r ks own nd st
       (λ i e. record {
-        keeps = keeps-none B st j c h (room-less st (k + length ks) c j c lj (omega arith) rm);
+        keeps = keeps-none h (room-less st (k + length ks) c j c lj (omega arith) rm);
         low = h .tables-low i (lookup-found (st .syms) r ks (st .tables) i e .0);
       })
-      (λ e l.
-      let w = push-keeps ks deps true nd st k c h cl l kl deps-low ns rm in
-      record {
-        keeps = keeps-less B st (push cur r ks deps true nd st) (suc k) c j c ls (omega arith) (w .keeps);
-        low = w .low;
-      })
+      (λ e l. one-less (push-keeps ks deps true nd st k c h cl l kl deps-low ns rm) ls (omega arith))
     where
       deps : List ℕ
       deps = without (unionDeps (st .syms) ks) own
@@ -173,27 +165,20 @@ module _ (B : ℕ → Type 0) (at cur : ℕ) (r : Rec) (has : RecHas B r) where
       Room st k c → Holds (KeepsArgs B st k c (length xs)) (allocArgs at cur r xs st)
   unfolding allocArgs
   allocArgs-keeps [] st k c h cl rm =
-      record { keeps = keeps-none B st k c h rm; low = λ x i. absurd i; count = refl }
+      record { keeps = keeps-none h rm; low = λ x i. absurd i; count = refl }
   allocArgs-keeps (a ∷ xs) st k c h cl rm =
       holds-bind (KeepsOne B st (suc k) c) (KeepsArgs B st k c (suc (length xs))) _ _
-      (alloc-keeps [] (symCount st ∷ []) false argument st k c h cl (λ x i. absurd i) own tt
+      (alloc-keeps [] (symCount st ∷ []) false argument st k c h cl (λ x i. absurd i)
+      (every-cons (λ x. x < suc (symCount st)) (symCount st) [] (omega arith) (λ x i. absurd i)) tt
       (room-less st k c (k + 0) c (omega arith) (omega arith) rm)) λ o w.
       holds-bind (KeepsArgs B (o .1) k c (length xs)) (KeepsArgs B st k c (suc (length xs))) _ _
       (allocArgs-keeps xs (o .1) k c (w .keeps .sound) (omega (arith, w .keeps .more-scopes))
       (room-less (o .1) (suc k) c k c (omega arith) (omega arith) (w .keeps .room))) λ os v.
       record {
-        keeps = keeps-then B st (o .1) (os .2) (suc k) c k c (w .keeps) (v .keeps);
-        low = both (o .0) (os .0) (symCount (os .2)) (omega (arith, w .low, v .keeps .more-syms)) (v .low);
+        keeps = keeps-then (w .keeps) (v .keeps);
+        low = every-cons (λ x. x < symCount (os .2)) (o .0) (os .0) (omega (arith, w .low, v .keeps .more-syms)) (v .low);
         count = ap suc (v .count);
       }
-    where
-      own : Under (suc (symCount st)) (symCount st ∷ [])
-      own x (inl e) = omega arith
-      own x (inr i) = absurd i
-
-      both : (x : ℕ) (ys : List ℕ) (n : ℕ) → x < n → Under n ys → Under n (x ∷ ys)
-      both x ys n l h y (inl e) = omega arith
-      both x ys n l h y (inr i) = h y i
 
 -- ---- projections
 
@@ -231,24 +216,17 @@ pub field-thunks : (op : ℕ) → op ≡ 0x8C → (ks : List ℕ) → thunks op 
 field-thunks op e ks = ap (λ (o : ℕ). thunks o 0 ks) e ∙ no-thunks 0 ks
 
 pub pick-low : (i n : ℕ) (ab : ℕ × ℕ) → ab .0 < n → ab .1 < n → pick i ab < n
-pick-low i n ab la lb = go (eqb i 1)
-  where
-    go : (t : Bool) → elim t [ true ↦ ab .0 | false ↦ ab .1 ] < n
-    go true = la
-    go false = lb
+pick-low i n ab la lb = if-holds (λ x. x < n) (eqb i 1) (ab .0) (ab .1) la lb
 
 module _ (B : ℕ → Type 0) (b0 : B 0) (b1 : B 1) (b2 : B 2) (at cur : ℕ) (r : Rec) (has : RecHas B r)
     (s17 : r .shape ≡ 17) (op : r .opcode ≡ 0x8C) where
   field-has : (j : ℕ) → B j → RecHas B (rec (r .shape) (r .opcode) 0 (j ∷ []))
-  field-has j b = record { shape-has = has .shape-has; opcode-has = has .opcode-has; aux-has = b0; lit-has = lit }
-    where
-      lit : Every B (j ∷ [])
-      lit x (inl e) = rw e b
-      lit x (inr i) = absurd i
-
-  one-under : (p n : ℕ) → p < n → Under n (p ∷ [])
-  one-under p n l x (inl e) = omega arith
-  one-under p n l x (inr i) = absurd i
+  field-has j b = record {
+    shape-has = has .shape-has;
+    opcode-has = has .opcode-has;
+    aux-has = b0;
+    lit-has = every-cons B j [] b (λ x i. absurd i);
+  }
 
   -- one projection: a slot is taken, and a symbol pays for it
   projection-keeps : (j : ℕ) → B j → (p : ℕ) (st : State) (k c : ℕ) → StateSound B st → cur < scopeCount st →
@@ -257,7 +235,7 @@ module _ (B : ℕ → Type 0) (b0 : B 0) (b1 : B 1) (b2 : B 2) (at cur : ℕ) (r
       (finish at cur (rec (r .shape) (r .opcode) 0 (j ∷ [])) (p ∷ []) [] (operation []) st)
   projection-keeps j b p st k c h cl pl rm =
       finish-keeps B at cur _ (field-has j b) (p ∷ []) [] (operation []) st k c (suc k) (omega arith) (omega arith) h cl
-      (one-under p (symCount st) pl) (λ x i. absurd i, omega arith, sym (field-thunks (r .opcode) op (p ∷ [])))
+      (every-cons (λ x. x < symCount st) p [] pl (λ x i. absurd i)) (λ x i. absurd i, omega arith, sym (field-thunks (r .opcode) op (p ∷ [])))
       (room-less st (suc k) c (k + 1) c (omega arith) (omega arith) rm)
 
   pub projections-keep : (i p : ℕ) (st : State) (k c : ℕ) → StateSound B st → cur < scopeCount st → p < symCount st →
@@ -273,7 +251,7 @@ module _ (B : ℕ → Type 0) (b0 : B 0) (b1 : B 1) (b2 : B 2) (at cur : ℕ) (r
           (projection-keeps 2 b2 p (a .1) k c (w .keeps .sound) (omega (arith, w .keeps .more-scopes))
           (omega (arith, w .keeps .more-syms)) (w .keeps .room)) λ b v.
           let la : a .0 < symCount (b .1) = omega (arith, w .low, v .keeps .more-syms) in
-          let u = keeps-then B st (a .1) (b .1) (suc k) c (suc k) c (w .keeps) (v .keeps) in
+          let u = keeps-then (w .keeps) (v .keeps) in
           record {
             keeps = record {
               sound = sound-same (b .1 .tables) ((p, a .0, b .0) ∷ b .1 .memo) (b .1 .readings) (u .sound .few-readings)
@@ -292,7 +270,7 @@ module _ (B : ℕ → Type 0) (b0 : B 0) (b1 : B 1) (b2 : B 2) (at cur : ℕ) (r
           [ some ab ↦ good (pick i ab, st) | none ↦ newProjections at cur r i p st ])
       go (some ab) e =
           let w = h .memo-low p (ab .0) (ab .1) e in
-          record { keeps = keeps-none B st (suc k) c h rm; low = pick-low i (symCount st) ab (w .0) (w .1) }
+          record { keeps = keeps-none h rm; low = pick-low i (symCount st) ab (w .0) (w .1) }
       go none e = new
 
 -- ---- scopes

@@ -23,13 +23,14 @@ use Rattle.laws.specs.Clear.{Clear}
 use Rattle.laws.proofs.Clear.{clear-left, clear-right}
 use Rattle.laws.proofs.Holds.{Holds, holds-bind, holds-guard, holds-map}
 use Rattle.laws.proofs.Members.{clash}
+use Rattle.laws.proofs.Walks.{every-cons}
 use Rattle.laws.specs.Members.{Under}
 use Rattle.theory.specs.Checked.{Fine, Fines, CheckedIn}
 use Rattle.theory.specs.Good.{argsIn, symCount, scopeCount}
 use Rattle.theory.proofs.Interning.Inv.{any-opened, any-closed}
 use Rattle.theory.specs.Sound.{TreeHas, TreesHave, scopeOf, StateSound, Room, thunks, Pays}
 use Rattle.theory.proofs.Bounds.Sound.{room-less, keeps-none}
-use Rattle.theory.proofs.Bounds.Sound.{keeps-then, keeps-less, KeepsOne, KeepsAll}
+use Rattle.theory.proofs.Bounds.Sound.{keeps-then, keeps-less, KeepsOne, KeepsAll, all-then}
 use Rattle.theory.proofs.Bounds.Steps.{sound-same, open-sound, open-room, open-more, read-sound, read-room}
 use Rattle.theory.proofs.Bounds.Kinds.{EnvLow, env-more, env-def, plainKids, kind-keeps}
 
@@ -112,11 +113,9 @@ module _ (B : ℕ → Type 0) (op j : ℕ) (ts : Trees) (st st1 : State) (k c s 
       ])
       (suc (many ts)) op j (s ∷ os .0, branch b (scopeCount st) (os .1), os .2)
   cons-keeps b w e v = record {
-    keeps = keeps-then B st st1 (os .2) (suc k) (scopeFree b c) (k + suc (many ts)) _ (w .one .keeps)
-        (keeps-less B st1 (os .2) (suc k + many ts) (scopeFree b c + plainKids op (suc j) ts) (k + suc (many ts)) _
-        (omega arith)
-        (free b) (v .keeps));
-    low = lows;
+    keeps = keeps-then (w .one .keeps)
+        (keeps-less (v .keeps) (omega arith) (free b));
+    low = every-cons (λ x. x < symCount (os .2)) s (os .0) (omega (arith, w .one .low, v .keeps .more-syms)) (v .low);
     count = ap suc (v .count);
     branches = scopes b (w .opened);
     thunks-are = counted b e;
@@ -126,10 +125,6 @@ module _ (B : ℕ → Type 0) (op j : ℕ) (ts : Trees) (st st1 : State) (k c s 
           scopeFree b c + plainKids op (suc j) ts
       free true = omega arith
       free false = omega arith
-
-      lows : Under (symCount (os .2)) (s ∷ os .0)
-      lows x (inl e) = omega (arith, w .one .low, v .keeps .more-syms)
-      lows x (inr i) = v .low x i
 
       scopes : (b : Bool) → (b ≡ true → scopeCount st < scopeCount st1) →
           Under (scopeCount (os .2)) (branch b (scopeCount st) (os .1))
@@ -178,7 +173,7 @@ mutual
       Holds (KeepsAll B st (k + many ts) (c + plainKids op j ts) (many ts) op j) (internAll ts op j at cur env st)
   all-keep B b0 b1 b2 nil ids has fine known op j at cur env st k c h l en rm ps =
       record {
-        keeps = keeps-none B st (k + 0) (c + 0) h (room-less st k c (k + 0) (c + 0) (omega arith) (omega arith) rm);
+        keeps = keeps-none h (room-less st k c (k + 0) (c + 0) (omega arith) (omega arith) rm);
         low = λ x i. absurd i;
         count = refl;
         branches = λ x i. absurd i;
@@ -249,11 +244,4 @@ forest-keeps B b0 b1 b2 ts has c =
     (all-keep B b0 b1 b2 ts [] has (c .fine) (c .known) 0 0 0 0 [] start 0 0 (start-sound B) (omega arith)
     (λ i h. absurd h) start-room
     (λ j e. absurd (clash false e refl))) λ os w.
-    record {
-      keeps = keeps-less B start (os .2) (0 + many ts) (0 + plainKids 0 0 ts) (many ts) (plainKids 0 0 ts) (omega arith)
-          (omega arith) (w .keeps);
-      low = w .low;
-      count = w .count;
-      branches = w .branches;
-      thunks-are = w .thunks-are;
-    }
+    all-then (keeps-none (start-sound B) start-room) w (omega arith) (omega arith)

@@ -6,11 +6,10 @@
 use mathlib.Core.Path.{_≡_, refl, ap, sym, _∙_, subst}
 use mathlib.Core.Logic.{inl, inr}
 use mathlib.Core.Bool.{Bool, true, false}
-use mathlib.Core.Option.{Option, none, some, Option·some-injective}
+use mathlib.Core.Option.{Option, none, some}
 use mathlib.Core.List.{List, [], _∷_, _++_}
 use Prim.Native.Nat.{ℕ, zero, suc, _+_, _*_, _≤_, _<_}
 use native.Mathlib.Omega.{arith}
-use lib.Dec.{eqb, ltb}
 use lib.ListN.{length, getD}
 use Rattle.model.specs.Bytes.{put32}
 use Rattle.model.specs.Down.{under, downFuel, down}
@@ -22,7 +21,8 @@ use Rattle.model.specs.Materialize.{Builder, Defined, valUseOf, valDefOf, renam
 use Rattle.model.specs.Materialize.{processScope, buildOp, argLit, argEnv, buildNode, buildStep, buildValue}
 use Rattle.laws.proofs.Apart.{none-some}
 use Rattle.laws.specs.Members.{Every}
-use Rattle.laws.proofs.Walks.{every-join}
+use Rattle.laws.proofs.Walks.{under-holds, every-cons, every-join}
+use Rattle.theory.proofs.Building.Given.{given-cases}
 use Rattle.laws.specs.ArgLists.{optsIn}
 use Rattle.laws.proofs.Defining.{along}
 use Rattle.laws.proofs.Trees.{sizes-snoc, def-size}
@@ -45,10 +45,6 @@ id-has i l x (inr (inr (inl e))) = omega arith
 id-has i l x (inr (inr (inr (inl e)))) = omega arith
 id-has i l x (inr (inr (inr (inr e)))) = absurd e
 
-zero-has : Every Byte (0 ∷ [])
-zero-has x (inl e) = omega arith
-zero-has x (inr e) = absurd e
-
 use-has : (i : ℕ) → i < 4294967296 → TreeHas Byte (valUseOf i)
 unfolding valUseOf
 use-has i l =
@@ -57,7 +53,8 @@ use-has i l =
 def-has : (i : ℕ) (v : Tree) → i < 4294967296 → TreeHas Byte v → TreeHas Byte (valDefOf i v)
 unfolding valDefOf
 def-has i v l h =
-    let lit = every-join Byte (put32 i) (0 ∷ []) (id-has i l) zero-has in
+    let lit = every-join Byte (put32 i) (0 ∷ []) (id-has i l)
+    (every-cons Byte 0 [] (omega arith) (λ x i. absurd i)) in
     (record { shape-has = omega arith; opcode-has = omega arith; aux-has = omega arith; lit-has = lit }, (h, tt))
 
 -- ---- definitions and blocks
@@ -124,12 +121,10 @@ abbrev IdsTo : Env → ℕ → Type 0
 IdsTo env last = (s i : ℕ) → idGiven env s ≡ some i → i ≤ last
 
 ids-def : (s : ℕ) (env : Env) (last : ℕ) → IdsTo env last → IdsTo ((s, suc last) ∷ env) (suc last)
-unfolding idGiven
-ids-def s env last h t i e = go (eqb s t) e
-  where
-    go : (b : Bool) → elim b [ true ↦ some (suc last) | false ↦ idGiven env t ] ≡ some i → i ≤ suc last
-    go true e = omega (arith, Option·some-injective _ _ e)
-    go false e = omega (arith, h t i e)
+ids-def s env last h t i e = elim (given-cases s (suc last) env t i e) [
+  | inl w ↦ omega (arith, w .1)
+  | inr k ↦ omega (arith, h t i k)
+]
 
 ids-args : (xs : List (ℕ × List ℕ)) (env : Env) (last : ℕ) → IdsTo env last →
     IdsTo (argEnv last xs env) (last + length xs)
@@ -254,14 +249,10 @@ module _ (g : Graph) (recs : (s : ℕ) → RecHas Byte (symOf g s .rec)) (nodes 
   zeroUse sc env last = valUseOf 0
 
   under-has : (n : ℕ) (f : Builder) → ((s : ℕ) → Writes f s) → (s : ℕ) → Writes (under zeroUse n f) s
-  unfolding under
-  under-has n f ok s = go (ltb s n)
-    where
-      go : (b : Bool) (sc : ℕ) (env : Env) (last : ℕ) → IdsTo env last →
-          Fit last (size ((elim b as (λ z. ℕ → Env → ℕ → Tree) [ true ↦ f s | false ↦ zeroUse ]) sc env last)) →
-          TreeHas Byte ((elim b as (λ z. ℕ → Env → ℕ → Tree) [ true ↦ f s | false ↦ zeroUse ]) sc env last)
-      go true sc env last ids ft = ok s sc env last ids ft
-      go false sc env last ids ft = use-has 0 (omega arith)
+  under-has n f ok s =
+      under-holds (λ (x : ℕ → Env → ℕ → Tree). (sc : ℕ) (env : Env) (last : ℕ) → IdsTo env last →
+      Fit last (size (x sc env last)) → TreeHas Byte (x sc env last)) zeroUse n f s
+      (λ l. ok s) (λ sc env last ids ft. use-has 0 (omega arith))
 
   fuel-has : (m s : ℕ) → Writes (downFuel zeroUse (buildStep g) m) s
   unfolding downFuel

@@ -22,7 +22,7 @@ use Rattle.model.specs.Intern.{func, Sym, Scope, Env}
 use Rattle.model.specs.Materialize.{Builder, idGiven, argEnv}
 use Rattle.laws.proofs.Apart.{none-some}
 use Rattle.laws.specs.Members.{In}
-use Rattle.laws.proofs.Members.{clash, in-left, in-right, in-either}
+use Rattle.laws.proofs.Members.{clash, in-one, in-left, in-right, in-either}
 use Rattle.laws.specs.ArgLists.{ArgList, symsIn}
 use Rattle.theory.proofs.Meaning.Mean.{Val, bindSyms, mean}
 use Rattle.theory.proofs.Meaning.Coincide.{mean-arg, coincide, bindSyms-other}
@@ -48,7 +48,7 @@ pub none-given : (s i : ℕ) → Given [] s i → ⊥
 unfolding idGiven
 none-given s i e = none-some e
 
-given-cases : (s j : ℕ) (env : Env) (t i : ℕ) → Given ((s, j) ∷ env) t i → ((s ≡ t) × (j ≡ i)) ⊎ Given env t i
+pub given-cases : (s j : ℕ) (env : Env) (t i : ℕ) → Given ((s, j) ∷ env) t i → ((s ≡ t) × (j ≡ i)) ⊎ Given env t i
 unfolding idGiven
 given-cases s j env t i = go (eqb s t) refl
   where
@@ -260,17 +260,10 @@ module _ (fin : List Sym) (scs : List Scope) (n : ℕ) (good : Goods fin scs n) 
 
       covers : (t i : ℕ) → Given env t i ⊎ IsArg last xs t i → Covers fin withArgs t
       covers t i (inl e) a d = has-old last xs env a (eb .covers t i e a d)
-      covers t i (inr w) a d = own (rw (arg-of fin scs t (good t t-low) (lm .args-are t m) .0) at d)
-        where
-          m : In t (symsIn xs)
-          m = is-sym t i w
-
-          t-low : t < n
-          t-low = omega (arith, lm .args-low t m, l)
-
-          own : In a (t ∷ []) → Has withArgs a
-          own (inl e) = has-arg last xs env a (rw e m)
-          own (inr e) = absurd e
+      covers t i (inr w) a d =
+          let m = is-sym t i w in
+          let own = arg-of fin scs t (good t (low t i (inr w))) (lm .args-are t m) .0 in
+          has-arg last xs env a (rw (in-one (rw own at d)) m)
 
       -- two lambdas share no argument
       outer : (x : ℕ) → x < n → (ys : ArgList) (c : ℕ) → nodeAt fin x ≡ func ys c → (a : ℕ) → In a (symsIn ys) →

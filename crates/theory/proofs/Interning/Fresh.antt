@@ -69,17 +69,13 @@ arg-ok fin scs cur r st f = (
   new .node-is,
   record {
     low = λ k lk. absurd (rw (new .kids-is) at lk);
-    deps-low = λ a la. low a (rw (new .deps-is) at la);
+    deps-low = λ a la. let e = in-one (rw (new .deps-is) at la) in omega arith;
     node-is = rw (new .node-is) (new .deps-is, new .kids-is);
   },
 )
   where
     new : PartsAt fin (symCount st) (newSym cur r [] (symCount st ∷ []) argument st)
     new = push-parts fin scs cur r [] (symCount st ∷ []) false argument st f
-
-    low : (a : ℕ) → In a (symCount st ∷ []) → a ≤ symCount st
-    low a (inl e) = omega arith
-    low a (inr e) = absurd e
 
 arg-made : (at cur : ℕ) (r : Rec) (st : State) (A : Args) →
     Holds (OneMade cur st A) (alloc at cur r [] (symCount st ∷ []) false argument st)

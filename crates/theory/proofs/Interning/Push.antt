@@ -1,7 +1,6 @@
 -- A new symbol keeps the invariant of interning, if what is asked of it holds of it (`push-inv`).
 --
--- In order: the state with one more symbol grows, and has it at the end (`push-grows`, `push-more`, `push-is`,
--- `push-parts`); the invariant; the deps that a new symbol gets are those of its children, no more and no less.
+-- In order: the state with one more symbol grows, and has it at the end (`push-grows`, `push-more`, `push-parts`); the invariant; the deps that a new symbol gets are those of its children, no more and no less.
 -- The symbol of a key (Finish), an argument (Fresh) and a lambda (Lambda) are made so.
 -- Assumes nothing.
 use mathlib.Core.Path.{_≡_, refl, ap, sym, _∙_}
@@ -47,15 +46,7 @@ module _ (cur : ℕ) (r : Rec) (ks deps : List ℕ) (b : Bool) (nd : Node) (st :
     same-scopes = λ i l. refl;
   }
 
--- the new symbol, seen from the end
-pub push-is : (fin : List Sym) (scs : List Scope) (cur : ℕ) (r : Rec) (ks deps : List ℕ) (b : Bool) (nd : Node)
-    (st : State) → Fits fin scs (push cur r ks deps b nd st) → symAt fin (symCount st) ≡ newSym cur r ks deps nd st
-unfolding push
-push-is fin scs cur r ks deps b nd st f =
-    sym (f .syms-fit (symCount st) (push-more cur r ks deps b nd st))
-    ∙ getD-append-seam (st .syms) (newSym cur r ks deps nd st) [] noSym
-
--- the same by its parts
+-- the new symbol, seen from the end, by its parts
 pub record PartsAt (fin : List Sym) (i : ℕ) (y : Sym) : Type 0 where
   pub rec-is : recAt fin i ≡ y .rec
   pub kids-is : symKids fin i ≡ y .kids
@@ -66,6 +57,7 @@ pub record PartsAt (fin : List Sym) (i : ℕ) (y : Sym) : Type 0 where
 pub push-parts : (fin : List Sym) (scs : List Scope) (cur : ℕ) (r : Rec) (ks deps : List ℕ) (b : Bool) (nd : Node)
     (st : State) → Fits fin scs (push cur r ks deps b nd st) →
     PartsAt fin (symCount st) (newSym cur r ks deps nd st)
+unfolding push
 push-parts fin scs cur r ks deps b nd st f = record {
   rec-is = ap (λ (z : Sym). z .rec) is;
   kids-is = ap (λ (z : Sym). z .kids) is;
@@ -75,7 +67,9 @@ push-parts fin scs cur r ks deps b nd st f = record {
 }
   where
     is : symAt fin (symCount st) ≡ newSym cur r ks deps nd st
-    is = push-is fin scs cur r ks deps b nd st f
+    is =
+        sym (f .syms-fit (symCount st) (push-more cur r ks deps b nd st))
+        ∙ getD-append-seam (st .syms) (newSym cur r ks deps nd st) [] noSym
 
 -- ---- the invariant
 

@@ -10,8 +10,8 @@ use mathlib.Core.List.{List, [], _++_}
 use Prim.Native.Nat.{ℕ, suc, _+_}
 use native.Mathlib.Omega.{arith}
 use lib.Dec.{ltb}
-use borrow.Author.Tests.{eqb-true, eq-eqb, not-false}
-use Rattle.model.specs.Lists.{isIn, anyIn, twice}
+use borrow.Author.Tests.{eqb-true}
+use Rattle.model.specs.Lists.{anyIn, twice}
 use Rattle.model.specs.Tree.{Rec, Tree, Trees, node, nil, cons, many, isNil, size}
 use Rattle.model.specs.Shape.{shapes}
 use Rattle.model.specs.Binding.{Kind, kind, valUse, valDef, block, lambda, field, other, isBlock, idOf, inside, after}
@@ -21,12 +21,12 @@ use Rattle.model.specs.Intern.{Sym, Scope, State, Env, Kids, resolve, read, thu
 use Rattle.model.specs.Intern.{internScoped, internAll}
 use Rattle.laws.proofs.Holds.{Holds, holds-bind, holds-guard, holds-map}
 use Rattle.laws.specs.Members.{In}
-use Rattle.laws.proofs.Members.{clash, isIn-true, in-right, or-neither, anyIn-false}
+use Rattle.laws.proofs.Members.{clash, in-right, or-neither, anyIn-false}
 use Rattle.theory.specs.Checked.{Checked, CheckedIn}
 use Rattle.theory.proofs.Acceptance.Checked.{checked-head, checked-tail, checked-kids}
-use Rattle.theory.proofs.Acceptance.Checked.{checked-own, checked-use}
+use Rattle.theory.proofs.Acceptance.Checked.{checked-own}
 use Rattle.theory.proofs.Acceptance.Records.{kind-shape, fits-at, def-child, field-child, field-rec, lam-child}
-use Rattle.theory.proofs.Acceptance.Records.{lam-rec}
+use Rattle.theory.proofs.Acceptance.Records.{lam-rec, use-bound}
 use Rattle.theory.specs.Good.{isPlain}
 use Rattle.theory.specs.Inv.{Args, keys, Inv}
 use Rattle.theory.proofs.Interning.Inv.{grow-none, grow-then, grow-same, inv-same}
@@ -82,10 +82,7 @@ module _
   }
     where
       known : In (idOf r) (keys env)
-      known =
-          let seven = eq-eqb (r .shape) 7 (kind-shape (r .shape) valUse e .shape) in
-          let u = rw seven at (checked-use r ts b (keys env) c) in
-          isIn-true (idOf r) (keys env) (not-false (isIn (idOf r) (keys env)) u)
+      known = use-bound r ts (keys env) (c .known) (kind-shape (r .shape) valUse e .shape)
 
   lambda-keeps : kind (r .shape) ≡ lambda →
       Holds (KeepsMeaning st A cur env (unfoldBy lambda)) (internKind lambda at cur r env kids st)

@@ -4,7 +4,7 @@
 -- In order: the tree of an interned forest; the promise, which the statement of demand 3 uses.
 -- Assumes nothing.
 use mathlib.Core.Path.{_≡_, refl, _∙_, subst}
-use mathlib.Core.Logic.{inl, inr}
+use mathlib.Core.Logic.{inl}
 use mathlib.Core.Bool.{false}
 use mathlib.Core.List.{List, [], _∷_}
 use Prim.Native.Nat.{ℕ, _≤_}
@@ -22,6 +22,7 @@ use Rattle.model.specs.Call.{interned, treeOf, bytesOf}
 use Rattle.laws.proofs.Checks.{Passes, passes-checked}
 use Rattle.laws.proofs.Holds.{Holds}
 use Rattle.laws.specs.Members.{In}
+use Rattle.laws.proofs.Members.{in-one}
 use Rattle.theory.specs.Checked.{Checked}
 use Rattle.theory.proofs.Acceptance.Bytes.{accept-serialised}
 use Rattle.theory.specs.Good.{symCount}
@@ -60,12 +61,8 @@ module _ (o : ℕ × State) (t : Tree) (h : RootInterned (o .1) (o .0) t) where
   no-zero-use : size (treeOf o) ≤ 256 → NoUse 0 (treeOf o)
   no-zero-use l =
       use-absent 0 (treeOf o) [] (0 ∷ []) (record { absent = λ k. k; present = inl refl })
-      (checked-with l (0 ∷ []) zero .fresh)
+      (checked-with l (0 ∷ []) (λ i m. let e = in-one m in omega arith) .fresh)
       (tree-checked l .known) .0
-    where
-      zero : (i : ℕ) → In i (0 ∷ []) → i ≤ 0
-      zero i (inl e) = omega arith
-      zero i (inr m) = absurd m
 
 -- ---- the promise
 

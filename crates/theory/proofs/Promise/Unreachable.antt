@@ -1,48 +1,27 @@
 -- What the Rust guards by `expect` and `unreachable!`, said of the definitions: none can be met after checks 4 to 10.
--- codec.rs, "recompose: fewer rebuilt children than the template": `rebuilt-count` and `kids-fit`.
+-- codec.rs, "recompose: fewer rebuilt children than the template": `many-op` (laws, Building) and `kids-fit`.
 -- materialize.rs, "build_op on a non-Op symbol" and "op_of on a non-Op symbol": `buildOp` is called on an `operation`
 -- only, which has an opcode, `has-opcode`; `branch_scopes[next_branch]`, past its end: `scopes-fit`.
 -- intern.rs, "global scope is always open": `tables-open`, here at the end, and in Bounds.Sound at every point.
--- A use without a binding: `use-bound` in Bounds.Kinds. `val_use(0)`, an argument outside its lambda:
+-- A use without a binding: `use-bound` in Acceptance.Records. `val_use(0)`, an argument outside its lambda:
 -- `argument-never-met` in Main.
 -- Assumes nothing.
-use mathlib.Core.Path.{_≡_, refl, ap, subst}
-use mathlib.Core.Bool.{Bool, true, false}
-use mathlib.Core.List.{List, [], _∷_}
-use Prim.Native.Nat.{ℕ, suc, _≤_, _<_}
+use mathlib.Core.Path.{_≡_, subst}
+use mathlib.Core.Bool.{true}
+use mathlib.Core.List.{List}
+use Prim.Native.Nat.{ℕ, _≤_, _<_}
 use lib.ListN.{length}
 use Rattle.model.specs.Answer.{good}
-use Rattle.model.specs.Tree.{Trees, cons, many, root}
+use Rattle.model.specs.Tree.{Trees, root}
 use Rattle.model.specs.Shape.{fits}
 use Rattle.model.specs.Accept.{accept}
-use Rattle.model.specs.Intern.{operation, State, Env, thunked}
-use Rattle.model.specs.Gate.{Graph}
-use Rattle.model.specs.Materialize.{Builder, processScope, buildOp}
+use Rattle.model.specs.Intern.{operation, State}
 use Rattle.model.specs.Call.{interned}
 use Rattle.laws.proofs.Holds.{Holds}
 use Rattle.theory.specs.Good.{NodeOk, symCount, scopeCount, recAt, symKids, nodeAt}
 use Rattle.theory.proofs.Interning.Interned.{RootInterned, interned-ready}
 use Rattle.theory.specs.Sound.{thunks, NodeSound, StateSound, Any}
 use Rattle.theory.proofs.Bounds.Limits.{forest-sound}
-
--- an operation is built with as many children as it has child symbols
-rebuilt-count : (g : Graph) (f : Builder) (sc : ℕ) (env : Env) (last op j : ℕ) (ks brs : List ℕ) →
-    many (buildOp g f sc env last op j ks brs) ≡ length ks
-unfolding buildOp many
-rebuilt-count g f sc env last op j [] brs = refl
-rebuilt-count g f sc env last op j (k ∷ ks) [] = ap suc (rebuilt-count g f sc env last op (suc j) ks [])
-rebuilt-count g f sc env last op j (k ∷ ks) (b ∷ brs) =
-    go (thunked op j) (rebuilt-count g f sc env last op (suc j) ks brs)
-    (rebuilt-count g f sc env last op (suc j) ks (b ∷ brs))
-  where
-    go : (t : Bool) → many (buildOp g f sc env last op (suc j) ks brs) ≡ length ks →
-        many (buildOp g f sc env last op (suc j) ks (b ∷ brs)) ≡ length ks →
-        many (elim t [
-          | true ↦ cons (processScope g f k b env last) (buildOp g f sc env last op (suc j) ks brs)
-          | false ↦ cons (f k sc env last) (buildOp g f sc env last op (suc j) ks (b ∷ brs))
-        ]) ≡ suc (length ks)
-    go true e d = ap suc e
-    go false e d = ap suc d
 
 -- of an operation symbol: an opcode of its own, as many children as its shape has, a branch scope for each thunk
 pub record Operation (st : State) (s : ℕ) (brs : List ℕ) : Type 0 where

@@ -2,14 +2,11 @@
 -- id that is in force, and no record binds the id anew. `use-absent`, which Main uses of the written tree and id 0: an
 -- argument outside its lambda would be written as a use of 0, so it is never met.
 -- Assumes nothing.
-use mathlib.Core.Path.{_≡_, refl}
+use mathlib.Core.Path.{_≡_}
 use mathlib.Core.Logic.{_⊎_, inl, inr}
-use mathlib.Core.Bool.{Bool, true, false, not, _&&_}
 use mathlib.Core.List.{List, _++_}
 use Prim.Native.Nat.{ℕ}
-use lib.Dec.{eqb}
-use borrow.Author.Tests.{eq-eqb, not-false}
-use Rattle.model.specs.Lists.{isIn, twice}
+use Rattle.model.specs.Lists.{twice}
 use Rattle.model.specs.Tree.{Tree, Trees, node, nil, cons}
 use Rattle.model.specs.Faults.{faults}
 use Rattle.model.specs.Binding.{idOf, inside, after, rebound, reboundIn, unbound, unboundIn}
@@ -17,7 +14,8 @@ use Rattle.model.specs.Demand3.{NoUse, NoUses}
 use Rattle.laws.specs.Clear.{Clear}
 use Rattle.laws.proofs.Clear.{clear-left, clear-right}
 use Rattle.laws.specs.Members.{In}
-use Rattle.laws.proofs.Members.{clash, isIn-true, in-left, in-right, in-either, or-neither, anyIn-false}
+use Rattle.theory.proofs.Acceptance.Records.{use-bound}
+use Rattle.laws.proofs.Members.{in-left, in-right, in-either, or-neither, anyIn-false}
 
 -- ids in force, and the same with i among them
 pub record Apart (i : ℕ) (ids more : List ℕ) : Type 0 where
@@ -42,17 +40,13 @@ mutual
   use-absent i (node r ts) ids more a fresh known =
       let inner = apart-more i (inside r) ids more (λ k. own (in-right i (after (node r ts)) (inside r) k)) a in
       let below = uses-absent i ts (inside r ++ ids) (inside r ++ more) inner (fresh .1) (known .1) in
-      let here : r .shape ≡ 7 → idOf r ≡ i → ⊥ = λ s e. used (eqb (r .shape) 7) (eq-eqb (r .shape) 7 s) e (known .0) in
+      let here : r .shape ≡ 7 → idOf r ≡ i → ⊥ = λ s e. a .absent (rw (← e) (use-bound r ts ids known s)) in
       ((here, below), λ k. own (in-left i (after (node r ts)) (inside r) k))
     where
       own : In i (after (node r ts) ++ inside r) → ⊥
       own k =
           anyIn-false i (after (node r ts) ++ inside r) more
           (or-neither _ (twice (after (node r ts) ++ inside r)) (fresh .0) .0) k (a .present)
-
-      used : (b : Bool) → b ≡ true → idOf r ≡ i → (b && not (isIn (idOf r) ids)) ≡ false → ⊥
-      used true s e k = a .absent (rw (← e) (isIn-true (idOf r) ids (not-false (isIn (idOf r) ids) k)))
-      used false s e k = clash false s refl
 
   uses-absent : (i : ℕ) (ts : Trees) (ids more : List ℕ) → Apart i ids more → Clear (reboundIn ts more) →
       Clear (unboundIn ts ids) → NoUses i ts

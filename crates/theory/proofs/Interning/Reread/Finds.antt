@@ -176,5 +176,5 @@ module _ (s : State) (r : Rec) (ks : List ℕ) (o : ℕ × State) (h : Tabled s)
       Calm (λ v. finish at cur r ks own nd v) s (o .1) (λ v. (o .0, v))
   unfolding finish
   finish-calm at cur own nd =
-      calm-still (λ v. finish at cur r ks own nd v) s (o .1) (λ v. (o .0, v)) (w .readings-are) (w .tabled h)
+      calm-still (w .readings-are) (w .tabled h)
       (w .later h) λ u l. rw (finish, l .finds r ks (o .0) (w .found h))

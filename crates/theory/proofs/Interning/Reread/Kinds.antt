@@ -13,7 +13,6 @@ use lib.Dec.{eqb, ltb}
 use lib.ListN.{length, getD, List·getD-eq-default}
 use borrow.Author.Tests.{ltb-true, ltb-false}
 use Rattle.model.specs.Lists.{last}
-use Rattle.model.specs.Answer.{good}
 use Rattle.model.specs.Tree.{Rec, Tree, top}
 use Rattle.model.specs.Binding.{Kind, kind, valUse, valDef, block, lambda, field, other, isDef, idOf, argsOf}
 use Rattle.model.specs.Intern.{Node, argument, func, operation, Sym, State, Out, Outs, Env, Kids, symAt, noSym, resolve}
@@ -94,8 +93,7 @@ module _ (P : Type 0) (m : State → Outs) (s : State) (h : Holds (RereadsAll P 
         calm = λ p t e.
             let c = w .calm p t e in
             record {
-              calm = calm-map m (λ (os : List ℕ × List ℕ × State). (last (os .0), os .2)) s (os .2)
-                  (λ v. (os .0, os .1, v)) (c .calm);
+              calm = calm-map (λ (os : List ℕ × List ℕ × State). (last (os .0), os .2)) (c .calm);
               low = c .low;
             };
       }
@@ -113,9 +111,7 @@ module _ (P : Type 0) (m : State → Outs) (s : State) (h : Holds (RereadsAll P 
         calm = λ p t e.
             let c = w .calm p t (omega (arith, w .rises, ap length (v .scopes-are))) in
             record {
-              calm = calm-then m
-                  (λ (os : List ℕ × List ℕ × State). finish at cur r (os .0) [] (nodeOf r (os .1)) (os .2)) s (os .2)
-                  (o .1) (λ v. (os .0, os .1, v)) (λ v. (o .0, v)) (c .calm)
+              calm = calm-then (λ (os : List ℕ × List ℕ × State). finish at cur r (os .0) [] (nodeOf r (os .1)) (os .2)) (c .calm)
                   (finish-calm (os .2) r (os .0) o (c .calm .tabled) v at cur [] (nodeOf r (os .1)));
               low = omega (arith, found-low (os .2) r (os .0) o (c .calm .tabled) v);
             };
@@ -176,7 +172,7 @@ module _ (at cur : ℕ) (r : Rec) (env : Env) (kids : Kids) (ks : List ℕ) wher
       (finish-found at cur r ks [] (operation []) s) λ o w. record {
         rises = omega (arith, ap length (w .scopes-are));
         calm = λ p t f. record {
-          calm = calm-as (λ v. finish at cur r ks [] (operation []) v) reads s (o .1) (λ v. (o .0, v))
+          calm = calm-as
               (λ u l. field-by u false (isTuple u (last ks)) e refl)
               (finish-calm s r ks o t w at cur [] (operation []));
           low = omega (arith, found-low s r ks o t w);
@@ -192,7 +188,7 @@ module _ (at cur : ℕ) (r : Rec) (env : Env) (kids : Kids) (ks : List ℕ) wher
       (pairProjection at cur r number (last ks) s) (pair-calm at cur r number (last ks) s) λ o w. record {
         rises = omega (arith, ap length (w .scopes-are));
         calm = λ p t f. record {
-          calm = calm-as (λ v. pairProjection at cur r number (last ks) v) reads s (o .1) (λ v. (o .0, v))
+          calm = calm-as
               (λ u l. field-by u true false e
               (ap (λ (y : Sym). eqb (y .rec .shape) 16) (sym (l .same (last ks) (w .there t (p .1))))
               ∙ w .shape t (p .1) shape n))
@@ -215,7 +211,7 @@ module _ (at cur : ℕ) (r : Rec) (env : Env) (kids : Kids) (ks : List ℕ) wher
             let y = c .calm .later .same (last ks) (tuple-low s (last ks) n) in
             let low : last ks < symCount (o .1) = omega (arith, tuple-low s (last ks) n, c .calm .later .more) in
             record {
-              calm = calm-as (λ v. internGeneral at cur r (kids cur env v)) reads s (o .1) (λ v. (o .0, v))
+              calm = calm-as
                   (λ u l. field-by u true true e
                   (ap (λ (y : Sym). eqb (y .rec .shape) 16) (sym (y ∙ l .same (last ks) low)) ∙ n))
                   (c .calm);
@@ -290,9 +286,7 @@ module _ (at cur : ℕ) (r : Rec) (env : Env) (kids : Kids) (keep : KidsReread k
             let d = v .calm (fits-more env (symCount s) (symCount (os .2)) (c .calm .later .more) p, c .low)
             (c .calm .tabled) (omega (arith, w .rises, v .rises)) in
             record {
-              calm = calm-then (λ v. kids cur env v)
-                  (λ (os : List ℕ × List ℕ × State). internField at cur r env kids (os .0) (os .2)) s (os .2) (o .1)
-                  (λ v. (os .0, os .1, v)) (λ v. (o .0, v)) (c .calm) (d .calm);
+              calm = calm-then (λ (os : List ℕ × List ℕ × State). internField at cur r env kids (os .0) (os .2)) (c .calm) (d .calm);
               low = d .low;
             };
       }
@@ -304,7 +298,7 @@ module _ (at cur : ℕ) (r : Rec) (env : Env) (kids : Kids) (keep : KidsReread k
   kind-rereads valUse e s = record {
     rises = omega arith;
     calm = λ p t f. record {
-      calm = calm-still (λ v. good (resolve env (idOf r), v)) s s (λ v. (resolve env (idOf r), v)) refl t (later-none s)
+      calm = calm-still refl t (later-none s)
           (λ u l. refl);
       low = p (idOf r);
     };

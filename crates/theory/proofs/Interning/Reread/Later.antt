@@ -51,8 +51,8 @@ pub later-none : (s : State) → Later s s
 later-none s =
     record { more = omega arith; same = λ i l. refl; finds = λ r ks i e. e; recalls = λ p ab e. e }
 
-pub later-then : (s t u : State) → Later s t → Later t u → Later s u
-later-then s t u g h = record {
+pub later-then : {s t u : State} → Later s t → Later t u → Later s u
+later-then g h = record {
   more = omega (arith, g .more, h .more);
   same = λ i l. g .same i l ∙ h .same i (omega (arith, g .more));
   finds = λ r ks i e. h .finds r ks i (g .finds r ks i e);
@@ -76,9 +76,9 @@ pub record Calm {A : Type 0} (f : State → Answer A) (s s' : State) (g : State 
       f u ≡ good (g (withReadings u (u .readings + count)))
 
 -- one that reads nothing
-pub calm-still : {A : Type 0} (f : State → Answer A) (s s' : State) (g : State → A) → s' .readings ≡ s .readings →
+pub calm-still : {A : Type 0} {f : State → Answer A} {s s' : State} {g : State → A} → s' .readings ≡ s .readings →
     Tabled s' → Later s s' → ((u : State) → Later s' u → f u ≡ good (g u)) → Calm f s s' g
-calm-still f s s' g e h l a = record {
+calm-still {g} e h l a = record {
   count = 0;
   counted = omega arith;
   tabled = h;
@@ -89,9 +89,9 @@ calm-still f s s' g e h l a = record {
 }
 
 -- one that is another step, in each later state
-pub calm-as : {A : Type 0} (f h : State → Answer A) (s s' : State) (g : State → A) →
+pub calm-as : {A : Type 0} {f h : State → Answer A} {s s' : State} {g : State → A} →
     ((u : State) → Later s' u → h u ≡ f u) → Calm f s s' g → Calm h s s' g
-calm-as f h s s' g e c = record {
+calm-as e c = record {
   count = c .count;
   counted = c .counted;
   tabled = c .tabled;
@@ -100,25 +100,23 @@ calm-as f h s s' g e c = record {
 }
 
 -- one after the other
-pub calm-then : {A B : Type 0} (m : State → Answer A) (h : A → Answer B) (s t s' : State) (g : State → A)
-    (k : State → B) → Calm m s t g → Calm (λ v. h (g v)) t s' k → Calm (λ u. m u >>= h) s s' k
+pub calm-then : {A B : Type 0} {m : State → Answer A} (h : A → Answer B) {s t s' : State} {g : State → A}
+    {k : State → B} → Calm m s t g → Calm (λ v. h (g v)) t s' k → Calm (λ u. m u >>= h) s s' k
 unfolding _>>=_
-calm-then {A} {B} m h s t s' g k a b = record {
+calm-then {A} h {s'} {k} a b = record {
   count = a .count + b .count;
   counted = omega (arith, a .counted, b .counted);
   tabled = b .tabled;
-  later = later-then s t s' (a .later) (b .later);
+  later = later-then (a .later) (b .later);
   again = λ u l n.
       let i : ℕ = u .readings + a .count in
       let z : i + b .count ≡ u .readings + (a .count + b .count) = omega arith in
-      ap (λ (w : Answer A). w >>= h) (a .again u (later-then t s' u (b .later) l) (omega arith))
+      ap (λ (w : Answer A). w >>= h) (a .again u (later-then (b .later) l) (omega arith))
       ∙ b .again (withReadings u i) (later-with s' u (s' .readings) i l) (omega arith)
       ∙ ap (λ (n : ℕ). good (k (withReadings u n))) z;
 }
 
 -- a step, and what is made of its result
-pub calm-map : {A B : Type 0} (m : State → Answer A) (h : A → B) (s s' : State) (g : State → A) → Calm m s s' g →
+pub calm-map : {A B : Type 0} {m : State → Answer A} (h : A → B) {s s' : State} {g : State → A} → Calm m s s' g →
     Calm (λ u. m u >>= λ a. good (h a)) s s' (λ v. h (g v))
-calm-map m h s s' g c =
-    calm-then m (λ a. good (h a)) s s' s' g (λ v. h (g v)) c
-    (calm-still (λ v. good (h (g v))) s' s' (λ v. h (g v)) refl (c .tabled) (later-none s') (λ u l. refl))
+calm-map h {s'} c = calm-then (λ a. good (h a)) c (calm-still refl (c .tabled) (later-none s') (λ u l. refl))

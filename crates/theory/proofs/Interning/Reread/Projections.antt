@@ -83,7 +83,7 @@ module _ (at cur : ℕ) (r : Rec) (i p : ℕ) where
   old-paired s ab e = record {
     scopes-are = refl;
     calm = λ h.
-        calm-still (λ v. pairProjection at cur r i p v) s s (λ v. (pick i ab, v)) refl h (later-none s) λ u l.
+        calm-still refl h (later-none s) λ u l.
         rw (pairProjection, l .recalls p ab e);
     low = λ h. let w = h .memo-low p (ab .0) (ab .1) e in pick-low i (symCount s) ab (w .0) (w .1);
     there = λ h l. omega (arith, h .memo-low p (ab .0) (ab .1) e .0);
@@ -98,7 +98,7 @@ module _ (at cur : ℕ) (r : Rec) (i p : ℕ) where
 
     end-later : Tabled s → Later (a .1) end
     end-later h =
-        later-then (a .1) (b .1) end (v .later (w .tabled h))
+        later-then (v .later (w .tabled h))
         (remember-later p (a .0) (b .0) (b .1) (rw (v .memo-is, w .memo-is) none-is))
 
     first-low : Tabled s → a .0 < symCount (b .1)
@@ -116,7 +116,7 @@ module _ (at cur : ℕ) (r : Rec) (i p : ℕ) where
     end-shape : Tabled s → Low (symCount s) p → eqb (r .shape) 16 ≡ false → isTuple s p ≡ false → (t : Bool) →
         ltb p (symCount s) ≡ t → isTuple end p ≡ false
     end-shape h l e f true t =
-        let x = later-then s (a .1) end (w .later h) (end-later h) .same p (ltb-true p (symCount s) t) in
+        let x = later-then (w .later h) (end-later h) .same p (ltb-true p (symCount s) t) in
         ap (λ (z : Sym). eqb (z .rec .shape) 16) (sym x) ∙ f
     end-shape h l e f false t =
         let q : p ≡ a .0 =
@@ -132,10 +132,10 @@ module _ (at cur : ℕ) (r : Rec) (i p : ℕ) where
     new-paired = record {
       scopes-are = v .scopes-are ∙ w .scopes-are;
       calm = λ h.
-          calm-still (λ u. pairProjection at cur r i p u) s end (λ u. (pick i (a .0, b .0), u))
+          calm-still
           (v .readings-are ∙ w .readings-are)
           (remember-tabled p (a .0) (b .0) (b .1) (v .tabled (w .tabled h)) (first-low h) (second-low h))
-          (later-then s (a .1) end (w .later h) (end-later h)) λ u l.
+          (later-then (w .later h) (end-later h)) λ u l.
           rw (pairProjection, l .recalls p (a .0, b .0) (remember-own p (a .0) (b .0) (b .1)));
       low = λ h. pick-low i (symCount (b .1)) (a .0, b .0) (first-low h) (second-low h);
       there = λ h l. omega (arith, first-low h, w .later h .more, v .later (w .tabled h) .more);

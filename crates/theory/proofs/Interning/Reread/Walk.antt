@@ -109,12 +109,8 @@ module _ (t : Tree) (env : Env) (cur : ℕ) (child : ℕ → State → Out) (res
             (fits-more env (symCount s) (symCount (o .1)) (c .calm .later .more) p) in
             let d = v .calm env-fits (c .calm .tabled) (omega (arith, w .rises, v .rises)) in
             record {
-              calm = calm-then (λ v. child cur v)
-                  (λ (o : ℕ × State). rest (o .0) (o .1) >>= λ os. good (o .0 ∷ os .0, os .1, os .2)) s (o .1) (os .2)
-                  (λ v. (o .0, v)) (λ v. (o .0 ∷ os .0, os .1, v)) (c .calm)
-                  (calm-map (λ v. rest (o .0) v)
-                  (λ (os : List ℕ × List ℕ × State). (o .0 ∷ os .0, os .1, os .2)) (o .1) (os .2)
-                  (λ v. (os .0, os .1, v)) (d .calm));
+              calm = calm-then (λ (o : ℕ × State). rest (o .0) (o .1) >>= λ os. good (o .0 ∷ os .0, os .1, os .2)) (c .calm)
+                  (calm-map (λ (os : List ℕ × List ℕ × State). (o .0 ∷ os .0, os .1, os .2)) (d .calm));
               low = last-low (symCount (os .2)) (o .0) (os .0) (omega (arith, c .low, d .calm .later .more)) (d .low);
               no-thunks = d .no-thunks;
             };
@@ -143,7 +139,7 @@ mutual
   internAll-rereads nil op j at cur env s = record {
     rises = omega arith;
     calm = λ p t e. record {
-      calm = calm-still (λ v. good ([], [], v)) s s (λ v. ([], [], v)) refl t (later-none s) (λ u l. refl);
+      calm = calm-still refl t (later-none s) (λ u l. refl);
       low = omega arith;
       no-thunks = refl;
     };
