@@ -19,14 +19,15 @@ use Rattle.model.specs.Tree.{rec, Tree, Trees, node, nil, cons, top, many, dept
 use Rattle.model.specs.Intern.{Node, constant, unparsed, argument, func, operation, Env, thunked}
 use Rattle.model.specs.Gate.{Graph, symOf, usage, shouldHoist}
 use Rattle.model.specs.Schedule.{isArg, schedule}
-use Rattle.model.specs.Materialize.{Builder, Defined, valUseOf, valDefOf, wrapBlock, idGiven, member, define, processScope}
-use Rattle.model.specs.Materialize.{buildOp, argLit, argEnv, buildNode, buildStep, buildValue}
+use Rattle.model.specs.Materialize.{Builder, Defined, valUseOf, valDefOf, wrapBlock, idGiven, member, define}
+use Rattle.model.specs.Materialize.{processScope, buildOp, argLit, argEnv, buildNode, buildStep, buildValue}
 use Rattle.laws.specs.Defining.{membersIn}
 use Rattle.laws.proofs.Apart.{false-true}
 use Rattle.laws.proofs.Down.{down-step, under-low}
 use Rattle.laws.proofs.Members.{and-both}
 use Rattle.laws.specs.ArgLists.{ArgList}
 use Rattle.laws.specs.Members.{Under}
+use Rattle.laws.proofs.Walks.{if-holds}
 use Rattle.laws.proofs.Falls.{under-at, schedule-low}
 use Rattle.laws.specs.Members.{Once}
 use Rattle.laws.proofs.Symbols.{every-sym}
@@ -37,9 +38,6 @@ use Rattle.laws.proofs.Blocks.{wrap-depth}
 -- ---- the children of an operation
 
 module _ (g : Graph) (build : Builder) (sc : ℕ) (env : Env) (last op : ℕ) where
-  abbrev kidsFrom : ℕ → List ℕ → List ℕ → Trees
-  kidsFrom j ks brs = buildOp g build sc env last op j ks brs
-
   pub op-none : (j : ℕ) (brs : List ℕ) → buildOp g build sc env last op j [] brs ≡ nil
   unfolding buildOp
   op-none j brs = refl
@@ -71,12 +69,9 @@ module _ (g : Graph) (build : Builder) (sc : ℕ) (env : Env) (last op : ℕ) wh
   unfolding buildOp many
   many-op j [] brs = refl
   many-op j (k ∷ ks) [] = ap suc (many-op (suc j) ks [])
-  many-op j (k ∷ ks) (b ∷ brs) = go (thunked op j) refl (many-op (suc j) ks brs) (many-op (suc j) ks (b ∷ brs))
-    where
-      go : (t : Bool) → thunked op j ≡ t → many (kidsFrom (suc j) ks brs) ≡ length ks →
-          many (kidsFrom (suc j) ks (b ∷ brs)) ≡ length ks → many (kidsFrom j (k ∷ ks) (b ∷ brs)) ≡ suc (length ks)
-      go true e p q = ap many (op-thunk j k ks b brs e) ∙ ap suc p
-      go false e p q = ap many (op-eager j k ks (b ∷ brs) e) ∙ ap suc q
+  many-op j (k ∷ ks) (b ∷ brs) =
+      if-holds (λ ts. many ts ≡ suc (length ks)) (thunked op j) _ _ (ap suc (many-op (suc j) ks brs))
+      (ap suc (many-op (suc j) ks (b ∷ brs)))
 
 -- ---- builders that agree below n
 

@@ -39,7 +39,8 @@ minus-left : (n : ℕ) (xs : List ℕ) → Once xs → Under (suc n) xs → Left
 minus-left n [] h u = (omega arith, λ x i. absurd i, tt)
 minus-left n (x ∷ xs) h u = go (eqb x n) refl (minus-left n xs (h .1) (λ y i. u y (inr i)))
   where
-    go : (b : Bool) → eqb x n ≡ b → Left n xs (minus n xs) → Left n (x ∷ xs) (elim b [ true ↦ xs | false ↦ x ∷ minus n xs ])
+    go : (b : Bool) → eqb x n ≡ b → Left n xs (minus n xs) →
+        Left n (x ∷ xs) (elim b [ true ↦ xs | false ↦ x ∷ minus n xs ])
     go true e w = (omega arith, λ y i. (inr i, lower y i), h .1)
       where
         lower : (y : ℕ) → In y xs → y < n

@@ -1,7 +1,8 @@
 -- What every member of a walk has: a property that neighbours keep holds of all that is visited, and of free lists.
 --
--- In order: one of two; `under`; operands; lists put together; a visit (`visit-every`); the parts of a free list (`body-every`,
--- `collect-every`, `order-every`). That schedules hold what is reached, and that they fall, are such properties.
+-- In order: one of two; `under`; operands; lists put together; a visit (`visit-every`); the parts of a free list
+-- (`body-every`, `collect-every`, `order-every`). That schedules hold what is reached, and that they fall, are such
+-- properties.
 -- Assumes nothing.
 use mathlib.Core.Path.{_≡_, refl, sym, subst}
 use mathlib.Core.Logic.{_⊎_, inl, inr}
@@ -150,7 +151,8 @@ module _ (P : ℕ → Type 0) where
       let others = operands b op (suc j) ks in
       let rest = operands-every b op (suc j) ks (every-tail k ks h) in
       rw (operands-cons b op j k ks)
-      (if-holds (Every P) (eqB b (thunked op j)) (k ∷ others) others (every-cons k others (every-head k ks h) rest) rest)
+      (if-holds (Every P) (eqB b (thunked op j)) (k ∷ others) others
+      (every-cons k others (every-head k ks h) rest) rest)
 
   pub order-every : (y : Sym) → Every P (y .kids) → Every P (localDepOrder y)
   unfolding localDepOrder

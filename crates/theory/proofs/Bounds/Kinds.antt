@@ -228,8 +228,7 @@ module _ (B : ℕ → Type 0) (b0 : B 0) (b1 : B 1) (b2 : B 2) (at cur : ℕ) (r
           (omega (arith, w .keeps .more-scopes)) (last-under (symCount (os .2)) (os .0) (omega (arith, w .count, one))
           (w .low))
           (room-less (os .2) (suc k + many ts) (suc c) (suc k) (suc c) (omega arith) (omega arith) (w .keeps .room)))
-          λ o v.
-          one-then (w .keeps) v
+          λ o v. one-then (w .keeps) v
 
       fields : (os : List ℕ × List ℕ × State) → Kept os → (x y : Bool) → Holds Post (elim x as (λ z. Out) [
         | false ↦ finish at cur r (os .0) [] (operation []) (os .2)

@@ -26,7 +26,7 @@ use Rattle.laws.proofs.Members.{without-cases}
 use Rattle.theory.specs.Good.{argsIn, symCount, scopeCount}
 use Rattle.theory.specs.Inv.{InAny}
 use Rattle.theory.proofs.Interning.Inv.{lt-or, recall-cases}
-use Rattle.theory.proofs.Interning.Push.{enter-cases, unionDeps-from, one-more}
+use Rattle.theory.proofs.Interning.Push.{newSym, enter-cases, unionDeps-from, one-more}
 use Rattle.theory.proofs.Interning.Finish.{lookup-found, finish-cases}
 use Rattle.theory.specs.Sound.{RecHas, thunks, NodeSound, SymSound, scopeOf, StateSound, Room}
 use Rattle.theory.proofs.Bounds.Sound.{room-less, keeps-none, keeps-then, KeepsOne, KeepsArgs, one-less}
@@ -70,8 +70,8 @@ module _ (B : ℕ → Type 0) (at cur : ℕ) (r : Rec) (has : RecHas B r) where
         few-symbols = omega (arith, more);
         few-readings = h .few-readings;
         syms-sound = λ i l. syms i (lt-or i n (omega (arith, more)));
-        tables-open = omega (arith, h .tables-open, kept b);
-        tables-low = tables b;
+        tables-open = omega (arith, h .tables-open, kept);
+        tables-low = tables;
         memo-low = λ p x y e. (
           omega (arith, h .memo-low p x y e .0, more),
           omega (arith, h .memo-low p x y e .1, more),
@@ -85,7 +85,7 @@ module _ (B : ℕ → Type 0) (at cur : ℕ) (r : Rec) (has : RecHas B r) where
       };
       more-syms = omega (arith, more);
       more-scopes = omega arith;
-      tables-kept = kept b;
+      tables-kept = kept;
     };
     low = omega (arith, more);
   }
@@ -93,8 +93,11 @@ module _ (B : ℕ → Type 0) (at cur : ℕ) (r : Rec) (has : RecHas B r) where
       n : ℕ
       n = symCount st
 
+      next : State
+      next = push cur r ks deps b nd st
+
       new : Sym
-      new = record { rec = r; kids = ks; deps = deps; scope = placement st cur deps; node = nd }
+      new = newSym cur r ks deps nd st
 
       more : length (st .syms ++ (new ∷ [])) ≡ suc (symCount st)
       more = one-more (st .syms) new
@@ -116,17 +119,16 @@ module _ (B : ℕ → Type 0) (at cur : ℕ) (r : Rec) (has : RecHas B r) where
       syms i (inl l) = rw (old i l) (h .syms-sound i l)
       syms i (inr e) = rw (e, last) new-sound
 
-      tables : (b : Bool) (i : ℕ) → InAny i (elim b [ true ↦ enter (symCount st) (st .tables) | false ↦ st .tables ]) →
-          i < length (st .syms ++ (new ∷ []))
-      tables true i k =
-          enter-low _ n (st .tables) (omega (arith, more)) (λ i k. omega (arith, h .tables-low i k, more)) i k
-      tables false i k = omega (arith, h .tables-low i k, more)
+      tables : (i : ℕ) → InAny i (next .tables) → i < length (st .syms ++ (new ∷ []))
+      tables =
+          if-holds (λ ts. (i : ℕ) → InAny i ts → i < length (st .syms ++ (new ∷ []))) b (enter n (st .tables))
+          (st .tables) (enter-low _ n (st .tables) (omega (arith, more)) (λ i k. omega (arith, h .tables-low i k, more)))
+          (λ i k. omega (arith, h .tables-low i k, more))
 
-      kept : (b : Bool) →
-          length {A = List ℕ} (elim b [ true ↦ enter (symCount st) (st .tables) | false ↦ st .tables ]) ≡ length
-          (st .tables)
-      kept true = enter-length n (st .tables)
-      kept false = refl
+      kept : length (next .tables) ≡ length (st .tables)
+      kept =
+          if-holds (λ ts. length ts ≡ length (st .tables)) b (enter n (st .tables)) (st .tables)
+          (enter-length n (st .tables)) refl
 
   alloc-keeps : (ks deps : List ℕ) (b : Bool) (nd : Node) (st : State) (k c : ℕ) → StateSound B st → cur < scopeCount st →
       Under (symCount st) ks → Under (suc (symCount st)) deps → NodeSound B (symCount st) (scopeCount st) r ks nd →
@@ -176,7 +178,8 @@ module _ (B : ℕ → Type 0) (at cur : ℕ) (r : Rec) (has : RecHas B r) where
       (room-less (o .1) (suc k) c k c (omega arith) (omega arith) (w .keeps .room))) λ os v.
       record {
         keeps = keeps-then (w .keeps) (v .keeps);
-        low = every-cons (λ x. x < symCount (os .2)) (o .0) (os .0) (omega (arith, w .low, v .keeps .more-syms)) (v .low);
+        low =
+            every-cons (λ x. x < symCount (os .2)) (o .0) (os .0) (omega (arith, w .low, v .keeps .more-syms)) (v .low);
         count = ap suc (v .count);
       }
 
@@ -235,7 +238,8 @@ module _ (B : ℕ → Type 0) (b0 : B 0) (b1 : B 1) (b2 : B 2) (at cur : ℕ) (r
       (finish at cur (rec (r .shape) (r .opcode) 0 (j ∷ [])) (p ∷ []) [] (operation []) st)
   projection-keeps j b p st k c h cl pl rm =
       finish-keeps B at cur _ (field-has j b) (p ∷ []) [] (operation []) st k c (suc k) (omega arith) (omega arith) h cl
-      (every-cons (λ x. x < symCount st) p [] pl (λ x i. absurd i)) (λ x i. absurd i, omega arith, sym (field-thunks (r .opcode) op (p ∷ [])))
+      (every-cons (λ x. x < symCount st) p [] pl (λ x i. absurd i))
+      (λ x i. absurd i, omega arith, sym (field-thunks (r .opcode) op (p ∷ [])))
       (room-less st (suc k) c (k + 1) c (omega arith) (omega arith) rm)
 
   pub projections-keep : (i p : ℕ) (st : State) (k c : ℕ) → StateSound B st → cur < scopeCount st → p < symCount st →

@@ -30,7 +30,7 @@ use Rattle.theory.specs.Good.{argsIn, symCount, scopeCount}
 use Rattle.theory.proofs.Interning.Inv.{any-opened, any-closed}
 use Rattle.theory.specs.Sound.{TreeHas, TreesHave, scopeOf, StateSound, Room, thunks, Pays}
 use Rattle.theory.proofs.Bounds.Sound.{room-less, keeps-none}
-use Rattle.theory.proofs.Bounds.Sound.{keeps-then, keeps-less, KeepsOne, KeepsAll, all-then}
+use Rattle.theory.proofs.Bounds.Sound.{keeps-then, keeps-less, KeepsOne, KeepsAll, one-then, all-then}
 use Rattle.theory.proofs.Bounds.Steps.{sound-same, open-sound, open-room, open-more, read-sound, read-room}
 use Rattle.theory.proofs.Bounds.Kinds.{EnvLow, env-more, env-def, plainKids, kind-keeps}
 
@@ -136,78 +136,65 @@ module _ (B : ℕ → Type 0) (op j : ℕ) (ts : Trees) (st st1 : State) (k c s 
       counted true e = rw (e, thunks) (ap suc (v .thunks-are))
       counted false e = rw (e, thunks) (v .thunks-are)
 
-mutual
-  unfolding intern faults many
+module _ (B : ℕ → Type 0) (b0 : B 0) (b1 : B 1) (b2 : B 2) where
+  mutual
+    unfolding intern faults many
 
-  pub intern-keeps : (B : ℕ → Type 0) → B 0 → B 1 → B 2 → (t : Tree) (ids : List ℕ) → TreeHas B t → Fine t →
-      Clear (unbound t ids) →
-      (at cur : ℕ) (env : Env) (st : State) (k c : ℕ) → StateSound B st → cur < scopeCount st →
-      EnvLow ids env (symCount st) →
-      Room st k c → Holds (KeepsOne B st (suc k) (suc c)) (intern t at cur env st)
-  intern-keeps B b0 b1 b2 (node r ts) ids has fine known at cur env st k c h l en rm =
-      holds-guard (KeepsOne B st (suc k) (suc c)) (ltb (st .readings) 2048) 11 at _ λ e.
-      holds-map (KeepsOne B (read st) (suc k) (suc c)) (KeepsOne B st (suc k) (suc c))
-      (internKind (kind (r .shape)) at cur r env (λ c e s. internAll ts (r .opcode) 0 (suc at) c e s) (read st))
-      (kind-keeps B b0 b1 b2 at cur r ts (has .0) fine ids known env
-      (λ c e s. internAll ts (r .opcode) 0 (suc at) c e s)
-      (λ cr en s j d hs ls es rs ps. all-keep B b0 b1 b2 ts (inside r ++ ids) (has .1) (fine .2) (known .1) (r .opcode)
-      0 (suc at) cr en s j d hs ls es rs ps)
-      (read st) k c (read-sound B st (ltb-true (st .readings) 2048 e) h) l en (read-room st k c rm) (kind (r .shape))
-      refl) λ o w.
-      record {
-        keeps = record {
-          sound = w .keeps .sound;
-          room = w .keeps .room;
-          more-syms = w .keeps .more-syms;
-          more-scopes = w .keeps .more-scopes;
-          tables-kept = w .keeps .tables-kept;
-        };
-        low = w .low;
-      }
+    pub intern-keeps : (t : Tree) (ids : List ℕ) → TreeHas B t → Fine t → Clear (unbound t ids) →
+        (at cur : ℕ) (env : Env) (st : State) (k c : ℕ) → StateSound B st → cur < scopeCount st →
+        EnvLow ids env (symCount st) → Room st k c → Holds (KeepsOne B st (suc k) (suc c)) (intern t at cur env st)
+    intern-keeps (node r ts) ids has fine known at cur env st k c h l en rm =
+        holds-guard (KeepsOne B st (suc k) (suc c)) (ltb (st .readings) 2048) 11 at _ λ e.
+        let s = read-sound B st (ltb-true (st .readings) 2048 e) h in
+        let rm' = read-room st k c rm in
+        holds-map (KeepsOne B (read st) (suc k) (suc c)) (KeepsOne B st (suc k) (suc c))
+        (internKind (kind (r .shape)) at cur r env (λ c e s. internAll ts (r .opcode) 0 (suc at) c e s) (read st))
+        (kind-keeps B b0 b1 b2 at cur r ts (has .0) fine ids known env
+        (λ c e s. internAll ts (r .opcode) 0 (suc at) c e s)
+        (λ cr en s j d hs ls es rs ps. all-keep ts (inside r ++ ids) (has .1) (fine .2) (known .1) (r .opcode)
+        0 (suc at) cr en s j d hs ls es rs ps)
+        (read st) k c s l en rm' (kind (r .shape)) refl) λ o w.
+        one-then (record { sound = s; room = rm'; more-syms = omega arith; more-scopes = omega arith; tables-kept = refl }) w
 
-  pub all-keep : (B : ℕ → Type 0) → B 0 → B 1 → B 2 → (ts : Trees) (ids : List ℕ) → TreesHave B ts → Fines ts →
-      Clear (unboundIn ts ids) →
+    pub all-keep : (ts : Trees) (ids : List ℕ) → TreesHave B ts → Fines ts → Clear (unboundIn ts ids) →
+        (op j at cur : ℕ) (env : Env) (st : State) (k c : ℕ) → StateSound B st → cur < scopeCount st →
+        EnvLow ids env (symCount st) → Room st k c → Pays op c →
+        Holds (KeepsAll B st (k + many ts) (c + plainKids op j ts) (many ts) op j) (internAll ts op j at cur env st)
+    all-keep nil ids has fine known op j at cur env st k c h l en rm ps =
+        record {
+          keeps = keeps-none h (room-less st k c (k + 0) (c + 0) (omega arith) (omega arith) rm);
+          low = λ x i. absurd i;
+          count = refl;
+          branches = λ x i. absurd i;
+          thunks-are = refl;
+        }
+    all-keep (cons t ts) ids has fine known op j at cur env st k c h l en rm ps =
+        holds-bind (Scoped B (thunked op j) st (suc k) c)
+        (KeepsAll B st (k + suc (many ts)) (c + plainKids op j (cons t ts)) (suc (many ts)) op j) _ _
+        (scoped-keeps B (thunked op j) cur (λ d s. intern t at d env s) st k c h l rm (λ e. ps j e) λ d s e hs ls ss rs.
+        intern-keeps t ids (has .0) (fine .0) (clear-left (unbound t ids) _ known) at d env s k e hs ls
+        (env-more ids env (symCount st) (symCount s) (omega arith) en) rs) λ o w.
+        holds-bind (KeepsAll B (o .1) (suc k + many ts) (scopeFree (thunked op j) c + plainKids op (suc j) ts) (many ts)
+        op (suc j))
+        (KeepsAll B st (k + suc (many ts)) (c + plainKids op j (cons t ts)) (suc (many ts)) op j) _ _
+        (all-keep ts (after t ++ ids) (has .1) (fine .1) (clear-right (unbound t ids) _ known) op (suc j)
+        (at + size t) cur
+        (bindDef t (o .0) env) (o .1) (suc k) (scopeFree (thunked op j) c) (w .one .keeps .sound)
+        (omega (arith, w .one .keeps .more-scopes))
+        (env-def t (o .0) ids env (symCount (o .1)) (w .one .low)
+        (env-more ids env (symCount st) (symCount (o .1)) (w .one .keeps .more-syms) en))
+        (w .one .keeps .room) (λ i e. free-more (thunked op j) (ps i e))) λ os v.
+        cons-keeps B op j ts st (o .1) k c (o .0) os (thunked op j) w refl v
+
+  -- a tree as an operand, in its own thunk or not
+  pub child-keeps : (t : Tree) (ids : List ℕ) → TreeHas B t → Fine t → Clear (unbound t ids) →
       (op j at cur : ℕ) (env : Env) (st : State) (k c : ℕ) → StateSound B st → cur < scopeCount st →
-      EnvLow ids env (symCount st) →
-      Room st k c → Pays op c →
-      Holds (KeepsAll B st (k + many ts) (c + plainKids op j ts) (many ts) op j) (internAll ts op j at cur env st)
-  all-keep B b0 b1 b2 nil ids has fine known op j at cur env st k c h l en rm ps =
-      record {
-        keeps = keeps-none h (room-less st k c (k + 0) (c + 0) (omega arith) (omega arith) rm);
-        low = λ x i. absurd i;
-        count = refl;
-        branches = λ x i. absurd i;
-        thunks-are = refl;
-      }
-  all-keep B b0 b1 b2 (cons t ts) ids has fine known op j at cur env st k c h l en rm ps =
-      holds-bind (Scoped B (thunked op j) st (suc k) c)
-      (KeepsAll B st (k + suc (many ts)) (c + plainKids op j (cons t ts)) (suc (many ts)) op j) _ _
-      (scoped-keeps B (thunked op j) cur (λ d s. intern t at d env s) st k c h l rm (λ e. ps j e) λ d s e hs ls ss rs.
-      intern-keeps B b0 b1 b2 t ids (has .0) (fine .0) (clear-left (unbound t ids) _ known) at d env s k e hs ls
-      (env-more ids env (symCount st) (symCount s) (omega arith) en) rs) λ o w.
-      holds-bind (KeepsAll B (o .1) (suc k + many ts) (scopeFree (thunked op j) c + plainKids op (suc j) ts) (many ts)
-      op (suc j))
-      (KeepsAll B st (k + suc (many ts)) (c + plainKids op j (cons t ts)) (suc (many ts)) op j) _ _
-      (all-keep B b0 b1 b2 ts (after t ++ ids) (has .1) (fine .1) (clear-right (unbound t ids) _ known) op (suc j)
-      (at + size t) cur
-      (bindDef t (o .0) env) (o .1) (suc k) (scopeFree (thunked op j) c) (w .one .keeps .sound)
-      (omega (arith, w .one .keeps .more-scopes))
-      (env-def t (o .0) ids env (symCount (o .1)) (w .one .low)
-      (env-more ids env (symCount st) (symCount (o .1)) (w .one .keeps .more-syms) en))
-      (w .one .keeps .room) (λ i e. free-more (thunked op j) (ps i e))) λ os v.
-      cons-keeps B op j ts st (o .1) k c (o .0) os (thunked op j) w refl v
-
--- a tree as an operand, in its own thunk or not
-pub child-keeps : (B : ℕ → Type 0) → B 0 → B 1 → B 2 → (t : Tree) (ids : List ℕ) → TreeHas B t → Fine t →
-    Clear (unbound t ids) →
-    (op j at cur : ℕ) (env : Env) (st : State) (k c : ℕ) → StateSound B st → cur < scopeCount st →
-    EnvLow ids env (symCount st) →
-    Room st k c → Pays op c →
-    Holds (Scoped B (thunked op j) st (suc k) c) (internScoped (thunked op j) cur (λ d s. intern t at d env s) st)
-child-keeps B b0 b1 b2 t ids has fine known op j at cur env st k c h l en rm ps =
-    scoped-keeps B (thunked op j) cur (λ d s. intern t at d env s) st k c h l rm (λ e. ps j e) λ d s e hs ls ss rs.
-    intern-keeps B b0 b1 b2 t ids has fine known at d env s k e hs ls
-    (env-more ids env (symCount st) (symCount s) (omega arith) en) rs
+      EnvLow ids env (symCount st) → Room st k c → Pays op c →
+      Holds (Scoped B (thunked op j) st (suc k) c) (internScoped (thunked op j) cur (λ d s. intern t at d env s) st)
+  child-keeps t ids has fine known op j at cur env st k c h l en rm ps =
+      scoped-keeps B (thunked op j) cur (λ d s. intern t at d env s) st k c h l rm (λ e. ps j e) λ d s e hs ls ss rs.
+      intern-keeps t ids has fine known at d env s k e hs ls
+      (env-more ids env (symCount st) (symCount s) (omega arith) en) rs
 
 -- ---- forests
 

@@ -21,7 +21,7 @@ use Rattle.model.specs.Materialize.{Builder, Defined, valUseOf, valDefOf, renam
 use Rattle.model.specs.Materialize.{processScope, buildOp, argLit, argEnv, buildNode, buildStep, buildValue}
 use Rattle.laws.proofs.Apart.{none-some}
 use Rattle.laws.specs.Members.{Every}
-use Rattle.laws.proofs.Walks.{under-holds, every-cons, every-join}
+use Rattle.laws.proofs.Walks.{if-holds, under-holds, every-cons, every-join}
 use Rattle.theory.proofs.Building.Given.{given-cases}
 use Rattle.laws.specs.ArgLists.{optsIn}
 use Rattle.laws.proofs.Defining.{along}
@@ -178,21 +178,13 @@ module _ (g : Graph) (f : Builder) (ok : (s : ℕ) → Writes f s) where
       Fit last (sizes (buildOp g f sc env last op j ks brs)) →
       TreesHave Byte (buildOp g f sc env last op j ks brs)
   unfolding buildOp sizes
-  op-has sc env last op j [] brs ids ft = tt
-  op-has sc env last op j (k ∷ ks) [] ids ft =
+  op-has sc env last op j [] brs ids = λ ft. tt
+  op-has sc env last op j (k ∷ ks) [] ids = λ ft.
       (ok k sc env last ids (omega arith), op-has sc env last op (suc j) ks [] ids (omega arith))
-  op-has sc env last op j (k ∷ ks) (b ∷ brs) ids ft =
-      go (thunked op j) (processScope g f k b env last) (f k sc env last) (buildOp g f sc env last op (suc j) ks brs)
-      (buildOp g f sc env last op (suc j) ks (b ∷ brs)) (process-has k b env last ids) (ok k sc env last ids)
-      (op-has sc env last op (suc j) ks brs ids) (op-has sc env last op (suc j) ks (b ∷ brs) ids) ft
-    where
-      go : (x : Bool) (t u : Tree) (ts us : Trees) → (Fit last (size t) → TreeHas Byte t) →
-          (Fit last (size u) → TreeHas Byte u) →
-          (Fit last (sizes ts) → TreesHave Byte ts) → (Fit last (sizes us) → TreesHave Byte us) →
-          Fit last (sizes (elim x [ true ↦ cons t ts | false ↦ cons u us ])) →
-          TreesHave Byte (elim x [ true ↦ cons t ts | false ↦ cons u us ])
-      go true t u ts us a b c d ft = (a (omega arith), c (omega arith))
-      go false t u ts us a b c d ft = (b (omega arith), d (omega arith))
+  op-has sc env last op j (k ∷ ks) (b ∷ brs) ids =
+      if-holds (λ ts. Fit last (sizes ts) → TreesHave Byte ts) (thunked op j) _ _
+      (λ ft. (process-has k b env last ids (omega arith), op-has sc env last op (suc j) ks brs ids (omega arith)))
+      (λ ft. (ok k sc env last ids (omega arith), op-has sc env last op (suc j) ks (b ∷ brs) ids (omega arith)))
 
   -- ---- lambdas and symbols
 

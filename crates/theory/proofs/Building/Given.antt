@@ -23,6 +23,7 @@ use Rattle.model.specs.Materialize.{Builder, idGiven, argEnv}
 use Rattle.laws.proofs.Apart.{none-some}
 use Rattle.laws.specs.Members.{In}
 use Rattle.laws.proofs.Members.{clash, in-one, in-left, in-right, in-either}
+use Rattle.laws.proofs.Walks.{if-holds}
 use Rattle.laws.specs.ArgLists.{ArgList, symsIn}
 use Rattle.theory.proofs.Meaning.Mean.{Val, bindSyms, mean}
 use Rattle.theory.proofs.Meaning.Coincide.{mean-arg, coincide, bindSyms-other}
@@ -63,11 +64,8 @@ has-new s j env = (j, rw (eq-eqb s s refl, idGiven))
 
 pub has-more : (s j : ℕ) (env : Env) (a : ℕ) → Has env a → Has ((s, j) ∷ env) a
 unfolding idGiven
-has-more s j env a h = go (eqb s a)
-  where
-    go : (b : Bool) → (i : ℕ) × (elim b [ true ↦ some j | false ↦ idGiven env a ] ≡ some i)
-    go true = (j, refl)
-    go false = h
+has-more s j env a h =
+    if-holds (λ o. (i : ℕ) × (o ≡ some i)) (eqb s a) (some j) (idGiven env a) (j, refl) h
 
 -- an argument of the list, with its id
 abbrev IsArg : ℕ → ArgList → ℕ → ℕ → Type 0

@@ -188,9 +188,9 @@ module _
       KeepsMeaning st A cur env (lambdaOf r ts) o
   lambda-kept {st} {md} {os} {o} made body done = record {
     grows =
-        grow-then st (md .2) (o .1) (made .step .grows)
-        (grow-then (md .2) (opened cur md) (o .1) (open-grows cur (some (md .0)) (md .2 .tables) (md .2))
-        (grow-then (opened cur md) (os .2) (o .1) (body .step .grows) (done .grows)));
+        grow-then (made .step .grows)
+        (grow-then (open-grows cur (some (md .0)) (md .2 .tables) (md .2))
+        (grow-then (body .step .grows) (done .grows)));
     keeps = λ fin scs f inv ok.
         let g = fits-back fin scs (os .2) (o .1) (done .grows) f in
         let v = done .keeps fin scs f (body-read made body g inv ok) in

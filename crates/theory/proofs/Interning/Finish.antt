@@ -19,8 +19,8 @@ use Rattle.model.specs.Answer.{good}
 use Rattle.model.specs.Tree.{Rec, sameRec}
 use Rattle.model.specs.Shape.{fits, agrees}
 use Rattle.model.specs.Binding.{kind}
-use Rattle.model.specs.Intern.{Node, constant, unparsed, argument, func, operation, Sym, Scope, State, Out, symAt, isKey}
-use Rattle.model.specs.Intern.{lookupIn, lookup, unionDeps, push, alloc, finish}
+use Rattle.model.specs.Intern.{Node, constant, unparsed, argument, func, operation, Sym, Scope, State, Out, symAt}
+use Rattle.model.specs.Intern.{isKey, lookupIn, lookup, unionDeps, push, alloc, finish}
 use Rattle.laws.proofs.Apart.{none-some}
 use Rattle.laws.proofs.Holds.{Holds, holds-guard}
 use Rattle.laws.specs.Members.{In}
@@ -155,7 +155,7 @@ module _ {a b : State} {A : Args} {cur : ℕ} {Pre Mid : List Sym → List Scope
       ((fin : List Sym) (scs : List Scope) → Inv fin scs c A cur → Mid fin scs → Post fin scs → End fin scs) →
       Step a c A cur Pre End
   step-then {c} s t turn end = record {
-    grows = grow-then a b c (s .grows) (t .grows);
+    grows = grow-then (s .grows) (t .grows);
     keeps = λ fin scs f inv pre.
         let m = s .keeps fin scs (fits-back fin scs b c (t .grows) f) inv pre in
         let e = t .keeps fin scs f (m .0) (turn fin scs pre (m .1)) in

@@ -53,7 +53,7 @@ OneMade cur st A o =
     × (symCount (o .1) ≡ suc (symCount st))
     × (o .1 .scopes ≡ st .scopes)
 
-abbrev AllMade : ℕ → ArgList → State → Args → List ℕ × List ℕ × State → Type 0
+abbrev pub AllMade : ℕ → ArgList → State → Args → List ℕ × List ℕ × State → Type 0
 AllMade cur xs st A os =
     Step st (os .2) A cur Nothing (λ fin scs. ArgsMade fin (symCount st) (symCount (os .2)) (os .0))
     × (length (os .0) ≡ length xs)
@@ -143,7 +143,7 @@ allocArgs-keeps at cur r (x ∷ xs) st A =
     holds-bind _ _ _ _ (arg-made at cur r st A) λ o ho.
     holds-bind _ _ _ _ (allocArgs-keeps at cur r xs (o .1) A) λ os hos. (
       record {
-        grows = grow-then st (o .1) (os .2) (ho .0 .grows) (hos .0 .grows);
+        grows = grow-then (ho .0 .grows) (hos .0 .grows);
         keeps = λ fin scs f h u.
             let g = ho .0 .keeps fin scs (fits-back fin scs (o .1) (os .2) (hos .0 .grows) f) h tt in
             let k = hos .0 .keeps fin scs f (g .0) tt in

@@ -78,8 +78,8 @@ grow-same st st' e f = record {
   same-scopes = λ i l. rw f;
 }
 
-pub grow-then : (a b c : State) → Grow a b → Grow b c → Grow a c
-grow-then a b c g h = record {
+pub grow-then : {a b c : State} → Grow a b → Grow b c → Grow a c
+grow-then g h = record {
   more-syms = omega arith;
   more-scopes = omega arith;
   same-syms = λ i l. g .same-syms i l ∙ h .same-syms i (omega arith);

@@ -38,8 +38,8 @@ use Rattle.theory.proofs.Interning.Good.{lam-of}
 use Rattle.theory.specs.Inv.{Args, HasArg, argSyms, LamApart, Inv, Fits, Grow}
 use Rattle.theory.proofs.Interning.Inv.{has-arg, arg-in}
 use Rattle.theory.proofs.Interning.Inv.{grow-none, fits-back, out-low}
-use Rattle.theory.proofs.Interning.Push.{newSym, push-grows, PartsAt, push-parts, push-more, push-inv, unionDeps-covers}
-use Rattle.theory.proofs.Interning.Push.{unionDeps-from}
+use Rattle.theory.proofs.Interning.Push.{newSym, push-grows, PartsAt, push-parts, push-more, push-inv}
+use Rattle.theory.proofs.Interning.Push.{unionDeps-covers, unionDeps-from}
 use Rattle.theory.proofs.Interning.Finish.{Result, found-key, finish-cases}
 use Rattle.theory.proofs.Interning.Fresh.{ArgsMade, bindArgs-cases, bindArgs-old, bindArgs-new}
 use Rattle.theory.proofs.Interning.Scopes.{leave-inv, pair-of}

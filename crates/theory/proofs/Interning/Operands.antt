@@ -20,6 +20,7 @@ use Rattle.model.specs.Intern.{Sym, Scope, State, Env, Out, openThunk, closeThu
 use Rattle.model.specs.Intern.{rootScope, bindDef, internScoped}
 use Rattle.laws.proofs.Holds.{Holds, holds-bind, holds-map}
 use Rattle.laws.proofs.Members.{clash}
+use Rattle.laws.proofs.Walks.{if-holds}
 use Rattle.theory.proofs.Meaning.Mean.{meanAll}
 use Rattle.theory.specs.Checked.{Checked, CheckedIn}
 use Rattle.theory.proofs.Acceptance.Checked.{checked-head, checked-place}
@@ -64,7 +65,7 @@ module _ (cur : ℕ) (st : State) (A : Args) (env : Env) (u : Unfolding) where
   thunk-kept : (o : ℕ × State) → KeepsMeaning (openThunk cur st) A (scopeCount st) env u o →
       KeptIn true st A cur env u (o .0, closeThunk (o .1))
   thunk-kept o k = record {
-    grows = grow-then st (o .1) (closeThunk (o .1)) grows closes;
+    grows = grow-then grows closes;
     keeps = λ fin scs f inv ok.
         let f₁ = fits-back fin scs (o .1) (closeThunk (o .1)) closes f in
         let f₂ = fits-back fin scs (openThunk cur st) (o .1) (k .grows) f₁ in
@@ -74,7 +75,7 @@ module _ (cur : ℕ) (st : State) (A : Args) (env : Env) (u : Unfolding) where
   }
     where
       grows : Grow st (o .1)
-      grows = grow-then st (openThunk cur st) (o .1) (open-grows cur none ([] ∷ st .tables) st) (k .grows)
+      grows = grow-then (open-grows cur none ([] ∷ st .tables) st) (k .grows)
 
       closes : Grow (o .1) (closeThunk (o .1))
       closes = grow-same (o .1) (closeThunk (o .1)) refl refl
@@ -117,11 +118,8 @@ env-more i res h = env-add i res (λ a k. k) (λ j a k. inr (h .ids j a k)) h
 pub bindDef-env : {fin : List Sym} {n : ℕ} {env : Env} {A : Args} (t : Tree) {s : ℕ} →
     Result fin n A s → EnvOk fin n env A → EnvOk fin n (bindDef t s env) A
 unfolding bindDef
-bindDef-env {fin} {n} {env} {A} t {s} res h = go (isDef t)
-  where
-    go : (b : Bool) → EnvOk fin n (elim b [ true ↦ (idOf (top t), s) ∷ env | false ↦ env ]) A
-    go true = env-more (idOf (top t)) res h
-    go false = h
+bindDef-env {fin} {n} {env} {A} t {s} res h =
+    if-holds (λ e. EnvOk fin n e A) (isDef t) ((idOf (top t), s) ∷ env) env (env-more (idOf (top t)) res h) h
 
 -- ---- no children; a child, and then the others
 

@@ -1,6 +1,7 @@
 -- A new symbol keeps the invariant of interning, if what is asked of it holds of it (`push-inv`).
 --
--- In order: the state with one more symbol grows, and has it at the end (`push-grows`, `push-more`, `push-parts`); the invariant; the deps that a new symbol gets are those of its children, no more and no less.
+-- In order: the state with one more symbol grows, and has it at the end (`push-grows`, `push-more`, `push-parts`); the
+-- invariant; the deps that a new symbol gets are those of its children, no more and no less.
 -- The symbol of a key (Finish), an argument (Fresh) and a lambda (Lambda) are made so.
 -- Assumes nothing.
 use mathlib.Core.Path.{_≡_, refl, ap, sym, _∙_}

@@ -150,7 +150,7 @@ read-inv {st} inv = inv-same (st .tables) (st .memo) (suc (st .readings)) (λ i 
 read-kept : {st : State} {A : Args} {cur : ℕ} {env : Env} {u : Unfolding} {o : ℕ × State} →
     KeepsMeaning (read st) A cur env u o → KeepsMeaning st A cur env u o
 read-kept {st} {A} {cur} {o} k = record {
-  grows = grow-then st (read st) (o .1) (grow-same st (read st) refl refl) (k .grows);
+  grows = grow-then (grow-same st (read st) refl refl) (k .grows);
   keeps = λ fin scs f inv ok. k .keeps fin scs f (read-inv inv) ok;
 }
 

@@ -15,14 +15,16 @@ use borrow.Author.Tests.{ltb-true, ltb-false}
 use Rattle.model.specs.Lists.{last}
 use Rattle.model.specs.Tree.{Rec, Tree, top}
 use Rattle.model.specs.Binding.{Kind, kind, valUse, valDef, block, lambda, field, other, isDef, idOf, argsOf}
-use Rattle.model.specs.Intern.{Node, argument, func, operation, Sym, State, Out, Outs, Env, Kids, symAt, noSym, resolve}
-use Rattle.model.specs.Intern.{push, alloc, finish, allocArgs, withOpts, bindArgs, bindDef, openScope, pairProjection}
+use Rattle.model.specs.Intern.{Node, func, operation, Sym, State, Out, Outs, Env, Kids, symAt, noSym, resolve}
+use Rattle.model.specs.Intern.{finish, allocArgs, withOpts, bindArgs, bindDef, openScope, pairProjection}
 use Rattle.model.specs.Intern.{nodeOf, internLast, internGeneral, internField, internFunc, internKind}
 use Rattle.laws.proofs.Apart.{false-true}
-use Rattle.laws.proofs.Holds.{Holds, holds-bind, holds-guard, holds-map}
+use Rattle.laws.proofs.Walks.{if-holds}
+use Rattle.laws.proofs.Holds.{Holds, holds-bind, holds-map}
 use Rattle.theory.proofs.Acceptance.Records.{kind-shape}
 use Rattle.theory.specs.Good.{symCount, scopeCount}
 use Rattle.theory.proofs.Bounds.Steps.{open-more}
+use Rattle.theory.proofs.Interning.Fresh.{AllMade, allocArgs-keeps}
 use Rattle.theory.proofs.Interning.Reread.Later.{Tabled, Low, later-none, Calm, calm-still, calm-as}
 use Rattle.theory.proofs.Interning.Reread.Later.{calm-then, calm-map}
 use Rattle.theory.proofs.Interning.Reread.Finds.{Found, finish-found, found-low, finish-calm}
@@ -39,15 +41,9 @@ fits-more env n m l h i = omega (arith, h i)
 
 pub fits-def : (t : Tree) (x : ℕ) (env : Env) (n : ℕ) → Low n x → EnvFits env n → EnvFits (bindDef t x env) n
 unfolding bindDef resolve
-fits-def t x env n l h = go (isDef t)
-  where
-    one : (i : ℕ) (b : Bool) → Low n (elim b [ true ↦ x | false ↦ resolve env i ])
-    one i true = l
-    one i false = h i
-
-    go : (b : Bool) → EnvFits (elim b [ true ↦ (idOf (top t), x) ∷ env | false ↦ env ]) n
-    go true i = one i (eqb (idOf (top t)) i)
-    go false i = h i
+fits-def t x env n l h =
+    if-holds (λ e. EnvFits e n) (isDef t) ((idOf (top t), x) ∷ env) env
+    (λ i. if-holds (Low n) (eqb (idOf (top t)) i) x (resolve env i) l (h i)) h
 
 -- ---- what a reading owes
 
@@ -111,7 +107,8 @@ module _ (P : Type 0) (m : State → Outs) (s : State) (h : Holds (RereadsAll P 
         calm = λ p t e.
             let c = w .calm p t (omega (arith, w .rises, ap length (v .scopes-are))) in
             record {
-              calm = calm-then (λ (os : List ℕ × List ℕ × State). finish at cur r (os .0) [] (nodeOf r (os .1)) (os .2)) (c .calm)
+              calm = calm-then
+                  (λ (os : List ℕ × List ℕ × State). finish at cur r (os .0) [] (nodeOf r (os .1)) (os .2)) (c .calm)
                   (finish-calm (os .2) r (os .0) o (c .calm .tabled) v at cur [] (nodeOf r (os .1)));
               low = omega (arith, found-low (os .2) r (os .0) o (c .calm .tabled) v);
             };
@@ -230,22 +227,11 @@ module _ (at cur : ℕ) (r : Rec) (env : Env) (kids : Kids) (ks : List ℕ) wher
 
 -- ---- a lambda
 
-alloc-scopes : (at cur : ℕ) (r : Rec) (ks deps : List ℕ) (b : Bool) (nd : Node) (s : State) →
-    Holds (λ (o : ℕ × State). o .1 .scopes ≡ s .scopes) (alloc at cur r ks deps b nd s)
-unfolding alloc push
-alloc-scopes at cur r ks deps b nd s =
-    holds-guard (λ (o : ℕ × State). o .1 .scopes ≡ s .scopes) (ltb (symCount s) 512) 12 at _ λ e. refl
-
 args-scopes : (at cur : ℕ) (r : Rec) (xs : List (ℕ × List ℕ)) (s : State) →
     Holds (λ (os : List ℕ × List ℕ × State). os .2 .scopes ≡ s .scopes) (allocArgs at cur r xs s)
-unfolding allocArgs
-args-scopes at cur r [] s = refl
-args-scopes at cur r (x ∷ xs) s =
-    holds-bind (λ (o : ℕ × State). o .1 .scopes ≡ s .scopes)
-    (λ (os : List ℕ × List ℕ × State). os .2 .scopes ≡ s .scopes) _ _
-    (alloc-scopes at cur r [] (symCount s ∷ []) false argument s) λ o e.
-    holds-bind (λ (os : List ℕ × List ℕ × State). os .2 .scopes ≡ o .1 .scopes)
-    (λ (os : List ℕ × List ℕ × State). os .2 .scopes ≡ s .scopes) _ _ (args-scopes at cur r xs (o .1)) λ os f. f ∙ e
+args-scopes at cur r xs s =
+    holds-map (AllMade cur xs s []) (λ (os : List ℕ × List ℕ × State). os .2 .scopes ≡ s .scopes)
+    (allocArgs at cur r xs s) (allocArgs-keeps at cur r xs s []) λ os h. h .2
 
 -- its body's scope is there for good
 lambda-rises : (at cur : ℕ) (r : Rec) (env : Env) (kids : Kids) (s : State) → KidsReread kids →
@@ -286,7 +272,8 @@ module _ (at cur : ℕ) (r : Rec) (env : Env) (kids : Kids) (keep : KidsReread k
             let d = v .calm (fits-more env (symCount s) (symCount (os .2)) (c .calm .later .more) p, c .low)
             (c .calm .tabled) (omega (arith, w .rises, v .rises)) in
             record {
-              calm = calm-then (λ (os : List ℕ × List ℕ × State). internField at cur r env kids (os .0) (os .2)) (c .calm) (d .calm);
+              calm = calm-then (λ (os : List ℕ × List ℕ × State). internField at cur r env kids (os .0) (os .2))
+                  (c .calm) (d .calm);
               low = d .low;
             };
       }
@@ -298,8 +285,7 @@ module _ (at cur : ℕ) (r : Rec) (env : Env) (kids : Kids) (keep : KidsReread k
   kind-rereads valUse e s = record {
     rises = omega arith;
     calm = λ p t f. record {
-      calm = calm-still refl t (later-none s)
-          (λ u l. refl);
+      calm = calm-still refl t (later-none s) (λ u l. refl);
       low = p (idOf r);
     };
   }

@@ -109,7 +109,8 @@ module _ (t : Tree) (env : Env) (cur : ℕ) (child : ℕ → State → Out) (res
             (fits-more env (symCount s) (symCount (o .1)) (c .calm .later .more) p) in
             let d = v .calm env-fits (c .calm .tabled) (omega (arith, w .rises, v .rises)) in
             record {
-              calm = calm-then (λ (o : ℕ × State). rest (o .0) (o .1) >>= λ os. good (o .0 ∷ os .0, os .1, os .2)) (c .calm)
+              calm = calm-then
+                  (λ (o : ℕ × State). rest (o .0) (o .1) >>= λ os. good (o .0 ∷ os .0, os .1, os .2)) (c .calm)
                   (calm-map (λ (os : List ℕ × List ℕ × State). (o .0 ∷ os .0, os .1, os .2)) (d .calm));
               low = last-low (symCount (os .2)) (o .0) (os .0) (omega (arith, c .low, d .calm .later .more)) (d .low);
               no-thunks = d .no-thunks;
