@@ -111,23 +111,11 @@ module _ (g : Graph) (n : ℕ) (f h : Builder) (agree : Agree n f h) where
         let rest = op-same sc env last op (suc j) ks [] (λ x m. low x (inr m)) in
         ap₂ cons (same-at k (low k (inl refl)) sc env last) rest
     op-same sc env last op j (k ∷ ks) (b ∷ brs) low =
-        go (thunked op j) refl (op-same sc env last op (suc j) ks brs (λ x m. low x (inr m)))
-        (op-same sc env last op (suc j) ks (b ∷ brs) (λ x m. low x (inr m)))
-      where
-        kids : Builder → ℕ → List ℕ → List ℕ → Trees
-        kids z i is cs = buildOp g z sc env last op i is cs
-
-        go : (t : Bool) → thunked op j ≡ t → kids f (suc j) ks brs ≡ kids h (suc j) ks brs →
-            kids f (suc j) ks (b ∷ brs) ≡ kids h (suc j) ks (b ∷ brs) →
-            kids f j (k ∷ ks) (b ∷ brs) ≡ kids h j (k ∷ ks) (b ∷ brs)
-        go true e p q =
-            op-thunk g f sc env last op j k ks b brs e
-            ∙ (ap₂ cons (process-same k b env last (low k (inl refl))) p
-            ∙ sym (op-thunk g h sc env last op j k ks b brs e))
-        go false e p q =
-            op-eager g f sc env last op j k ks (b ∷ brs) e
-            ∙ (ap₂ cons (same-at k (low k (inl refl)) sc env last) q
-            ∙ sym (op-eager g h sc env last op j k ks (b ∷ brs) e))
+        let first = low k (inl refl) in
+        let others : Under n ks = λ x m. low x (inr m) in
+        ap₂ (λ (ts us : Trees). elim (thunked op j) as (λ z. Trees) [ true ↦ ts | false ↦ us ])
+        (ap₂ cons (process-same k b env last first) (op-same sc env last op (suc j) ks brs others))
+        (ap₂ cons (same-at k first sc env last) (op-same sc env last op (suc j) ks (b ∷ brs) others))
 
 -- ---- a symbol's tree
 

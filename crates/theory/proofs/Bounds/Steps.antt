@@ -122,7 +122,8 @@ module _ (B : ℕ → Type 0) (at cur : ℕ) (r : Rec) (has : RecHas B r) where
       tables : (i : ℕ) → InAny i (next .tables) → i < length (st .syms ++ (new ∷ []))
       tables =
           if-holds (λ ts. (i : ℕ) → InAny i ts → i < length (st .syms ++ (new ∷ []))) b (enter n (st .tables))
-          (st .tables) (enter-low _ n (st .tables) (omega (arith, more)) (λ i k. omega (arith, h .tables-low i k, more)))
+          (st .tables)
+          (enter-low _ n (st .tables) (omega (arith, more)) (λ i k. omega (arith, h .tables-low i k, more)))
           (λ i k. omega (arith, h .tables-low i k, more))
 
       kept : length (next .tables) ≡ length (st .tables)

@@ -154,7 +154,13 @@ module _ (B : ℕ → Type 0) (b0 : B 0) (b1 : B 1) (b2 : B 2) where
         (λ cr en s j d hs ls es rs ps. all-keep ts (inside r ++ ids) (has .1) (fine .2) (known .1) (r .opcode)
         0 (suc at) cr en s j d hs ls es rs ps)
         (read st) k c s l en rm' (kind (r .shape)) refl) λ o w.
-        one-then (record { sound = s; room = rm'; more-syms = omega arith; more-scopes = omega arith; tables-kept = refl }) w
+        one-then (record {
+          sound = s;
+          room = rm';
+          more-syms = omega arith;
+          more-scopes = omega arith;
+          tables-kept = refl;
+        }) w
 
     pub all-keep : (ts : Trees) (ids : List ℕ) → TreesHave B ts → Fines ts → Clear (unboundIn ts ids) →
         (op j at cur : ℕ) (env : Env) (st : State) (k c : ℕ) → StateSound B st → cur < scopeCount st →

@@ -22,7 +22,7 @@ use Rattle.model.specs.Materialize.{processScope, buildOp, argLit, argEnv, buil
 use Rattle.laws.proofs.Apart.{none-some}
 use Rattle.laws.specs.Members.{Every}
 use Rattle.laws.proofs.Walks.{if-holds, under-holds, every-cons, every-join}
-use Rattle.theory.proofs.Building.Given.{given-cases}
+use Rattle.theory.proofs.Building.Given.{ids-low-def}
 use Rattle.laws.specs.ArgLists.{optsIn}
 use Rattle.laws.proofs.Defining.{along}
 use Rattle.laws.proofs.Trees.{sizes-snoc, def-size}
@@ -120,17 +120,11 @@ wrap-has l (cons d (cons e ds)) r h k f =
 abbrev IdsTo : Env → ℕ → Type 0
 IdsTo env last = (s i : ℕ) → idGiven env s ≡ some i → i ≤ last
 
-ids-def : (s : ℕ) (env : Env) (last : ℕ) → IdsTo env last → IdsTo ((s, suc last) ∷ env) (suc last)
-ids-def s env last h t i e = elim (given-cases s (suc last) env t i e) [
-  | inl w ↦ omega (arith, w .1)
-  | inr k ↦ omega (arith, h t i k)
-]
-
 ids-args : (xs : List (ℕ × List ℕ)) (env : Env) (last : ℕ) → IdsTo env last →
     IdsTo (argEnv last xs env) (last + length xs)
 ids-args [] env last h t i e = omega (arith, h t i e)
 ids-args (x ∷ xs) env last h t i e =
-    omega (arith, ids-args xs ((x .0, suc last) ∷ env) (suc last) (ids-def (x .0) env last h) t i e)
+    omega (arith, ids-args xs ((x .0, suc last) ∷ env) (suc last) (ids-low-def env last (x .0) h) t i e)
 
 -- a builder whose trees are of bytes
 abbrev Writes : Builder → ℕ → Type 0
@@ -154,7 +148,7 @@ module _ (g : Graph) (f : Builder) (ok : (s : ℕ) → Writes f s) where
       (λ s order env last e d rest ids l low.
       let v = f s sc env last in
       let size-is = def-size (suc last) v in
-      let w = rest (ids-def s env last ids) (l + 16 * size (valDefOf (suc last) v)) (omega arith) in
+      let w = rest (ids-low-def env last s ids) (l + 16 * size (valDefOf (suc last) v)) (omega arith) in
       record {
         ids = w .ids;
         low = omega (arith, w .low);

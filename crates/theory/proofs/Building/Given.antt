@@ -49,7 +49,7 @@ pub none-given : (s i : ℕ) → Given [] s i → ⊥
 unfolding idGiven
 none-given s i e = none-some e
 
-pub given-cases : (s j : ℕ) (env : Env) (t i : ℕ) → Given ((s, j) ∷ env) t i → ((s ≡ t) × (j ≡ i)) ⊎ Given env t i
+given-cases : (s j : ℕ) (env : Env) (t i : ℕ) → Given ((s, j) ∷ env) t i → ((s ≡ t) × (j ≡ i)) ⊎ Given env t i
 unfolding idGiven
 given-cases s j env t i = go (eqb s t) refl
   where
@@ -166,20 +166,23 @@ module _ (env : Env) (last s : ℕ) where
       go (inl e) = rw (eq-eqb (suc last) i (e .1), meaning) (hu d ∙ ap (λ (z : ℕ). mean fin z ρ d) (e .0))
       go (inr e) = rw (ne-eqb (suc last) i (λ k. absurd (omega (arith, lows t i e))), meaning) (h t i e d)
 
+  -- none is above the last
+  pub ids-low-def : ((t i : ℕ) → Given env t i → i ≤ last) → (t i : ℕ) → Given withDef t i → i ≤ suc last
+  ids-low-def h t i e = elim (given-cases s (suc last) env t i e) [
+    | inl w ↦ omega (arith, w .1)
+    | inr k ↦ omega (arith, h t i k)
+  ]
+
   module _ (fin : List Sym) (scs : List Scope) (n : ℕ) (good : Goods fin scs n) where
     pub env-def : s < n → noArg (nodeAt fin s) ≡ true → Covers fin env s → (r : ℕ) → EnvFor fin n env last r →
         EnvFor fin n withDef (suc last) r
     env-def l na cov r h = record {
-      ids-low = λ t i e. ids-low t i (given-cases s (suc last) env t i e);
+      ids-low = ids-low-def (h .ids-low);
       low = λ t i e. low t i (given-cases s (suc last) env t i e);
       covers = λ t i e a d. has-more s (suc last) env a (covers t i (given-cases s (suc last) env t i e) a d);
       outer = λ x lx xs b e a m q. outer x lx xs b e a m (q .0) (given-cases s (suc last) env a (q .0) (q .1));
     }
       where
-        ids-low : (t i : ℕ) → ((s ≡ t) × (suc last ≡ i)) ⊎ Given env t i → i ≤ suc last
-        ids-low t i (inl e) = omega (arith, e .1)
-        ids-low t i (inr e) = omega (arith, h .ids-low t i e)
-
         low : (t i : ℕ) → ((s ≡ t) × (suc last ≡ i)) ⊎ Given env t i → t < n
         low t i (inl e) = omega (arith, e .0)
         low t i (inr e) = h .low t i e
