@@ -3,11 +3,10 @@
 --
 -- In order: checks 4 and 5 of rows and of trees, both ways; all checks of a forest, and what `accept` gives
 -- (`accepted`).
--- Interning starts from `accepted`. That the written bytes are accepted rests on `fines-rows`, `fine-fits` and
--- `fine-agrees`.
+-- Interning starts from `accepted`. That the written bytes are accepted rests on `fines-rows`.
 -- Assumes nothing.
 use mathlib.Core.Path.{_≡_, ap, subst}
-use mathlib.Core.Bool.{true, false, not}
+use mathlib.Core.Bool.{false, not}
 use mathlib.Core.List.{List, [], _∷_, _++_, map}
 use Prim.Native.Nat.{ℕ, _≤_}
 use native.Mathlib.Omega.{arith}
@@ -27,55 +26,43 @@ use Rattle.theory.specs.Checked.{Fine, Fines, CheckedIn}
 
 -- ---- checks 4 and 5, of rows and of trees
 
+-- each row passes both
 abbrev pub AllFine : List Row → Type 0
-AllFine [] = Unit {0}
-AllFine (r ∷ rs) = (fits r ≡ true) × (agrees (r .rec) ≡ true) × AllFine rs
+AllFine rs = Clear (map (λ r. not (fits r)) rs) × Clear (map (λ r. not (agrees (r .rec))) rs)
 
-fine-left : (rs qs : List Row) → AllFine (rs ++ qs) → AllFine rs
-fine-left [] qs h = tt
-fine-left (r ∷ rs) qs h = (h .0, h .1, fine-left rs qs (h .2))
-
-fine-right : (rs qs : List Row) → AllFine (rs ++ qs) → AllFine qs
-fine-right [] qs h = h
-fine-right (r ∷ rs) qs h = fine-right rs qs (h .2)
+fine-split : (rs qs : List Row) → AllFine (rs ++ qs) → AllFine rs × AllFine qs
+fine-split [] qs h = ((tt, tt), h)
+fine-split (r ∷ rs) qs h =
+    let w = fine-split rs qs (h .0 .1, h .1 .1) in
+    (((h .0 .0, w .0 .0), (h .1 .0, w .0 .1)), w .1)
 
 fine-join : (rs qs : List Row) → AllFine rs → AllFine qs → AllFine (rs ++ qs)
 fine-join [] qs h k = k
-fine-join (r ∷ rs) qs h k = (h .0, h .1, fine-join rs qs (h .2) k)
+fine-join (r ∷ rs) qs h k = let w = fine-join rs qs (h .0 .1, h .1 .1) k in ((h .0 .0, w .0), (h .1 .0, w .1))
 
 mutual
   unfolding rows
 
   rows-fine : (t : Tree) → AllFine (rows t) → Fine t
-  rows-fine (node r ts) h = (h .0, h .1, rows-fines ts (h .2))
+  rows-fine (node r ts) h = (not-false _ (h .0 .0), not-false _ (h .1 .0), rows-fines ts (h .0 .1, h .1 .1))
 
   rows-fines : (ts : Trees) → AllFine (rowsOf ts) → Fines ts
   rows-fines nil h = tt
   rows-fines (cons t ts) h =
-      (rows-fine t (fine-left (rows t) (rowsOf ts) h), rows-fines ts (fine-right (rows t) (rowsOf ts) h))
+      let w = fine-split (rows t) (rowsOf ts) h in
+      (rows-fine t (w .0), rows-fines ts (w .1))
 
 mutual
   unfolding rows
 
   fine-rows : (t : Tree) → Fine t → AllFine (rows t)
-  fine-rows (node r ts) h = (h .0, h .1, fines-rows ts (h .2))
+  fine-rows (node r ts) h =
+      let w = fines-rows ts (h .2) in
+      ((ap not (h .0), w .0), (ap not (h .1), w .1))
 
   pub fines-rows : (ts : Trees) → Fines ts → AllFine (rowsOf ts)
-  fines-rows nil h = tt
+  fines-rows nil h = (tt, tt)
   fines-rows (cons t ts) h = fine-join (rows t) (rowsOf ts) (fine-rows t (h .0)) (fines-rows ts (h .1))
-
-clear-fine : (rs : List Row) → Clear (map (λ r. not (fits r)) rs) → Clear (map (λ r. not (agrees (r .rec))) rs) →
-    AllFine rs
-clear-fine [] h k = tt
-clear-fine (r ∷ rs) h k = (not-false (fits r) (h .0), not-false (agrees (r .rec)) (k .0), clear-fine rs (h .1) (k .1))
-
-pub fine-fits : (rs : List Row) → AllFine rs → Clear (map (λ r. not (fits r)) rs)
-fine-fits [] h = tt
-fine-fits (r ∷ rs) h = (ap not (h .0), fine-fits rs (h .2))
-
-pub fine-agrees : (rs : List Row) → AllFine rs → Clear (map (λ r. not (agrees (r .rec))) rs)
-fine-agrees [] h = tt
-fine-agrees (r ∷ rs) h = (ap not (h .1), fine-agrees rs (h .2))
 
 -- ---- a forest whose checks all pass
 
@@ -86,10 +73,8 @@ module _ (bs : List ℕ) (pass : Passes (checks bs)) where
 
   fine-trees : Fines (treesOf bs)
   unfolding checks check4 check5
-  fine-trees = rows-fines (treesOf bs) (rw (closed .1) fine)
-    where
-      fine : AllFine (rowsIn bs)
-      fine = clear-fine (rowsIn bs) (first-clear _ (pass .1 .1 .0)) (first-clear _ (pass .1 .1 .1 .0))
+  fine-trees =
+      rows-fines (treesOf bs) (rw (closed .1) (first-clear _ (pass .1 .1 .0), first-clear _ (pass .1 .1 .1 .0)))
 
   some-trees : 1 ≤ many (treesOf bs)
   unfolding checks

@@ -33,7 +33,7 @@ use Rattle.laws.proofs.Rows.{sizes-rows, grow-rows}
 use Rattle.laws.proofs.Lengths.{row-length, directory-length, forest-length}
 use Rattle.theory.specs.Checked.{Checked, CheckedIn}
 use Rattle.theory.proofs.Acceptance.Checked.{checked-join, nil-checked}
-use Rattle.theory.proofs.Acceptance.Accept.{AllFine, fines-rows, fine-fits, fine-agrees}
+use Rattle.theory.proofs.Acceptance.Accept.{AllFine, fines-rows}
 
 -- ---- records
 
@@ -217,7 +217,7 @@ module _ (t : Tree) (c : Checked t false []) (few : size t ≤ 256) (short : len
   unfolding checks check4 check5 check8 check9 check10
   passes =
       rw (trees-are, rows-are)
-      (passes-2 also passes-3 also clear-first _ (fine-fits rs all-fine) also clear-first _ (fine-agrees rs all-fine)
+      (passes-2 also passes-3 also clear-first _ (all-fine .0) also clear-first _ (all-fine .1)
       also
       passes-6 also passes-7 also
       clear-first _ (one-checked .placed) also clear-first _ (one-checked .fresh) also clear-first _

@@ -34,7 +34,7 @@ use Rattle.theory.proofs.Meaning.Coincide.{mean-lam, mean-plain}
 use Rattle.theory.specs.Checked.{FitsWith, Checked, CheckedIn}
 use Rattle.theory.proofs.Acceptance.Checked.{plain-join, nil-checked}
 use Rattle.theory.specs.Good.{noArg, argsAt, out, PairOk, PairsOk, Plain, Lam, NodeOk, Goods, depsAt, symKids, nodeAt, recAt, scopeAt}
-use Rattle.theory.proofs.Interning.Good.{lam-of}
+use Rattle.theory.proofs.Interning.Good.{lam-of, pairs-none}
 use Rattle.theory.proofs.Building.Written.{use-unfold, use-checked, plain-unfold, plain-checked, lam-unfold}
 use Rattle.theory.proofs.Building.Written.{lam-checked}
 use Rattle.theory.proofs.Building.Numbered.{numbered, numbered-opts, numbered-high, numbered-once, args-read}
@@ -75,10 +75,6 @@ module _ (g : Graph) (n : ℕ) (sound : GraphSound g n) where
     count = ap suc (q .count);
   }
 
-  pairs-none : (op j : ℕ) (ks : List ℕ) → PairsOk fin scs op j ks []
-  pairs-none op j [] = tt
-  pairs-none op j (k ∷ ks) = tt
-
   -- ---- a symbol that binds nothing
 
   plain-built : (env : Env) (last s : ℕ) (ts : Trees) → s < n → Plain fin s → noArg (nodeAt fin s) ≡ true →
@@ -118,7 +114,7 @@ module _ (g : Graph) (n : ℕ) (sound : GraphSound g n) where
         let lk = low k (inl refl) in
         let ek = env-lower fin n env last s k (omega arith) eb in
         built-cons env last k ks _ _ (right k lk sc env last ek (cov k (inl refl)))
-        (kids-built sc op (suc j) ks [] (λ i m. low i (inr m)) (λ i m. cov i (inr m)) (pairs-none op (suc j) ks))
+        (kids-built sc op (suc j) ks [] (λ i m. low i (inr m)) (λ i m. cov i (inr m)) (pairs-none fin scs op (suc j) ks))
     kids-built sc op j (k ∷ ks) (b ∷ brs) low cov p =
         go (thunked op j) p (λ cs. kids-built sc op (suc j) ks cs (λ i m. low i (inr m)) (λ i m. cov i (inr m)))
       where

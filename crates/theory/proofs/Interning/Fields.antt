@@ -23,7 +23,8 @@ use Rattle.model.specs.Intern.{pairProjection, internGeneral, internField}
 use Rattle.laws.proofs.Holds.{Holds, holds-bind, holds-map}
 use Rattle.laws.proofs.Members.{in-one}
 use Rattle.theory.proofs.Acceptance.Records.{field-fits}
-use Rattle.theory.specs.Good.{recAt, symCount, PairsOk, SymOk}
+use Rattle.theory.specs.Good.{recAt, symCount, SymOk}
+use Rattle.theory.proofs.Interning.Good.{pairs-none}
 use Rattle.theory.specs.Inv.{Args, fieldRec, FieldOk, Inv}
 use Rattle.theory.proofs.Interning.Inv.{env-later, grow-none, grow-same, key-later, recall-cases, inv-same}
 use Rattle.theory.proofs.Interning.Finish.{Result, Made, key-made, Step, finish-plain, step-then, result-later}
@@ -164,11 +165,7 @@ module _
 
       -- not 1 or 2: an operation like others
       rest : Holds P (finish at cur r (os .0) [] (operation []) (os .2))
-      rest = finish-keeps at (operation []) plain k λ fin scs w. no-thunks fin scs (os .0)
-        where
-          no-thunks : (fin : List Sym) (scs : List Scope) (ks : List ℕ) → PairsOk fin scs (r .opcode) 0 ks []
-          no-thunks fin scs [] = tt
-          no-thunks fin scs (x ∷ xs) = tt
+      rest = finish-keeps at (operation []) plain k λ fin scs w. pairs-none fin scs (r .opcode) 0 (os .0)
 
       -- of a Tuple: the input is read again
       again : Holds P (internGeneral at cur r (kids cur env (os .2)))

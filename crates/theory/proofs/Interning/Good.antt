@@ -10,7 +10,7 @@ use mathlib.Core.List.{List, [], _∷_}
 use Prim.Native.Nat.{ℕ}
 use Rattle.model.specs.Binding.{kind}
 use Rattle.model.specs.Intern.{Node, constant, unparsed, argument, func, operation, Sym, Scope}
-use Rattle.theory.specs.Good.{recAt, symKids, depsAt, nodeAt, isPlain, noArg, Plain, Lam, NodeOk, SymOk}
+use Rattle.theory.specs.Good.{recAt, symKids, depsAt, nodeAt, isPlain, noArg, PairsOk, Plain, Lam, NodeOk, SymOk}
 use Rattle.laws.proofs.Apart.{false-true}
 use Rattle.laws.specs.Members.{In}
 use Rattle.laws.proofs.Members.{clash}
@@ -49,3 +49,8 @@ module _ (fin : List Sym) (scs : List Scope) (i : ℕ) where
       go : In k (h .body ∷ []) → In a (depsAt fin i) ⊎ In a (symsIn xs)
       go (inl e) = h .cover a (rw e at la)
       go (inr n) = absurd n
+
+-- where no scope is left, no operand is a thunk
+pub pairs-none : (fin : List Sym) (scs : List Scope) (op j : ℕ) (ks : List ℕ) → PairsOk fin scs op j ks []
+pairs-none fin scs op j [] = tt
+pairs-none fin scs op j (k ∷ ks) = tt
