@@ -1,5 +1,6 @@
 -- Laws of what code relies on at every point of interning (`Sound`, `Room`).
--- In order: parts of a list; what readings pay for; the limits that follow; from one state to a later one. Steps and Kinds keep both at each step, Trees through a tree.
+-- In order: parts of a list; what readings pay for; the limits that follow; from one state to a later one, and what a
+-- step gives there. Steps and Kinds keep both at each step, Trees through a tree.
 -- B is a property of numbers, such as being a byte; `Sound` carries it along for each stored record.
 -- Assumes nothing.
 use mathlib.Core.Path.{_≡_, refl, _∙_}
@@ -86,6 +87,7 @@ pub record KeepsAll (B : ℕ → Type 0) (st : State) (k c n op j : ℕ) (os : L
   pub branches : Under (scopeCount (os .2)) (os .1)
   pub thunks-are : length (os .1) ≡ thunks op j (os .0)
 
+-- these after a step, and with less room
 pub one-then : {B : ℕ → Type 0} {st st' : State} {k c j d : ℕ} {o : ℕ × State} → Keeps B st st' k c →
     KeepsOne B st' j d o → KeepsOne B st j d o
 one-then g w = record { keeps = keeps-then g (w .keeps); low = w .low }

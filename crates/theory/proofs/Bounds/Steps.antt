@@ -186,6 +186,7 @@ module _ (B : ℕ → Type 0) (at cur : ℕ) (r : Rec) (has : RecHas B r) where
 
 -- ---- projections
 
+-- where a and b are low, and what was remembered before
 pub recall-low : (p a b : ℕ) (st : State) (n : ℕ) → a < n → b < n →
     ((q x y : ℕ) → recall (st .memo) q ≡ some (x, y) → (x < n) × (y < n)) →
     (q x y : ℕ) → recall (remember p a b st .memo) q ≡ some (x, y) → (x < n) × (y < n)

@@ -53,8 +53,8 @@ use-has i l =
 def-has : (i : ℕ) (v : Tree) → i < 4294967296 → TreeHas Byte v → TreeHas Byte (valDefOf i v)
 unfolding valDefOf
 def-has i v l h =
-    let lit = every-join Byte (put32 i) (0 ∷ []) (id-has i l)
-    (every-cons Byte 0 [] (omega arith) (λ x i. absurd i)) in
+    let zero-has = every-cons Byte 0 [] (omega arith) (λ x i. absurd i) in
+    let lit = every-join Byte (put32 i) (0 ∷ []) (id-has i l) zero-has in
     (record { shape-has = omega arith; opcode-has = omega arith; aux-has = omega arith; lit-has = lit }, (h, tt))
 
 -- ---- definitions and blocks
@@ -132,7 +132,7 @@ Writes f s =
     (sc : ℕ) (env : Env) (last : ℕ) → IdsTo env last → Fit last (size (f s sc env last)) → TreeHas Byte
     (f s sc env last)
 
--- definitions from `last` on; their ids and those in force are at most as the number of records allows
+-- of definitions from `last` on: no id after them is above the last, and the last is as low as their records allow
 record DefinedHas (last : ℕ) (d : Defined) : Type 0 where
   ids : IdsTo (d .env) (d .last)
   low : d .last ≤ last + 16 * sizes (d .defs)

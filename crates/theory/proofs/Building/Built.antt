@@ -114,7 +114,8 @@ module _ (g : Graph) (n : ℕ) (sound : GraphSound g n) where
         let lk = low k (inl refl) in
         let ek = env-lower fin n env last s k (omega arith) eb in
         built-cons env last k ks _ _ (right k lk sc env last ek (cov k (inl refl)))
-        (kids-built sc op (suc j) ks [] (λ i m. low i (inr m)) (λ i m. cov i (inr m)) (pairs-none fin scs op (suc j) ks))
+        (kids-built sc op (suc j) ks [] (λ i m. low i (inr m)) (λ i m. cov i (inr m))
+        (pairs-none fin scs op (suc j) ks))
     kids-built sc op j (k ∷ ks) (b ∷ brs) low cov p =
         go (thunked op j) p (λ cs. kids-built sc op (suc j) ks cs (λ i m. low i (inr m)) (λ i m. cov i (inr m)))
       where

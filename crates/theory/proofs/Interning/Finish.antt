@@ -1,8 +1,9 @@
 -- The symbol of a key, found or made: it has the record and children that were sought, and the invariant is kept.
 --
--- In order: what a search finds is in a table and has the key; results, what a step owes (`Result`, `Made`, `Step`),
--- and steps one after the other (`step-then`); the symbol of a plain record (`finish-plain`). Keep and Fields take the
--- last for every record that is no lambda; a lambda's symbol is found or made likewise, in Lambda.
+-- In order: what a search finds is in a table and has the key (`found-key`); a symbol is found or made (`finish-cases`);
+-- results, what a step owes (`Result`, `Made`, `Step`), and steps one after the other (`step-then`); the symbol of a
+-- plain record (`finish-plain`). Keep and Fields take the last for every record that is no lambda; a lambda's symbol is
+-- found or made likewise, in Lambda.
 -- Assumes nothing.
 use mathlib.Core.Path.{_≡_, refl, ap, sym, _∙_}
 use mathlib.Core.Logic.{inl, inr}
