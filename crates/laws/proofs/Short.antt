@@ -31,7 +31,7 @@ abbrev minus : ℕ → List ℕ → List ℕ
 minus n [] = []
 minus n (x ∷ xs) = elim (eqb x n) [ true ↦ xs | false ↦ x ∷ minus n xs ]
 
--- so far as it has n at most once: all but n are left, each once
+-- what is left of a list without n: all but one at least, numbers below n, each once
 abbrev Left : ℕ → List ℕ → List ℕ → Type 0
 Left n xs ys = (length xs ≤ suc (length ys)) × ((x : ℕ) → In x ys → In x xs × (x < n)) × Once ys
 
