@@ -37,25 +37,22 @@ module _ (bs : List ℕ) (p : ℕ) where
   unfolding accept checks checked unless
   refused-2 e = rw e
 
-  module _ (two : check2 bs ≡ none) where
-    pub refused-3 : check3 bs ≡ some p → refused 3 p ≡ accept bs
+  pub refused-3 : check2 bs ≡ none → check3 bs ≡ some p → refused 3 p ≡ accept bs
+  unfolding accept checks checked unless
+  refused-3 two e = rw (two, e)
+
+  module _ (laid : Laid bs) where
+    pub refused-4 : check4 bs ≡ some p → refused 4 p ≡ accept bs
     unfolding accept checks checked unless
-    refused-3 e = rw (two, e)
+    refused-4 e = rw (laid .header, laid .directory, e)
 
-    module _ (three : check3 bs ≡ none) where
-      pub refused-4 : check4 bs ≡ some p → refused 4 p ≡ accept bs
-      unfolding accept checks checked unless
-      refused-4 e = rw (two, three, e)
+    pub refused-5 : check4 bs ≡ none → check5 bs ≡ some p → refused 5 p ≡ accept bs
+    unfolding accept checks checked unless
+    refused-5 four e = rw (laid .header, laid .directory, four, e)
 
-      module _ (four : check4 bs ≡ none) where
-        pub refused-5 : check5 bs ≡ some p → refused 5 p ≡ accept bs
-        unfolding accept checks checked unless
-        refused-5 e = rw (two, three, four, e)
-
-        module _ (five : check5 bs ≡ none) where
-          pub refused-6 : check6 bs ≡ some p → refused 6 p ≡ accept bs
-          unfolding accept checks checked unless
-          refused-6 e = rw (two, three, four, five, e)
+    pub refused-6 : check4 bs ≡ none → check5 bs ≡ none → check6 bs ≡ some p → refused 6 p ≡ accept bs
+    unfolding accept checks checked unless
+    refused-6 four five e = rw (laid .header, laid .directory, four, five, e)
 
 -- ---- 7 to 10
 

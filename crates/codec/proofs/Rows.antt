@@ -2,16 +2,17 @@
 -- In order: a record made of its fields; what is left of a test of all rows gives the whole.
 -- Assumes nothing.
 use Prim.Native.Nat.{ℕ, _+_, _<_, _≤_}
-use mathlib.Core.Path.{_≡_, ap, _∙_}
+use mathlib.Core.Path.{_≡_, refl, sym, ap, _∙_}
 use mathlib.Core.Bool.{Bool, true, false, not}
 use mathlib.Core.Option.{Option, none, some}
-use mathlib.Core.List.{List, map}
+use mathlib.Core.List.{List, _∷_, map}
+use native.Mathlib.Omega.{arith}
 use lib.ListN.{drop}
 use Rattle.model.specs.Lists.{first}
 use Rattle.model.specs.Tree.{Rec, rec, Row}
 use Rattle.model.specs.Shape.{fits, agrees}
 use Rattle.model.specs.Forest.{recordCount, rowsIn, check4, check5}
-use Rattle.record.specs.Record.{rowAt}
+use Rattle.record.specs.Record.{Laid, rowAt}
 use Rattle.walk.specs.Walk.{shift}
 use Rattle.walk.proofs.Bridge.{rows-at, rows-end}
 use Rattle.walk.proofs.Steps.{shift-zero, shift-hit, shift-miss}
@@ -38,25 +39,43 @@ misfit r = not (fits r)
 abbrev pub disagrees : Row → Bool
 disagrees r = not (agrees (r .rec))
 
-pub start-4 : (bs : List ℕ) → rowsLeft misfit bs 0 ≡ check4 bs
+-- of such a test of all rows, those of the rows before record i said false
+pub record Testing (f : Row → Bool) (all : Option ℕ) (bs : List ℕ) (n i : ℕ) : Type 0 where
+  pub laid : Laid bs
+  pub count : n ≡ recordCount bs
+  pub reached : i ≤ n
+  pub left : rowsLeft f bs i ≡ all
+
+pub start-4 : (bs : List ℕ) (n : ℕ) → Laid bs → n ≡ recordCount bs → Testing misfit (check4 bs) bs n 0
 unfolding check4
-start-4 bs = shift-zero (first (map misfit (rowsIn bs)))
+start-4 bs n h e =
+    record { laid = h; count = e; reached = omega arith; left = shift-zero (first (map misfit (rowsIn bs))) }
 
-pub start-5 : (bs : List ℕ) → rowsLeft disagrees bs 0 ≡ check5 bs
+pub start-5 : (bs : List ℕ) (n : ℕ) → Laid bs → n ≡ recordCount bs → Testing disagrees (check5 bs) bs n 0
 unfolding check5
-start-5 bs = shift-zero (first (map disagrees (rowsIn bs)))
+start-5 bs n h e =
+    record { laid = h; count = e; reached = omega arith; left = shift-zero (first (map disagrees (rowsIn bs))) }
 
-module _ (f : Row → Bool) (bs : List ℕ) (i : ℕ) where
-  pub rows-hit : i < recordCount bs → f (rowAt bs i) ≡ true → rowsLeft f bs i ≡ some i
-  rows-hit l e =
-      ap (λ (z : List Row). shift i (first (map f z))) (rows-at bs i l)
-      ∙ shift-hit i (f (rowAt bs i)) (map f (drop (i + 1) (rowsIn bs))) e
+module _ {f : Row → Bool} {all : Option ℕ} {bs : List ℕ} {n i : ℕ} (h : Testing f all bs n i) where
+  -- the test of record i, and those after it
+  rows-now : i < n → (b : Bool) → f (rowAt bs i) ≡ b → shift i (first (b ∷ map f (drop (i + 1) (rowsIn bs)))) ≡ all
+  rows-now l b e =
+      ap (λ (z : Bool). shift i (first (z ∷ map f (drop (i + 1) (rowsIn bs))))) (sym e)
+      ∙ ap (λ (z : List Row). shift i (first (map f z))) (sym (rows-at bs i (omega (arith, h .count))))
+      ∙ h .left
 
-  pub rows-miss : i < recordCount bs → f (rowAt bs i) ≡ false → rowsLeft f bs i ≡ rowsLeft f bs (i + 1)
-  rows-miss l e =
-      ap (λ (z : List Row). shift i (first (map f z))) (rows-at bs i l)
-      ∙ shift-miss i (f (rowAt bs i)) (map f (drop (i + 1) (rowsIn bs))) e
+  pub rows-hit : i < n → f (rowAt bs i) ≡ true → some i ≡ all
+  rows-hit l e = sym (shift-hit i true _ refl) ∙ rows-now l true e
 
-  pub rows-none : recordCount bs ≤ i → rowsLeft f bs i ≡ none
+  pub rows-miss : i < n → f (rowAt bs i) ≡ false → Testing f all bs n (i + 1)
+  rows-miss l e = record {
+    laid = h .laid;
+    count = h .count;
+    reached = omega arith;
+    left = sym (shift-miss i false _ refl) ∙ rows-now l false e;
+  }
+
+  pub rows-none : n ≤ i → none ≡ all
   unfolding first
-  rows-none l = ap (λ (z : List Row). shift i (first (map f z))) (rows-end bs i l)
+  rows-none l =
+      ap (λ (z : List Row). shift i (first (map f z))) (sym (rows-end bs i (omega (arith, h .count)))) ∙ h .left

@@ -20,7 +20,7 @@ use Rattle.model.specs.Forest.{badPairs, check3}
 use Rattle.laws.proofs.Apart.{some-none}
 use Rattle.laws.specs.Clear.{Clear}
 use Rattle.laws.proofs.Clear.{first-clear}
-use Rattle.laws.proofs.Header.{pairs-length}
+use Rattle.laws.proofs.Header.{header-of, pairs-length}
 use Rattle.laws.proofs.Members.{or-neither}
 use Rattle.record.specs.Record.{Laid, Lies, startOf, sizeOf, noRow, rowAt}
 
@@ -113,6 +113,11 @@ laid-lies bs i laid l = record {
         let e : 4 + (2 + 4 * i) ≡ 6 + 4 * i = omega arith in
         pair-at (recordCount bs) (drop 4 bs) i l ∙ rw (drop-drop (4 * i) 4 bs, drop-drop (2 + 4 * i) 4 bs, e)
 
+-- record i's pair is within bounds, and in the forest
+pub pair-low : (bs : List ℕ) (i : ℕ) → Laid bs → i < recordCount bs → (i ≤ 256) × (8 + 4 * i ≤ length bs)
+pair-low bs i laid l =
+    (omega (arith, header-of bs (laid .header) .records-most), laid-lies bs i laid l .entry)
+
 -- ---- what is read
 
 drop-take : (m n : ℕ) (l : List ℕ) → drop m (take n l) ≡ take (n - m) (drop m l)
@@ -134,32 +139,35 @@ module _ (bs : List ℕ) (i : ℕ) (h : Lies bs i) where
       → getD (take (sizeOf bs i) (drop (startOf bs i) bs)) k 0 ≡ getD bs (startOf bs i + k) 0
   byte-at k l = getD-take (sizeOf bs i) (drop (startOf bs i) bs) k 0 l ∙ getD-drop (startOf bs i) bs k 0
 
-  pub shape-at : getD bs (startOf bs i) 0 ≡ rowAt bs i .rec .shape
-  unfolding rowOf
-  shape-at =
-      let e : startOf bs i + 0 ≡ startOf bs i = omega arith in
-      ap (λ (z : ℕ). getD bs z 0) (sym e) ∙ sym (byte-at 0 (omega (arith, h .fixed)))
-      ∙ ap (λ (z : Row). z .rec .shape) (sym (h .row))
+  -- the byte k after the record's start, wherever `x` says that this is
+  byte-from : (x k : ℕ) → x ≡ startOf bs i → k < 5 →
+      getD bs (x + k) 0 ≡ getD (take (sizeOf bs i) (drop (startOf bs i) bs)) k 0
+  byte-from x k e l = ap (λ (z : ℕ). getD bs (z + k) 0) e ∙ sym (byte-at k (omega (arith, h .fixed)))
 
-  pub opcode-at : getD bs (startOf bs i + 1) 0 ≡ rowAt bs i .rec .opcode
-  unfolding rowOf
-  opcode-at = sym (byte-at 1 (omega (arith, h .fixed))) ∙ ap (λ (z : Row). z .rec .opcode) (sym (h .row))
+  module _ (x : ℕ) (e : x ≡ startOf bs i) where
+    pub shape-at : getD bs x 0 ≡ rowAt bs i .rec .shape
+    unfolding rowOf
+    shape-at =
+        let f : x + 0 ≡ x = omega arith in
+        ap (λ (z : ℕ). getD bs z 0) (sym f) ∙ byte-from x 0 e (omega arith)
+        ∙ ap (λ (z : Row). z .rec .shape) (sym (h .row))
 
-  pub aux-at : getD bs (startOf bs i + 4) 0 ≡ rowAt bs i .rec .aux
-  unfolding rowOf
-  aux-at = sym (byte-at 4 (omega (arith, h .fixed))) ∙ ap (λ (z : Row). z .rec .aux) (sym (h .row))
+    pub opcode-at : getD bs (x + 1) 0 ≡ rowAt bs i .rec .opcode
+    unfolding rowOf
+    opcode-at = byte-from x 1 e (omega arith) ∙ ap (λ (z : Row). z .rec .opcode) (sym (h .row))
 
-  pub kids-at : u16 (drop (startOf bs i + 2) bs) ≡ rowAt bs i .kids
-  unfolding rowOf u16
-  kids-at =
-      let e : startOf bs i + 2 + 0 ≡ startOf bs i + 2 = omega arith in
-      let f : startOf bs i + 2 + 1 ≡ startOf bs i + 3 = omega arith in
-      let b = byte-at 2 (omega (arith, h .fixed)) in
-      let d = byte-at 3 (omega (arith, h .fixed)) in
-      let low = getD-drop 2 (take (sizeOf bs i) (drop (startOf bs i) bs)) 0 0 in
-      let high = getD-drop 2 (take (sizeOf bs i) (drop (startOf bs i) bs)) 1 0 in
-      rw (getD-drop (startOf bs i + 2) bs 0 0, getD-drop (startOf bs i + 2) bs 1 0, e, f, ← b, ← d, ← low, ← high)
-      (ap (λ (z : Row). z .kids) (sym (h .row)))
+    pub aux-at : getD bs (x + 4) 0 ≡ rowAt bs i .rec .aux
+    unfolding rowOf
+    aux-at = byte-from x 4 e (omega arith) ∙ ap (λ (z : Row). z .rec .aux) (sym (h .row))
+
+    pub kids-at : u16 (drop (x + 2) bs) ≡ rowAt bs i .kids
+    unfolding rowOf
+    kids-at =
+        let f : x + 2 + 1 ≡ x + 3 = omega arith in
+        let low = byte-from x 2 e (omega arith) in
+        let high = byte-from x 3 e (omega arith) in
+        u16-at bs (x + 2) ∙ rw (f, low, high) (sym (u16-at (take (sizeOf bs i) (drop (startOf bs i) bs)) 2))
+        ∙ ap (λ (z : Row). z .kids) (sym (h .row))
 
   pub literal-at : take (sizeOf bs i - 5) (drop (startOf bs i + 5) bs) ≡ rowAt bs i .rec .lit
   unfolding rowOf

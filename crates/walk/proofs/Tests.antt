@@ -121,34 +121,33 @@ module _ (n : ℕ) (c : Ctx) (r : Rec) where
   unfolding test
   test-8 e = rw e
 
-  pub test-9 : (b : Bool) → b ≡ reboundAt (c .ids) r → n ≡ 9 → b ≡ test n c r
+  pub test-9 : n ≡ 9 → reboundAt (c .ids) r ≡ test n c r
   unfolding test
-  test-9 b f e = f ∙ rw e
+  test-9 e = rw e
 
-  pub test-10 : (b : Bool) → b ≡ unboundAt (c .ids) r → (n ≡ 0 → ⊥) → (n ≡ 7 → ⊥) → (n ≡ 8 → ⊥) → (n ≡ 9 → ⊥) →
-      b ≡ test n c r
+  pub test-10 : (n ≡ 0 → ⊥) → (n ≡ 7 → ⊥) → (n ≡ 8 → ⊥) → (n ≡ 9 → ⊥) → unboundAt (c .ids) r ≡ test n c r
   unfolding test
-  test-10 b h d e f g = h ∙ rw (test, ne-eqb n 0 d, ne-eqb n 7 e, ne-eqb n 8 f, ne-eqb n 9 g)
+  test-10 d e f g = rw (test, ne-eqb n 0 d, ne-eqb n 7 e, ne-eqb n 8 f, ne-eqb n 9 g)
 
 -- any of the four
 module _ (c : Ctx) (r : Rec) where
-  pub any-deep : ltb 64 (c .depth) ≡ true → true ≡ anyAt c r
+  pub any-deep : 64 < c .depth → true ≡ anyAt c r
   unfolding anyAt
-  any-deep e = rw e
+  any-deep l = rw (lt-ltb 64 (c .depth) l)
 
-  module _ (shallow : ltb 64 (c .depth) ≡ false) where
-    pub any-misplaced : misplacedAt (c .def) r ≡ true → true ≡ anyAt c r
+  module _ (shallow : c .depth ≤ 64) (m : Bool) (e : m ≡ misplacedAt (c .def) r) where
+    pub any-misplaced : m ≡ true → true ≡ anyAt c r
     unfolding anyAt
-    any-misplaced e = rw (shallow, e)
+    any-misplaced f = rw (le-ltb 64 (c .depth) shallow, ← e, f)
 
-    module _ (placed : misplacedAt (c .def) r ≡ false) where
-      pub any-rebound : reboundAt (c .ids) r ≡ true → true ≡ anyAt c r
+    module _ (placed : m ≡ false) (n : Bool) (f : n ≡ reboundAt (c .ids) r) where
+      pub any-rebound : n ≡ true → true ≡ anyAt c r
       unfolding anyAt
-      any-rebound e = rw (shallow, placed, e)
+      any-rebound g = rw (le-ltb 64 (c .depth) shallow, ← e, placed, ← f, g)
 
-      pub any-unbound : (b : Bool) → b ≡ unboundAt (c .ids) r → reboundAt (c .ids) r ≡ false → b ≡ anyAt c r
+      pub any-unbound : (b : Bool) → b ≡ unboundAt (c .ids) r → n ≡ false → b ≡ anyAt c r
       unfolding anyAt
-      any-unbound b h e = h ∙ rw (shallow, placed, e)
+      any-unbound b h g = h ∙ rw (le-ltb 64 (c .depth) shallow, ← e, placed, ← f, g)
 
 -- 8
 pub misplaced-def : (s : ℕ) (d : Bool) → s ≡ 10 → not d ≡ not (Bool·beq (eqb s 10) d)
@@ -166,19 +165,20 @@ misplaced-other s d h = rw (ne-eqb s 10 h) (go d)
     go false = refl
 
 -- the answer for a record's shape is the record's
-pub misplaced-told : (s : ℕ) (r : Rec) (d m b : Bool) → m ≡ not (Bool·beq (eqb s 10) d) → s ≡ r .shape → m ≡ b →
-    misplacedAt d r ≡ b
-misplaced-told s r d m b e f g = ap (λ (z : ℕ). not (Bool·beq (eqb z 10) d)) (sym f) ∙ sym e ∙ g
+pub misplaced-told : (s t : ℕ) (d : Bool) {m : Bool} → m ≡ not (Bool·beq (eqb s 10) d) → s ≡ t →
+    m ≡ not (Bool·beq (eqb t 10) d)
+misplaced-told s t d e f = e ∙ ap (λ (z : ℕ). not (Bool·beq (eqb z 10) d)) f
 
--- 9
-module _ (r : Rec) (ids : List ℕ) where
-  pub rebound-def : r .shape ≡ 10 → isIn (idOf r) ids ≡ reboundAt ids r
-  unfolding anyIn twice isIn
-  rebound-def e = rw (defined-def r e, inside-other r (λ f. omega arith)) (go (isIn (idOf r) ids))
-    where
-      go : (b : Bool) → b ≡ ((b || false) || (false || false))
-      go true = refl
-      go false = refl
+-- 9; s is the record's shape, and x its id
+pub rebound-def : (r : Rec) (ids : List ℕ) {s x : ℕ} {b : Bool} → s ≡ r .shape → s ≡ 10 → x ≡ idOf r → b ≡ isIn x ids →
+    b ≡ reboundAt ids r
+unfolding anyIn twice isIn
+rebound-def r ids e f g h =
+    h ∙ rw (defined-def r (sym e ∙ f), inside-other r (λ z. omega arith), g) (go (isIn (idOf r) ids))
+  where
+    go : (b : Bool) → b ≡ ((b || false) || (false || false))
+    go true = refl
+    go false = refl
 
 pub rebound-other : (r : Rec) (ws : List ℕ) (top end : ℕ) → (r .shape ≡ 10 → ⊥) → top ≤ end →
     idsOf ws end ≡ inside r ++ idsOf ws top → clash ws top (end - top) ≡ reboundAt (idsOf ws top) r
@@ -187,12 +187,12 @@ rebound-other r ws top end h l e =
     rw (defined-other r h) (clash-own ws top (end - top) (inside r) (rw z e))
 
 -- 10
-module _ (r : Rec) (ids : List ℕ) where
-  pub unbound-use : r .shape ≡ 7 → not (isIn (idOf r) ids) ≡ unboundAt ids r
-  unbound-use e = rw (eq-eqb (r .shape) 7 e)
+module _ (r : Rec) (ids : List ℕ) {s : ℕ} (e : s ≡ r .shape) where
+  pub unbound-use : {x : ℕ} {b : Bool} → s ≡ 7 → x ≡ idOf r → b ≡ isIn x ids → not b ≡ unboundAt ids r
+  unbound-use f g h = rw (h, g, eq-eqb (r .shape) 7 (sym e ∙ f))
 
-  pub unbound-other : (r .shape ≡ 7 → ⊥) → false ≡ unboundAt ids r
-  unbound-other h = rw (ne-eqb (r .shape) 7 h)
+  pub unbound-other : (s ≡ 7 → ⊥) → false ≡ unboundAt ids r
+  unbound-other h = rw (ne-eqb (r .shape) 7 (λ f. h (e ∙ f)))
 
 -- ---- where a child stands
 

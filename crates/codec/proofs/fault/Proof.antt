@@ -1,103 +1,87 @@
--- `codec::fault` meets its contract. Assumes nothing.
+-- `codec::fault` meets its contract. In order: what holds where a check has passed; the words after each check; the
+-- answers. Assumes nothing.
 use borrow.Author.Needs.{needs}
 use denote.Ref.{now}
-use mathlib.Core.Path.{_∙_}
-use Rattle.model.specs.Forest.{treesOf}
+use mathlib.Core.Path.{_≡_, _∙_}
+use mathlib.Core.Option.{none}
+use Rattle.model.specs.Forest.{treesOf, check7}
+use Rattle.model.specs.Binding.{check8, check9}
+use Rattle.laws.specs.Frame.{Frame}
 use Rattle.laws.proofs.Frame.{frame-then}
+use Rattle.regions.specs.Regions.{IDS, end}
 use Rattle.walk.proofs.Checks.{check-7, check-8, check-9, check-10}
 use Rattle.codec.proofs.Accepting.{passed, failed, refused-7, refused-8, refused-9, refused-10, accepted}
 use Rattle.codec.proofs.fault.Statement.{statement}
 use Rattle.codec.proofs.fault.Tie as tie
 
--- In each answer `cN` is the place after check N.
+-- ---- a check has passed
+
+seven : (c : tie.After-enum-told) →
+    check7 (now (c .before .before .before .before .before .before .before .before .args .forest)) ≡ none
+seven c = passed _ _ (c .before .before .before .before .trees .ensures .place ∙ check-7 _) (c .enum-told .given .1)
+
+eight : (c : tie.After-enum-told2) →
+    check8 (treesOf (now (c .before .before .before .before .before .before .before .before .before .before .before .before .before .before .args .forest))) ≡ none
+eight c = passed _ _ (c .before .before .before .before .trees2 .ensures .place ∙ check-8 _) (c .enum-told2 .given .1)
+
+nine : (c : tie.After-enum-told3) →
+    check9 (treesOf (now (c .before .before .before .before .before .before .before .before .before .before .before .before .before .before .before .before .before .before .before .before .args .forest))) ≡ none
+nine c = passed _ _ (c .before .before .before .before .trees3 .ensures .place ∙ check-9 _) (c .enum-told3 .given .1)
+
+-- ---- the words: no check changes any but those of ids
+
+kept-8 : (c : tie.After-trees2) →
+    Frame (IDS .first) (end IDS) (now (c .before .before .before .before .before .before .before .before .before .before .args .work)) (c .trees2 .last .1 .0)
+kept-8 c = frame-then _ _ _ _ _ (c .before .before .before .before .before .before .trees .ensures .kept) (c .trees2 .ensures .kept)
+
+kept-9 : (c : tie.After-trees3) →
+    Frame (IDS .first) (end IDS) (now (c .before .before .before .before .before .before .before .before .before .before .before .before .before .before .before .before .args .work)) (c .trees3 .last .1 .0)
+kept-9 c = frame-then _ _ _ _ _ (kept-8 (c .before .before .before .before .before .before)) (c .trees3 .ensures .kept)
+
+kept-10 : (c : tie.After-trees4) →
+    Frame (IDS .first) (end IDS) (now (c .before .before .before .before .before .before .before .before .before .before .before .before .before .before .before .before .before .before .before .before .before .before .args .work)) (c .trees4 .last .1 .0)
+kept-10 c = frame-then _ _ _ _ _ (kept-9 (c .before .before .before .before .before .before)) (c .trees4 .ensures .kept)
+
+-- ---- the answers; `cN` is the place after check N, and `pN` the one where it has passed
 
 returns : tie.Need-returns
 returns c =
     let c7 = c .before .before .before .before .before in
-    let b = c7 .before .before .before .before in
-    let bs = now (b .args .forest) in
-    let fails = failed _ _ _ (c7 .trees .ensures .place ∙ check-7 bs) (c .before .p .given .1) in
-    record {
-      is = refused-7 bs (b .pre .0) _ fails;
-      kept = c7 .trees .ensures .kept;
-    }
+    let fails = failed _ _ _ (c7 .trees .ensures .place ∙ check-7 _) (c .before .p .given .1) in
+    record { is = refused-7 _ (c7 .before .before .before .before .pre .0) _ fails; kept = c7 .trees .ensures .kept }
 
 returns-2 : tie.Need-returns-2
 returns-2 c =
     let c8 = c .before .before .before .before .before in
-    let c7 = c8 .before .before .before .before .before .before in
-    let b = c7 .before .before .before .before in
-    let bs = now (b .args .forest) in
-    let seven = passed _ _ (c7 .trees .ensures .place ∙ check-7 bs) (c8 .before .before .enum-told .given .1) in
-    let fails = failed _ _ _ (c8 .trees2 .ensures .place ∙ check-8 (treesOf bs)) (c .before .p2 .given .1) in
-    record {
-      is = refused-8 bs (b .pre .0) seven _ fails;
-      kept = frame-then _ _ _ _ _ (c7 .trees .ensures .kept) (c8 .trees2 .ensures .kept);
-    }
+    let p7 = c8 .before .before in
+    let fails = failed _ _ _ (c8 .trees2 .ensures .place ∙ check-8 _) (c .before .p2 .given .1) in
+    record { is = refused-8 _ (p7 .before .before .before .before .before .before .before .before .pre .0) (seven p7) _ fails; kept = kept-8 c8 }
 
 returns-3 : tie.Need-returns-3
 returns-3 c =
     let c9 = c .before .before .before .before .before in
-    let c8 = c9 .before .before .before .before .before .before in
-    let c7 = c8 .before .before .before .before .before .before in
-    let b = c7 .before .before .before .before in
-    let bs = now (b .args .forest) in
-    let seven = passed _ _ (c7 .trees .ensures .place ∙ check-7 bs) (c8 .before .before .enum-told .given .1) in
-    let eight =
-    passed _ _ (c8 .trees2 .ensures .place ∙ check-8 (treesOf bs)) (c9 .before .before .enum-told2 .given .1) in
-    let fails = failed _ _ _ (c9 .trees3 .ensures .place ∙ check-9 (treesOf bs)) (c .before .p3 .given .1) in
-    record {
-      is = refused-9 bs (b .pre .0) seven eight _ fails;
-      kept =
-          frame-then _ _ _ _ _
-          (frame-then _ _ _ _ _ (c7 .trees .ensures .kept) (c8 .trees2 .ensures .kept)) (c9 .trees3 .ensures .kept);
-    }
+    let p8 = c9 .before .before in
+    let p7 = p8 .before .before .before .before .before .before in
+    let fails = failed _ _ _ (c9 .trees3 .ensures .place ∙ check-9 _) (c .before .p3 .given .1) in
+    record { is = refused-9 _ (p7 .before .before .before .before .before .before .before .before .pre .0) (seven p7) (eight p8) _ fails; kept = kept-9 c9 }
 
 returns-4 : tie.Need-returns-4
 returns-4 c =
     let c10 = c .before .before .before .before .before in
-    let c9 = c10 .before .before .before .before .before .before in
-    let c8 = c9 .before .before .before .before .before .before in
-    let c7 = c8 .before .before .before .before .before .before in
-    let b = c7 .before .before .before .before in
-    let bs = now (b .args .forest) in
-    let seven = passed _ _ (c7 .trees .ensures .place ∙ check-7 bs) (c8 .before .before .enum-told .given .1) in
-    let eight =
-    passed _ _ (c8 .trees2 .ensures .place ∙ check-8 (treesOf bs)) (c9 .before .before .enum-told2 .given .1) in
-    let nine =
-    passed _ _ (c9 .trees3 .ensures .place ∙ check-9 (treesOf bs)) (c10 .before .before .enum-told3 .given .1) in
-    let fails = failed _ _ _ (c10 .trees4 .ensures .place ∙ check-10 (treesOf bs)) (c .before .p4 .given .1) in
-    record {
-      is = refused-10 bs (b .pre .0) seven eight nine _ fails;
-      kept =
-          frame-then _ _ _ _ _
-          (frame-then _ _ _ _ _
-          (frame-then _ _ _ _ _ (c7 .trees .ensures .kept) (c8 .trees2 .ensures .kept)) (c9 .trees3 .ensures .kept))
-          (c10 .trees4 .ensures .kept);
-    }
+    let p9 = c10 .before .before in
+    let p8 = p9 .before .before .before .before .before .before in
+    let p7 = p8 .before .before .before .before .before .before in
+    let fails = failed _ _ _ (c10 .trees4 .ensures .place ∙ check-10 _) (c .before .p4 .given .1) in
+    record { is = refused-10 _ (p7 .before .before .before .before .before .before .before .before .pre .0) (seven p7) (eight p8) (nine p9) _ fails; kept = kept-10 c10 }
 
 returns-5 : tie.Need-returns-5
 returns-5 c =
     let c10 = c .before .before .before .before in
-    let c9 = c10 .before .before .before .before .before .before in
-    let c8 = c9 .before .before .before .before .before .before in
-    let c7 = c8 .before .before .before .before .before .before in
-    let b = c7 .before .before .before .before in
-    let bs = now (b .args .forest) in
-    let seven = passed _ _ (c7 .trees .ensures .place ∙ check-7 bs) (c8 .before .before .enum-told .given .1) in
-    let eight =
-    passed _ _ (c8 .trees2 .ensures .place ∙ check-8 (treesOf bs)) (c9 .before .before .enum-told2 .given .1) in
-    let nine =
-    passed _ _ (c9 .trees3 .ensures .place ∙ check-9 (treesOf bs)) (c10 .before .before .enum-told3 .given .1) in
-    let ten = passed _ _ (c10 .trees4 .ensures .place ∙ check-10 (treesOf bs)) (c .enum-told4 .given .1) in
-    record {
-      is = accepted bs (b .pre .0) seven eight nine ten;
-      kept =
-          frame-then _ _ _ _ _
-          (frame-then _ _ _ _ _
-          (frame-then _ _ _ _ _ (c7 .trees .ensures .kept) (c8 .trees2 .ensures .kept)) (c9 .trees3 .ensures .kept))
-          (c10 .trees4 .ensures .kept);
-    }
+    let p9 = c10 .before .before in
+    let p8 = p9 .before .before .before .before .before .before in
+    let p7 = p8 .before .before .before .before .before .before in
+    let ten = passed _ _ (c10 .trees4 .ensures .place ∙ check-10 _) (c .enum-told4 .given .1) in
+    record { is = accepted _ (p7 .before .before .before .before .before .before .before .before .pre .0) (seven p7) (eight p8) (nine p9) ten; kept = kept-10 c10 }
 
 pub fault-spec : {M : Type 1} → statement M
 fault-spec =

@@ -27,28 +27,6 @@ size-requires-2 c κs =
     let s = c .before .before .before .before in
     (s .pre .0, subst (Writable (now (s .args .forest))) (c .before .p2 .given .1) (s .pre .1) .0)
 
-returns : tie.Need-returns
-unfolding rowFor
-returns c =
-    let s = c .before .before .before .before .before in
-    (as-row (now (s .args .forest)) (c .before .before .p .given .1) (c .size .ensures .0), c .size .ensures .1)
-
-returns-2 : tie.Need-returns-2
-unfolding rowFor rowLen
-returns-2 c = (as-row (now (c .before .before .before .args .forest)) (c .enum-told .given .1) refl, omega arith)
-
-returns-3 : tie.Need-returns-3
-unfolding rowFor rowLen put32
-returns-3 c = (as-row (now (c .before .before .before .args .forest)) (c .enum-told2 .given .1) refl, omega arith)
-
-returns-4 : tie.Need-returns-4
-unfolding rowFor rowLen put32
-returns-4 c = (as-row (now (c .before .before .before .args .forest)) (c .enum-told3 .given .1) refl, omega arith)
-
-returns-5 : tie.Need-returns-5
-unfolding rowFor rowLen
-returns-5 c = (as-row (now (c .before .before .before .args .forest)) (c .enum-told4 .given .1) refl, omega arith)
-
 returns-6 : tie.Need-returns-6
 returns-6 c =
     let s = c .before .before .before .before .before in
@@ -58,7 +36,13 @@ returns-6 c =
     (as-row bs e (c .size2 .ensures .0 ∙ sym (lambda-length bs _ _ w)), c .size2 .ensures .1)
 
 pub row-len-spec : {M : Type 1} → statement M
+unfolding rowFor rowLen put32
 row-len-spec =
     tie.close (tie.spec (λ c. search needs) (λ c. search needs) size-requires (λ c. search needs)
     (λ c. search needs) (λ c. search needs) (λ c. search needs) (λ c. search needs) (λ c. search needs)
-    size-requires-2 returns returns-2 returns-3 returns-4 returns-5 returns-6)
+    size-requires-2
+    (λ c. (as-row _ (c .before .before .p .given .1) (c .size .ensures .0), c .size .ensures .1))
+    (λ c. (as-row _ (c .enum-told .given .1) refl, omega arith))
+    (λ c. (as-row _ (c .enum-told2 .given .1) refl, omega arith))
+    (λ c. (as-row _ (c .enum-told3 .given .1) refl, omega arith))
+    (λ c. (as-row _ (c .enum-told4 .given .1) refl, omega arith)) returns-6)
