@@ -1,19 +1,17 @@
 -- A lambda's arguments, bound one by one: what is left gives the whole. Assumes nothing.
 use Prim.Native.Nat.{ℕ, suc, _+_, _-_, _<_, _≤_}
-use mathlib.Core.Path.{_≡_, refl, sym, ap, _∙_}
-use mathlib.Core.Option.{none}
+use mathlib.Core.Path.{_≡_, refl, sym, ap, ap₂, _∙_}
 use mathlib.Core.List.{List}
 use native.Mathlib.Omega.{arith}
 use native.Mathlib.Numerals.{add-one}
 use lib.ListN.{length, drop, length-set}
 use Rattle.model.specs.Bytes.{u32}
-use Rattle.model.specs.Shape.{aArg}
 use Rattle.model.specs.Binding.{argsOf}
 use Rattle.laws.specs.Range.{range}
 use Rattle.laws.proofs.ArgLists.{args-length}
 use Rattle.laws.proofs.Ranges.{range-length}
 use Rattle.shape.specs.Args.{Left, nextArg}
-use Rattle.shape.proofs.Args.{args-step, args-none, left-stands, left-id, left-next}
+use Rattle.shape.proofs.Args.{args-none, down-next, down-args}
 use Rattle.bindings.specs.Bindings.{bound, pairsOf, boundAll}
 use Rattle.bindings.proofs.Laws.{pairs-length}
 
@@ -24,18 +22,6 @@ argPairs n lit first = pairsOf (argsOf n lit) (range first n)
 pub arg-pairs-length : (n : ℕ) (lit : List ℕ) (first : ℕ) → length (argPairs n lit first) ≡ n
 arg-pairs-length n lit first =
     pairs-length (argsOf n lit) (range first n) (range-length first n ∙ sym (args-length n lit)) ∙ args-length n lit
-
--- the argument at `at`, and those from where it ends
-all-step : (m : ℕ) (lit : List ℕ) (top : ℕ) (ws : List ℕ) (at symbol : ℕ)
-    → boundAll ws top (argPairs (suc m) (drop at lit) symbol)
-    ≡ boundAll (bound ws (top + m) (u32 (drop at lit)) symbol) top
-    (argPairs m (drop (nextArg lit at) lit) (suc symbol))
-unfolding boundAll range
-all-step m lit top ws at symbol =
-    let rest = argPairs m (drop (nextArg lit at) lit) (suc symbol) in
-    ap (λ (xs : List (ℕ × List ℕ)). boundAll ws top (pairsOf xs (range symbol (suc m)))) (args-step m lit at)
-    ∙ ap (λ (j : ℕ). boundAll (bound ws (top + j) (u32 (drop at lit)) symbol) top rest)
-    (arg-pairs-length m (drop (nextArg lit at) lit) (suc symbol))
 
 -- of n arguments the last k are still to be bound, from `at` on, to the symbols from `symbol` on
 pub record Binding (lit : List ℕ) (n top first : ℕ) (ws₀ ws : List ℕ) (at k symbol : ℕ) : Type 0 where
@@ -50,34 +36,28 @@ module _ (lit : List ℕ) (n top first : ℕ) (ws₀ : List ℕ) where
   bind-start l = record { count = omega arith; symbols = refl; left = l; all = refl; size = refl }
 
   module _ (ws : List ℕ) (at k symbol : ℕ) (h : Binding lit n top first ws₀ ws at k symbol) where
-    module _ (lt : 0 < k) where
-      left-one : Left (suc (k - 1)) lit at
-      left-one = let e : k ≡ suc (k - 1) = omega arith in rw e at (h .left)
-
-      -- what `id_at` and `arg_end` require
-      pub bind-id : at + 4 ≤ length lit
-      bind-id = left-id left-one
-
-      pub bind-stands : aArg (drop at lit) ≡ none → ⊥
-      bind-stands = left-stands left-one
-
-      pub bind-turn : (ws′ : List ℕ) (id next : ℕ) → id ≡ u32 (drop at lit) → next ≡ nextArg lit at →
-          ws′ ≡ bound ws (top + (k - 1)) id symbol → Binding lit n top first ws₀ ws′ next (k - 1) (symbol + 1)
-      bind-turn ws′ id next v e is = record {
-        count = omega (arith, h .count);
-        symbols = omega (arith, h .symbols);
-        left = rw e (left-next left-one);
-        all = sym step ∙ h .all;
-        size = ap length is ∙ simp length-set (h .size);
-      }
-        where
-          step : boundAll ws top (argPairs k (drop at lit) symbol)
-              ≡ boundAll ws′ top (argPairs (k - 1) (drop next lit) (symbol + 1))
-          step =
-              let z : k ≡ suc (k - 1) = omega arith in
-              ap (λ (m : ℕ). boundAll ws top (argPairs m (drop at lit) symbol)) z
-              ∙ all-step (k - 1) lit top ws at symbol
-              ∙ rw (is, v, e, add-one symbol)
+    pub bind-turn : (ws′ : List ℕ) (id next : ℕ) → 0 < k → id ≡ u32 (drop at lit) → next ≡ nextArg lit at →
+        ws′ ≡ bound ws (top + (k - 1)) id symbol → Binding lit n top first ws₀ ws′ next (k - 1) (symbol + 1)
+    unfolding boundAll range
+    bind-turn ws′ id next lt v e is = record {
+      count = omega (arith, h .count);
+      symbols = omega (arith, h .symbols);
+      left = down-next lt (h .left) e;
+      all = sym step ∙ h .all;
+      size = ap length is ∙ simp length-set (h .size);
+    }
+      where
+        -- the argument at `at`, and those from where it ends
+        step : boundAll ws top (argPairs k (drop at lit) symbol)
+            ≡ boundAll ws′ top (argPairs (k - 1) (drop next lit) (symbol + 1))
+        step =
+            let z : k ≡ suc (k - 1) = omega arith in
+            let rest = argPairs (k - 1) (drop next lit) (suc symbol) in
+            ap₂ (λ (xs : List (ℕ × List ℕ)) (m : ℕ). boundAll ws top (pairsOf xs (range symbol m)))
+            (down-args lt (h .left) e) z
+            ∙ ap (λ (j : ℕ). boundAll (bound ws (top + j) (u32 (drop at lit)) symbol) top rest)
+            (arg-pairs-length (k - 1) (drop next lit) (suc symbol))
+            ∙ rw (is, v, add-one symbol)
 
     pub bind-end : k ≤ 0 → ws ≡ boundAll ws₀ top (argPairs n lit first)
     unfolding boundAll

@@ -5,6 +5,7 @@ use shape::VAL_DEF;
 ghost use mathlib.Core.Path.{_≡_};
 ghost use Prim.Native.Nat.{_+_, _*_, _<_, _≤_};
 ghost use lib.ListN.{length};
+ghost use Rattle.model.specs.Opcodes.{FuncValue};
 ghost use Rattle.model.specs.Forest.{recordCount};
 ghost use Rattle.model.specs.Binding.{argsOf};
 ghost use Rattle.model.specs.Intern.{resolve};
@@ -65,7 +66,7 @@ fn bind_all(lit: &[u8], work: &mut [u32], n: usize, top: usize, first: u32)
 // Rules out: the last argument newest; every argument bound to the first symbol.
 pub fn bind_args(forest: &[u8], work: &mut [u32], i: usize, top: usize, first: u32) -> usize
     requires { ⌜ WellFormed (now forest) ⌝ }
-    requires { ⌜ (i < recordCount (now forest)) × (recAt (now forest) i .shape ≡ 12) ⌝ }
+    requires { ⌜ (i < recordCount (now forest)) × (recAt (now forest) i .shape ≡ FuncValue) ⌝ }
     requires { ⌜ (top + 15 ≤ 1200) × (WORDS ≤ length (now work)) × (first ≤ 512) ⌝ }
     ensures { λ r. ⌜ ArgsBound (now (forest .entry)) i top first (now (work .entry)) (now (work .exit)) r ⌝ }
 {

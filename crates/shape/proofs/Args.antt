@@ -154,26 +154,40 @@ pub left-none : {lit : List ℕ} {at : ℕ} → Left 0 lit at → length lit ≤
 unfolding whole times
 left-none {lit} {at} l = omega (arith, rw length-drop at (eqb-true (length (drop at lit)) 0 (l .is)))
 
--- ---- a turn of a loop that counts k up to n, in which `arg_end` gives r
+-- ---- a turn of a loop in which `arg_end` gives r: with k arguments left; with n - k left, where k counts up to n
+
+module _ {k : ℕ} {lit : List ℕ} {at : ℕ} (h : 0 < k) (l : Left k lit at) where
+  one-more : Left (suc (k - 1)) lit at
+  one-more = let e : k ≡ suc (k - 1) = omega arith in rw e at l
+
+  pub down-id : at + 4 ≤ length lit
+  down-id = left-id one-more
+
+  pub down-stands : aArg (drop at lit) ≡ none → ⊥
+  down-stands = left-stands one-more
+
+  module _ {r : ℕ} (a : r ≡ nextArg lit at) where
+    pub down-next : Left (k - 1) lit r
+    down-next = rw a (left-next one-more)
+
+    pub down-args : argsOf k (drop at lit) ≡ argAt lit at ∷ argsOf (k - 1) (drop r lit)
+    down-args =
+        let e : k ≡ suc (k - 1) = omega arith in
+        ap (λ (m : ℕ). argsOf m (drop at lit)) e ∙ rw a (args-step (k - 1) lit at)
 
 pub left-first : {n : ℕ} {lit : List ℕ} {at : ℕ} → Left n lit at → Left (n - 0) lit at
 left-first {n} l = let e : n - 0 ≡ n = omega arith in rw e l
 
 module _ {n k : ℕ} {lit : List ℕ} {at : ℕ} (h : k < n) (l : Left (n - k) lit at) where
-  one-more : Left (suc (n - (k + 1))) lit at
-  one-more = let e : n - k ≡ suc (n - (k + 1)) = omega arith in rw e at l
-
   pub turn-id : at + 4 ≤ length lit
-  turn-id = left-id one-more
+  turn-id = down-id (omega arith) l
 
   pub turn-stands : aArg (drop at lit) ≡ none → ⊥
-  turn-stands = left-stands one-more
+  turn-stands = down-stands (omega arith) l
 
   module _ {r : ℕ} (a : ArgEnd lit at r) where
     pub turn-next : Left (n - (k + 1)) lit r
-    turn-next = rw (a .is) (left-next one-more)
+    turn-next = let e : n - k - 1 ≡ n - (k + 1) = omega arith in rw e at (down-next (omega arith) l (a .is))
 
     pub turn-args : argsOf (n - k) (drop at lit) ≡ argAt lit at ∷ argsOf (n - (k + 1)) (drop r lit)
-    turn-args =
-        let e : n - k ≡ suc (n - (k + 1)) = omega arith in
-        rw (e, a .is) (args-step (n - (k + 1)) lit at)
+    turn-args = let e : n - k - 1 ≡ n - (k + 1) = omega arith in rw e at (down-args (omega arith) l (a .is))

@@ -2,17 +2,15 @@
 -- Assumes nothing.
 use Prim.Native.Nat.{ℕ, suc, _+_, _-_, _<_, _≤_}
 use mathlib.Core.Path.{_≡_, sym, ap, _∙_}
-use mathlib.Core.Option.{none}
 use mathlib.Core.List.{List, _∷_, _++_, map, append-nil, []}
 use native.Mathlib.Omega.{arith}
 use lib.ListN.{length, set, drop}
 use Rattle.model.specs.Bytes.{u32}
-use Rattle.model.specs.Shape.{aArg}
 use Rattle.laws.specs.Stack.{stackOf}
 use Rattle.laws.specs.Frame.{Frame}
 use Rattle.laws.proofs.Frame.{frame-none, frame-then, frame-store}
 use Rattle.shape.specs.Args.{Left, nextArg}
-use Rattle.shape.proofs.Args.{args-step, args-none, left-stands, left-id, left-next}
+use Rattle.shape.proofs.Args.{args-none, down-next, down-args}
 use Rattle.regions.specs.Regions.{IDS, end}
 use Rattle.walk.specs.Words.{idsIn, argIdsAt, Bound}
 use Rattle.walk.proofs.Words.{push-one, pushed}
@@ -35,38 +33,23 @@ module _ (lit : List ℕ) (n top : ℕ) (ws₀ : List ℕ) where
   }
 
   module _ (ws : List ℕ) (at k : ℕ) (h : Pushing lit n top ws₀ ws at k) where
-    module _ (lt : 0 < k) where
-      left-one : Left (suc (k - 1)) lit at
-      left-one = let e : k ≡ suc (k - 1) = omega arith in rw e at (h .left)
-
-      -- what `id_at` and `arg_end` require
-      pub push-id : at + 4 ≤ length lit
-      push-id = left-id left-one
-
-      pub push-stands : aArg (drop at lit) ≡ none → ⊥
-      push-stands = left-stands left-one
-
-      pub push-turn : (id next : ℕ) → top + n ≤ IDS .size → end IDS ≤ length ws₀ → id ≡ u32 (drop at lit) →
-          next ≡ nextArg lit at →
-          Pushing lit n top ws₀ (set ws (top + (k - 1)) id) next (k - 1)
-      push-turn id next few room v e = record {
-        count = omega (arith, h .count);
-        left = rw e (left-next left-one);
-        ids =
-            push-one ws top n k id lt (h .count) (omega (arith, h .kept .long)) (argIdsAt (k - 1) (drop next lit))
-            (argIdsAt n lit)
-            (ap (λ (z : List ℕ). idsIn ws (top + k) (n - k) ++ z) (sym step) ∙ h .ids);
-        kept =
-            frame-then top (end IDS) ws₀ ws (set ws (top + (k - 1)) id) (h .kept)
-            (frame-store top (end IDS) (top + (k - 1)) id ws (omega arith) (omega (arith, h .count)));
-      }
-        where
-          step : argIdsAt k (drop at lit) ≡ id ∷ argIdsAt (k - 1) (drop next lit)
-          step =
-              let z : k ≡ suc (k - 1) = omega arith in
-              ap (λ (m : ℕ). argIdsAt m (drop at lit)) z
-              ∙ ap (map (λ (a : ℕ × List ℕ). a .0)) (args-step (k - 1) lit at)
-              ∙ rw (v, e)
+    pub push-turn : (id next : ℕ) → 0 < k → top + n ≤ IDS .size → end IDS ≤ length ws₀ → id ≡ u32 (drop at lit) →
+        next ≡ nextArg lit at →
+        Pushing lit n top ws₀ (set ws (top + (k - 1)) id) next (k - 1)
+    push-turn id next lt few room v e = record {
+      count = omega (arith, h .count);
+      left = down-next lt (h .left) e;
+      ids =
+          push-one ws top n k id lt (h .count) (omega (arith, h .kept .long)) (argIdsAt (k - 1) (drop next lit))
+          (argIdsAt n lit)
+          (ap (λ (z : List ℕ). idsIn ws (top + k) (n - k) ++ z) (sym step) ∙ h .ids);
+      kept =
+          frame-then top (end IDS) ws₀ ws (set ws (top + (k - 1)) id) (h .kept)
+          (frame-store top (end IDS) (top + (k - 1)) id ws (omega arith) (omega (arith, h .count)));
+    }
+      where
+        step : argIdsAt k (drop at lit) ≡ id ∷ argIdsAt (k - 1) (drop next lit)
+        step = ap (map (λ (a : ℕ × List ℕ). a .0)) (down-args lt (h .left) e) ∙ rw v
 
     pub push-end : k ≤ 0 → n ≤ 15 → Bound ws₀ top (argIdsAt n lit) ws (top + n)
     push-end le few = record {

@@ -14,6 +14,7 @@ ghost use lib.Dec.{eqb};
 ghost use lib.ListN.{length};
 ghost use Rattle.model.specs.Lists.{isIn};
 ghost use Rattle.model.specs.Tree.{many};
+ghost use Rattle.model.specs.Opcodes.{ValDef};
 ghost use Rattle.model.specs.Forest.{recordCount};
 ghost use Rattle.model.specs.Binding.{idOf, inside, after, reboundAt, unboundAt};
 ghost use Rattle.shape.specs.Args.{Left};
@@ -140,7 +141,7 @@ fn define(forest: &[u8], work: &mut [u32], i: usize, top: usize) -> usize
 
 // Check 8 of a record.
 fn misplaced(shape: u8, def: bool) -> bool
-    ensures { λ r. ⌜ r ≡ not (Bool·beq (eqb shape 10) def) ⌝ }
+    ensures { λ r. ⌜ r ≡ not (Bool·beq (eqb shape ValDef) def) ⌝ }
 {
     if shape == VAL_DEF {
         return !def;

@@ -5,7 +5,8 @@ use native.Mathlib.Omega.{arith}
 use denote.Ref.{now}
 use lib.ListN.{length}
 use Rattle.regions.specs.Regions.{WORDS}
-use Rattle.bindings.proofs.Args.{Binding, bind-start, bind-id, bind-stands, bind-turn, bind-end}
+use Rattle.shape.proofs.Args.{down-id, down-stands}
+use Rattle.bindings.proofs.Args.{Binding, bind-start, bind-turn, bind-end}
 use Rattle.bindings.proofs.bind_all.Statement.{statement}
 use Rattle.bindings.proofs.bind_all.Tie as tie
 
@@ -30,12 +31,12 @@ loop-holds c =
     )
 
 id-at-requires : tie.Need-id-at-requires Inv-loop μ-loop
-id-at-requires c κs = bind-id _ _ _ _ _ _ _ _ _ (c .before .loop .inv .5) (c .loop-test .taken)
+id-at-requires c κs = down-id (c .loop-test .taken) (c .before .loop .inv .5 .left)
 
 arg-end-requires : tie.Need-arg-end-requires Inv-loop μ-loop
 arg-end-requires c κs =
     let t = c .before .before .before .before .before in
-    bind-stands _ _ _ _ _ _ _ _ _ (t .before .loop .inv .5) (t .loop-test .taken)
+    down-stands (t .loop-test .taken) (t .before .loop .inv .5 .left)
 
 loop-again : tie.Need-loop-again Inv-loop μ-loop
 loop-again c =
@@ -46,7 +47,7 @@ loop-again c =
     let a = t .before .before .before .before .args in
     let next =
     bind-turn (now (a .lit)) (a .n) (a .top) (a .first) (now (a .work)) (l .work) (l .at) (l .k) (l .symbol)
-    (l .inv .5) (t .loop-test .taken) (b .bind .last .0) (g .id-at .result) (c .arg-end .result) (g .id-at .ensures)
+    (l .inv .5) (b .bind .last .0) (g .id-at .result) (c .arg-end .result) (t .loop-test .taken) (g .id-at .ensures)
     (c .arg-end .ensures .is) (b .bind .ensures) in
     (omega arith, omega arith, omega arith, omega arith, next .size, next)
 

@@ -3,6 +3,7 @@
 use borrow.Author.Needs.{needs}
 use mathlib.Core.Path.{refl}
 use Rattle.model.specs.Lists.{isIn}
+use Rattle.model.specs.Opcodes as code
 use Rattle.model.specs.Shape.{shapeOf, bothWays, oneWay}
 use Rattle.shape.proofs.Opcodes.{own-zero, own-opcode, is-free}
 use Rattle.shape.proofs.agrees.Statement.{statement}
@@ -14,12 +15,12 @@ agrees-spec =
     tie.close
     (tie.spec
     (λ c κs. is-free _ (c .match .rest))
-    (λ c. own-zero 0 refl refl _ _ (c .match .keys1))
-    (λ c. own-zero 1 refl refl _ _ (c .match .keys2))
-    (λ c. own-opcode 7 0x72 refl refl refl _ _ (c .match .keys3))
-    (λ c. own-opcode 10 0xD6 refl refl refl _ _ (c .match .keys4))
-    (λ c. own-opcode 11 0xD8 refl refl refl _ _ (c .match .keys5))
-    (λ c. own-opcode 12 0xD9 refl refl refl _ _ (c .match .keys6))
-    (λ c. own-opcode 17 0x8C refl refl refl _ _ (c .match .keys7))
-    (λ c. own-opcode 16 0x86 refl refl refl _ _ (c .match .keys8))
+    (λ c. own-zero code.Const refl refl _ _ (c .match .keys1))
+    (λ c. own-zero code.Unparsed refl refl _ _ (c .match .keys2))
+    (λ c. own-opcode code.ValUse code.ValUseOp refl refl refl _ _ (c .match .keys3))
+    (λ c. own-opcode code.ValDef code.ValDefOp refl refl refl _ _ (c .match .keys4))
+    (λ c. own-opcode code.BlockValue code.BlockValueOp refl refl refl _ _ (c .match .keys5))
+    (λ c. own-opcode code.FuncValue code.FuncValueOp refl refl refl _ _ (c .match .keys6))
+    (λ c. own-opcode code.SelectField code.SelectFieldOp refl refl refl _ _ (c .match .keys7))
+    (λ c. own-opcode code.Tuple code.TupleOp refl refl refl _ _ (c .match .keys8))
     (λ c. search needs))

@@ -5,7 +5,8 @@ use native.Mathlib.Omega.{arith}
 use denote.Ref.{now}
 use lib.ListN.{length}
 use Rattle.regions.specs.Regions.{IDS, end}
-use Rattle.walk.proofs.Args.{Pushing, push-start, push-id, push-stands, push-turn, push-end}
+use Rattle.shape.proofs.Args.{down-id, down-stands}
+use Rattle.walk.proofs.Args.{Pushing, push-start, push-turn, push-end}
 use Rattle.walk.proofs.push_args.Statement.{statement}
 use Rattle.walk.proofs.push_args.Tie as tie
 
@@ -28,19 +29,13 @@ loop-holds c =
           (now (b .args .work)) (b .pre .0),
     )
 
-id-at-requires : tie.Need-id-at-requires Inv-loop μ-loop
-id-at-requires c κs = push-id _ _ _ _ _ _ _ (c .before .loop .inv .4) (c .loop-test .taken)
-
-arg-end-requires : tie.Need-arg-end-requires Inv-loop μ-loop
-arg-end-requires c κs = push-stands _ _ _ _ _ _ _ (c .before .before .loop .inv .4) (c .before .loop-test .taken)
-
 loop-again : tie.Need-loop-again Inv-loop μ-loop
 loop-again c =
     let a = c .before .before .before .before .before .before .args in
     let l = c .before .before .before .loop in
     let next =
     push-turn (now (a .lit)) (a .n) (a .top) (now (a .work)) (l .work) (l .at) (l .k) (l .inv .4)
-    (c .before .before .loop-test .taken) (c .before .id-at .result) (c .arg-end .result) (omega arith) (omega arith)
+    (c .before .id-at .result) (c .arg-end .result) (c .before .before .loop-test .taken) (omega arith) (omega arith)
     (c .before .id-at .ensures) (c .arg-end .ensures .is) in
     (omega arith, omega arith, omega arith, next .kept .long, next)
 
@@ -49,6 +44,8 @@ returns c = push-end _ _ _ _ _ _ _ (c .before .loop .inv .4) (c .loop-test .left
 
 pub push-args-spec : {M : Type 1} → statement M
 push-args-spec =
-    tie.close (tie.spec Inv-loop μ-loop loop-holds (λ c. omega arith) id-at-requires (λ c. omega arith)
-    (λ c. omega arith) (λ c. omega arith) arg-end-requires (λ c. omega arith) loop-again (λ c. c .before .loop .inv .3)
-    returns)
+    tie.close (tie.spec Inv-loop μ-loop loop-holds (λ c. omega arith)
+    (λ c κs. down-id (c .loop-test .taken) (c .before .loop .inv .4 .left)) (λ c. omega arith)
+    (λ c. omega arith) (λ c. omega arith)
+    (λ c κs. down-stands (c .before .loop-test .taken) (c .before .before .loop .inv .4 .left)) (λ c. omega arith)
+    loop-again (λ c. c .before .loop .inv .3) returns)

@@ -5,13 +5,6 @@ use Rattle.shape.proofs.Part.{end-is, then-end, then-broken}
 use Rattle.shape.proofs.parts.arg_part.Statement.{statement}
 use Rattle.shape.proofs.parts.arg_part.Tie as tie
 
-returns : tie.Need-returns
-returns c =
-    then-end
-    (c .before .before .k .given .1)
-    (c .before .before .before .before .id-part .ensures)
-    (c .opt-part .ensures)
-
 pub arg-part-spec : {M : Type 1} → statement M
 arg-part-spec =
     tie.close
@@ -20,5 +13,5 @@ arg-part-spec =
     (λ c. search needs)
     (λ c κs. end-is (c .before .k .given .1) (c .before .before .before .id-part .ensures) .within .1)
     (λ c. search needs)
-    returns
+    (λ c. then-end (c .before .before .k .given .1) (c .before .before .before .before .id-part .ensures) (c .opt-part .ensures))
     (λ c. then-broken _ (c .enum-told .given .1) (c .before .before .id-part .ensures)))

@@ -5,13 +5,6 @@ use Rattle.shape.proofs.Part.{end-is, then-end, then-broken}
 use Rattle.shape.proofs.parts.byte_type_part.Statement.{statement}
 use Rattle.shape.proofs.parts.byte_type_part.Tie as tie
 
-returns : tie.Need-returns
-returns c =
-    then-end
-    (c .before .before .k .given .1)
-    (c .before .before .before .before .byte-part .ensures)
-    (c .type-part .ensures)
-
 pub byte-type-part-spec : {M : Type 1} → statement M
 byte-type-part-spec =
     tie.close
@@ -20,5 +13,5 @@ byte-type-part-spec =
     (λ c. search needs)
     (λ c κs. end-is (c .before .k .given .1) (c .before .before .before .byte-part .ensures) .within .1)
     (λ c. search needs)
-    returns
+    (λ c. then-end (c .before .before .k .given .1) (c .before .before .before .before .byte-part .ensures) (c .type-part .ensures))
     (λ c. then-broken _ (c .enum-told .given .1) (c .before .before .byte-part .ensures)))

@@ -7,14 +7,8 @@ use Rattle.shape.proofs.parts.method_part.Tie as tie
 
 returns : tie.Need-returns
 returns c =
-    let third = c .types-part .ensures in
-    let second =
-    then-end
-    (c .before .before .m .given .1)
-    (c .before .before .before .before .byte-part2 .ensures)
-    third
-    in
     let from = c .before .before .before .before in
+    let second = then-end (c .before .before .m .given .1) (from .byte-part2 .ensures) (c .types-part .ensures) in
     then-end (from .before .before .k .given .1) (from .before .before .before .before .byte-part .ensures) second
 
 returns-2 : tie.Need-returns-2
