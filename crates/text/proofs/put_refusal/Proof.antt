@@ -1,52 +1,28 @@
--- `text::put_refusal` meets its contract. Assumes nothing.
+-- `text::put_refusal` meets its contract. In order: the room left after each part; the whole. Assumes nothing.
+use Prim.Native.Nat.{_+_, _≤_}
 use native.Mathlib.Omega.{arith}
 use borrow.Author.Needs.{needs}
+use lib.ListN.{length}
 use Rattle.model.specs.Text.{text}
+use Rattle.output.proofs.Wrote.{wrote-leaves}
 use Rattle.text.proofs.Numbers.{numeral-length}
-use Rattle.text.proofs.Refusal.{room-1, room-2, room-3, room-4, refusal-parts}
+use Rattle.text.proofs.Refusal.{refusal-parts}
 use Rattle.text.proofs.put_refusal.Statement.{statement}
 use Rattle.text.proofs.put_refusal.Tie as tie
 
--- In each answer `s` is the start, and `w`, `v`, `x`, `z` are the places after the first four parts.
-
-put-decimal-requires : tie.Need-put-decimal-requires
+room-1 : (c : tie.After-put-bytes) → c .put-bytes .result + 45 ≤ length (c .put-bytes .last .0)
 unfolding text
-put-decimal-requires c κs =
-    let w = c .before .before .before in
-    let s = w .before .before .before .before in
-    let room = room-1 (s .args .number) (s .args .place) (s .pre) (w .put-bytes .ensures) in
-    omega (arith, room, numeral-length (s .args .number))
+room-1 c = wrote-leaves (c .put-bytes .ensures) 8 45 (omega arith) (omega (arith, c .before .before .before .before .pre))
 
-put-bytes-requires-2 : tie.Need-put-bytes-requires-2
-unfolding text
-put-bytes-requires-2 c κs =
-    let v = c .before .before .before .before in
-    let w = v .before .before .before .before in
-    let s = w .before .before .before .before in
-    let a = s .args in
-    omega (arith, room-2 (a .number) (a .place) (s .pre) (w .put-bytes .ensures) (v .put-decimal .ensures))
+room-2 : (c : tie.After-put-decimal) → c .put-decimal .result + 25 ≤ length (c .put-decimal .last .0)
+room-2 c = wrote-leaves (c .put-decimal .ensures) 20 25 (numeral-length _) (room-1 (c .before .before .before .before))
 
-put-decimal-requires-2 : tie.Need-put-decimal-requires-2
+room-3 : (c : tie.After-put-bytes2) → c .put-bytes2 .result + 21 ≤ length (c .put-bytes2 .last .0)
 unfolding text
-put-decimal-requires-2 c κs =
-    let x = c .before .before .before in
-    let v = x .before .before .before .before .before in
-    let w = v .before .before .before .before in
-    let s = w .before .before .before .before in
-    let a = s .args in
-    let room = room-3 (a .number) (a .place) (s .pre) (w .put-bytes .ensures) (v .put-decimal .ensures)
-    (x .put-bytes2 .ensures) in
-    omega (arith, room, numeral-length (a .place))
+room-3 c = wrote-leaves (c .put-bytes2 .ensures) 4 21 (omega arith) (room-2 (c .before .before .before .before .before))
 
-put-byte-requires : tie.Need-put-byte-requires
-unfolding text
-put-byte-requires c κs =
-    let z = c .before .before .before in
-    let x = z .before .before .before .before in
-    let v = x .before .before .before .before .before in
-    let w = v .before .before .before .before in
-    room-4 _ _ (w .before .before .before .before .pre) (w .put-bytes .ensures) (v .put-decimal .ensures)
-    (x .put-bytes2 .ensures) (z .put-decimal2 .ensures)
+room-4 : (c : tie.After-put-decimal2) → c .put-decimal2 .result + 1 ≤ length (c .put-decimal2 .last .0)
+room-4 c = wrote-leaves (c .put-decimal2 .ensures) 20 1 (numeral-length _) (room-3 (c .before .before .before .before))
 
 returns : tie.Need-returns
 unfolding text
@@ -55,11 +31,14 @@ returns c =
     let z = y .before .before .before .before in
     let x = z .before .before .before .before in
     let v = x .before .before .before .before .before in
-    let w = v .before .before .before .before in
-    refusal-parts _ _ (w .before .before .before .before .pre) (w .put-bytes .ensures) (v .put-decimal .ensures)
-    (x .put-bytes2 .ensures) (z .put-decimal2 .ensures) (y .put-byte .ensures)
+    refusal-parts _ _ (v .before .before .before .before .put-bytes .ensures) (v .put-decimal .ensures) (x .put-bytes2 .ensures)
+    (z .put-decimal2 .ensures) (y .put-byte .ensures)
 
 pub put-refusal-spec : {M : Type 1} → statement M
+unfolding text
 put-refusal-spec =
-    tie.close (tie.spec (λ c. search needs) (λ c κs. search needs) put-decimal-requires (λ c. search needs)
-    put-bytes-requires-2 put-decimal-requires-2 put-byte-requires (λ c. search needs) returns)
+    tie.close (tie.spec (λ c. search needs) (λ c κs. search needs)
+    (λ c κs. omega (arith, room-1 (c .before .before .before), numeral-length (c .before .before .before .before .before .before .before .args .number)))
+    (λ c. search needs) (λ c κs. omega (arith, room-2 (c .before .before .before .before)))
+    (λ c κs. omega (arith, room-3 (c .before .before .before), numeral-length (c .before .before .before .before .before .before .before .before .before .before .before .before .before .before .before .before .args .place)))
+    (λ c κs. room-4 (c .before .before .before)) (λ c. search needs) returns)
