@@ -3,3 +3,4 @@ mod Neighbours
 mod Lending
 mod Walking
 mod Bodies
+pub mod Cycles

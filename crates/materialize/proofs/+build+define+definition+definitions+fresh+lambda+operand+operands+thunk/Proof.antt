@@ -28,9 +28,7 @@ use Rattle.materialize.proofs.+build+define+definition+definitions+fres
 use Rattle.materialize.proofs.+build+define+definition+definitions+fresh+lambda+operand+operands+thunk.Proof.OfBodies as of-bodies
 use Rattle.materialize.proofs.+build+define+definition+definitions+fresh+lambda+operand+operands+thunk.Proof.OfScopes as of-scopes
 use Rattle.materialize.proofs.+build+define+definition+definitions+fresh+lambda+operand+operands+thunk.Proof.OfDefinitions as of-definitions
-use Rattle.materialize.proofs.+build+define+definition+definitions+fresh+lambda+operand+operands+thunk.{}
 use Rattle.materialize.proofs.+build+define+definition+definitions+fresh+lambda+operand+operands+thunk.{statement}
-use Rattle.materialize.proofs.+build+define+definition+definitions+fresh+lambda+operand+operands+thunk.Tie.{}
 use Rattle.materialize.proofs.+build+define+definition+definitions+fresh+lambda+operand+operands+thunk.Tie.{close}
 
 pub +build+define+definition+definitions+fresh+lambda+operand+operands+thunk-spec : {M : Type 1} → statement M
@@ -38,11 +36,11 @@ pub +build+define+definition+definitions+fresh+lambda+operand+operands+thunk-spe
     close cycle.μ-build cycle.μ-define cycle.μ-definition cycle.μ-definitions cycle.μ-fresh cycle.μ-lambda
     cycle.μ-operand cycle.μ-operands cycle.μ-thunk
     (λ t. build-lts.spec (cycle.build-claims t) (cycle.build-at t) build.Post (of-symbols.build-returns t)
-    (λ c. search needs) (of-symbols.build-shared-slice-read-id t) (of-symbols.build-put-requires t) (λ c. search needs)
-    (of-symbols.build-returns-2 t) (of-symbols.build-fresh-requires t) (λ c. search needs)
+    (λ c. search needs) (λ c. search needs) (λ c κs. search needs) (λ c. search needs)
+    (of-symbols.build-returns-2 t) (λ c κs. search needs) (λ c. search needs)
     (of-symbols.build-returns-3 t))
     (λ t. define-lts.spec (cycle.define-claims t) (cycle.define-at t) define.Post (of-scopes.define-returns t)
-    (of-scopes.define-any-member-requires t) (of-scopes.define-build-requires t) (λ c. search needs)
+    (λ c κs. search needs) (of-scopes.define-build-requires t) (λ c. search needs)
     (λ c. search needs) (of-scopes.define-returns-2 t) (λ c κs. search needs) (λ c. search needs)
     (of-scopes.define-schedule-requires t) (λ c. search needs) (of-scopes.define-members-requires t)
     (of-scopes.define-build-requires-2 t) (λ c. search needs) (λ c. search needs) (of-scopes.define-returns-3 t)
@@ -50,28 +48,28 @@ pub +build+define+definition+definitions+fresh+lambda+operand+operands+thunk-spe
     (of-scopes.define-add-definitions t) (of-scopes.define-definitions-requires t) (of-scopes.define-add-build t)
     (of-scopes.define-build-requires-3 t) (λ c. search needs) (λ c. search needs) (of-scopes.define-returns-4 t))
     (λ t. definition-lts.spec (cycle.definition-claims t) (cycle.definition-at t) definition.Post
-    (of-definitions.definition-member-requires t) (of-definitions.definition-add-id t)
-    (of-definitions.definition-put-requires t) (of-definitions.definition-add-build t)
-    (of-definitions.definition-build-requires t) (λ c. search needs) (of-definitions.definition-slice-write-map t)
+    (λ c κs. search needs) (λ c. search needs)
+    (λ c κs. search needs) (λ c. search needs)
+    (of-definitions.definition-build-requires t) (λ c. search needs) (λ c. search needs)
     (λ c. search needs) (λ c. search needs) (of-definitions.definition-returns t) (λ c. search needs)
     (λ c. search needs) (of-definitions.definition-returns-2 t))
     (λ t. definitions-lts.spec (cycle.definitions-claims t) (cycle.definitions-at t)
     definitions.Post of-definitions.definitions-Inv-loop of-definitions.definitions-μ-loop
     (of-definitions.definitions-loop-holds t) (λ c. search needs)
-    (of-definitions.definitions-shared-slice-read-wide t) (λ c κs. search needs)
+    (λ c. search needs) (λ c κs. search needs)
     (of-definitions.definitions-definition-requires t) (λ c. search needs) (λ c. search needs)
     (of-definitions.definitions-loop-again t) (λ c. search needs) (λ c. search needs)
     (of-definitions.definitions-returns t))
-    (λ t. fresh-lts.spec (cycle.fresh-claims t) (cycle.fresh-at t) fresh.Post (of-symbols.fresh-load-requires t)
-    (λ c. search needs) (of-symbols.fresh-put-requires t) (λ c. search needs) (of-symbols.fresh-put-requires-2 t)
-    (λ c. search needs) (of-symbols.fresh-put-requires-3 t) (λ c. search needs) (of-symbols.fresh-lambda-requires t)
+    (λ t. fresh-lts.spec (cycle.fresh-claims t) (cycle.fresh-at t) fresh.Post (λ c κs. search needs)
+    (λ c. search needs) (λ c κs. search needs) (λ c. search needs) (λ c κs. search needs)
+    (λ c. search needs) (λ c κs. search needs) (λ c. search needs) (of-symbols.fresh-lambda-requires t)
     (λ c. search needs) (of-symbols.fresh-operands-requires t) (λ c. search needs) (of-symbols.fresh-returns t)
     (λ c. search needs) (of-symbols.fresh-returns-2 t) (λ c. search needs) (of-symbols.fresh-returns-3 t)
-    (λ c. search needs) (of-symbols.fresh-returns-4 t) (λ c. search needs) (of-symbols.fresh-returns-5 t))
+    (λ c. search needs) (λ c. search needs) (λ c. search needs) (λ c. search needs))
     (λ t. lambda-lts.spec (cycle.lambda-claims t) (cycle.lambda-at t) lambda.Post (λ c κs. search needs)
-    (of-bodies.lambda-aux-requires t) (λ c κs. search needs) (of-bodies.lambda-load-requires t) (λ c κs. search needs)
+    (of-bodies.lambda-aux-requires t) (λ c κs. search needs) (λ c κs. search needs) (λ c κs. search needs)
     (λ c. search needs) (λ c. search needs) (of-bodies.lambda-slice-read-wide t) (λ c κs. search needs)
-    (of-bodies.lambda-put-requires t) (of-bodies.lambda-copied-requires t) (λ c. search needs) (λ c κs. search needs)
+    (λ c κs. search needs) (λ c κs. search needs) (λ c. search needs) (λ c κs. search needs)
     (λ c κs. search needs) (of-bodies.lambda-number-requires t) (λ c κs. search needs) (λ c. search needs)
     (of-bodies.lambda-add-define t) (of-bodies.lambda-add-define-2 t) (of-bodies.lambda-add-define-3 t)
     (of-bodies.lambda-define-requires t) (λ c. search needs) (of-bodies.lambda-returns t))
@@ -81,13 +79,13 @@ pub +build+define+definition+definitions+fresh+lambda+operand+operands+thunk-spe
     (of-symbols.operand-returns-2 t))
     (λ t. operands-lts.spec (cycle.operands-claims t) (cycle.operands-at t)
     operands.Post of-symbols.operands-Inv-loop of-symbols.operands-μ-loop (λ c κs. search needs)
-    (of-symbols.operands-opcode-requires t) (of-symbols.operands-load-requires t) (λ c κs. search needs)
-    (λ c. search needs) (λ c κs. search needs) (λ c κs. search needs) (of-symbols.operands-put-requires t)
+    (of-symbols.operands-opcode-requires t) (λ c κs. search needs) (λ c κs. search needs)
+    (λ c. search needs) (λ c κs. search needs) (λ c κs. search needs) (λ c κs. search needs)
     (of-symbols.operands-loop-holds t) (λ c. search needs) (λ c. search needs) (of-symbols.operands-slice-read-wide t)
-    (λ c κs. search needs) (of-symbols.operands-operand-scope-requires t) (of-symbols.operands-add-operand t)
+    (λ c κs. search needs) (λ c κs. search needs) (of-symbols.operands-add-operand t)
     (of-symbols.operands-operand-requires t) (λ c. search needs) (λ c. search needs) (of-symbols.operands-loop-again t)
     (λ c. search needs) (of-symbols.operands-returns t))
-    (λ t. thunk-lts.spec (cycle.thunk-claims t) (cycle.thunk-at t) thunk.Post (of-bodies.thunk-any-member-requires t)
+    (λ t. thunk-lts.spec (cycle.thunk-claims t) (cycle.thunk-at t) thunk.Post (λ c κs. search needs)
     (of-bodies.thunk-build-requires t) (λ c. search needs) (of-bodies.thunk-returns t)
-    (of-bodies.thunk-copied-requires t) (λ c. search needs) (of-bodies.thunk-define-requires t) (λ c. search needs)
+    (λ c κs. search needs) (λ c. search needs) (of-bodies.thunk-define-requires t) (λ c. search needs)
     (of-bodies.thunk-returns-2 t))

@@ -34,39 +34,39 @@ pub +across+borrowed+collect+free+gather+local+near+visit-spec : {M : Type 1} �
     measures.μ-near measures.μ-visit
     (λ t. across-lts.spec (measures.across-calls t) (measures.across-at t) across.Post measures.across-Inv-loop
     measures.across-μ-loop
-    (λ c κs. search needs) (λ c. search needs) (walks.across-free-requires t) (walks.across-loop-holds t)
-    (λ c. omega arith) (walks.across-array-read-wide t) (λ c κs. search needs) (walks.across-visit-requires t)
-    (λ c. omega arith) (λ c. omega arith) (walks.across-loop-again t) (walks.across-same-length t)
-    (walks.across-same-length-2 t) (walks.across-returns t))
+    (λ c κs. search needs) (λ c. search needs) (λ c κs. search needs) (walks.across-loop-holds t)
+    (λ c. omega arith) (λ c. search needs) (λ c κs. search needs) (walks.across-visit-requires t)
+    (λ c. omega arith) (λ c. omega arith) (walks.across-loop-again t) (λ c. search needs)
+    (λ c. search needs) (walks.across-returns t))
     (λ t. borrowed-lts.spec (measures.borrowed-calls t) (measures.borrowed-at t) borrowed.Post
-    (λ c κs. search needs) (λ c. search needs) (frees.borrowed-free-requires t) (λ c. search needs)
-    (frees.borrowed-offer-list-requires t) (frees.borrowed-same-length t) (frees.borrowed-returns t))
+    (λ c κs. search needs) (λ c. search needs) (λ c κs. search needs) (λ c. search needs)
+    (frees.borrowed-offer-list-requires t) (λ c. search needs) (frees.borrowed-returns t))
     (λ t. collect-lts.spec (measures.collect-calls t) (measures.collect-at t) collect.Post measures.collect-Inv-loop
     measures.collect-μ-loop
-    (frees.collect-loop-holds t) (λ c. omega arith) (frees.collect-shared-slice-read-wide t) (λ c κs. search needs)
+    (frees.collect-loop-holds t) (λ c. omega arith) (λ c. search needs) (λ c κs. search needs)
     (frees.collect-gather-requires t) (λ c. omega arith) (λ c. omega arith) (frees.collect-loop-again t)
-    (frees.collect-same-length t) (frees.collect-returns t))
+    (λ c. search needs) (frees.collect-returns t))
     (λ t. free-lts.spec (measures.free-calls t) (measures.free-at t) free.Post
     (λ c κs. search needs) (λ c κs. search needs) (λ c κs. search needs) (λ c. search needs) (λ c. search needs)
     (λ c. search needs) (frees.free-local-requires t) (λ c. search needs) (λ c. search needs)
     (frees.free-put-requires t) (λ c. search needs) (frees.free-collect-requires t) (λ c. search needs)
     (frees.free-returns t))
     (λ t. gather-lts.spec (measures.gather-calls t) (measures.gather-at t) gather.Post
-    (frees.gather-relation-requires t) (λ c. search needs) (frees.gather-offer-kids-requires t) (λ c. search needs)
-    (frees.gather-borrowed-requires t) (λ c. search needs) (frees.gather-same-length t) (frees.gather-returns t)
-    (frees.gather-same-length-2 t) (frees.gather-returns-2 t) (frees.gather-returns-3 t))
+    (λ c κs. search needs) (λ c. search needs) (frees.gather-offer-kids-requires t) (λ c. search needs)
+    (frees.gather-borrowed-requires t) (λ c. search needs) (λ c. search needs) (frees.gather-returns t)
+    (λ c. search needs) (frees.gather-returns-2 t) (frees.gather-returns-3 t))
     (λ t. local-lts.spec (measures.local-calls t) (measures.local-at t) local.Post measures.local-Inv-loop
     measures.local-μ-loop
     (λ c κs. search needs) (λ c. search needs) (λ c. search needs) (λ c. search needs) (walks.local-loop-holds t)
-    (walks.local-add-d t) (λ c. search needs) (walks.local-shared-slice-read-d t) (walks.local-cast-d t)
+    (λ c. search needs) (λ c. search needs) (walks.local-shared-slice-read-d t) (walks.local-cast-d t)
     (walks.local-slice-read-if1 t) (walks.local-visit-requires t) (λ c. omega arith) (λ c. omega arith)
-    (walks.local-loop-again t) (walks.local-same-length t) (walks.local-same-length-2 t) (walks.local-returns t))
+    (walks.local-loop-again t) (λ c. search needs) (λ c. search needs) (walks.local-returns t))
     (λ t. near-lts.spec (measures.near-calls t) (measures.near-at t) near.Post
-    (walks.near-is-end-requires t) (walks.near-returns t) (walks.near-relation-requires t) (λ c. search needs)
-    (walks.near-local-requires t) (λ c. search needs) (walks.near-across-requires t) (λ c. search needs)
-    (walks.near-same-length t) (walks.near-same-length-2 t) (walks.near-returns-2 t) (walks.near-same-length-3 t)
-    (walks.near-same-length-4 t) (walks.near-returns-3 t) (walks.near-returns-4 t))
+    (λ c κs. search needs) (walks.near-returns t) (λ c κs. search needs) (λ c. search needs)
+    (λ c κs. search needs) (λ c. search needs) (λ c κs. search needs) (λ c. search needs)
+    (λ c. search needs) (λ c. search needs) (walks.near-returns-2 t) (λ c. search needs)
+    (λ c. search needs) (walks.near-returns-3 t) (walks.near-returns-4 t))
     λ t. visit-lts.spec (measures.visit-calls t) (measures.visit-at t) visit.Post
-    (walks.visit-is-passed-requires t) (walks.visit-returns t) (walks.visit-slice-read-if2 t)
-    (walks.visit-returns-2 t) (walks.visit-near-requires t) (walks.visit-put-requires t) (walks.visit-same-length t)
-    (walks.visit-same-length-2 t) (walks.visit-returns-3 t)
+    (λ c κs. search needs) (walks.visit-returns t) (λ c. search needs)
+    (walks.visit-returns-2 t) (λ c κs. search needs) (walks.visit-put-requires t) (λ c. search needs)
+    (λ c. search needs) (walks.visit-returns-3 t)

@@ -1,9 +1,10 @@
 -- The cycle of calls: measures, which fall with the symbol and, at one symbol, from operand to operation; what each
 -- function asks, and what its callees claim.
 -- Assumes nothing.
-use Prim.Native.Nat.{ℕ, _+_, _*_, _<_}
+use Prim.Native.Nat.{ℕ, _+_, _*_}
 use borrow.Fn.Kinds.{In}
-use borrow.Fn.PlainCycle.{Measures, is, falls, and}
+use borrow.Fn.PlainCycle.{Measures}
+use Rattle.schedule.proofs.Cycles.{at, below}
 use Rattle.materialize.proofs.build.Reads as build
 use Rattle.materialize.proofs.build.Kinds as build-kinds
 use Rattle.materialize.proofs.+build+define+definition+definitions+fresh+lambda+operand+operands+thunk.Lts-build as build-lts
@@ -80,75 +81,43 @@ abbrev pub μ-thunk : Measures 3 thunk-kinds.ps ℕ
 -- ---- what a function of the cycle asks, and its callees
 
 abbrev pub build-at : ℕ → In 3 build-kinds.ps
-build-at t = and 3 build-kinds.ps (is 3 build-kinds.ps μ-build t) build.Pre
-
-abbrev pub build-below : ℕ → In 3 build-kinds.ps
-build-below t = and 3 build-kinds.ps (falls 3 build-kinds.ps _<_ μ-build t) build.Pre
+build-at = at 3 build-kinds.ps μ-build build.Pre
 
 abbrev pub define-at : ℕ → In 3 define-kinds.ps
-define-at t = and 3 define-kinds.ps (is 3 define-kinds.ps μ-define t) define.Pre
-
-abbrev pub define-below : ℕ → In 3 define-kinds.ps
-define-below t = and 3 define-kinds.ps (falls 3 define-kinds.ps _<_ μ-define t) define.Pre
+define-at = at 3 define-kinds.ps μ-define define.Pre
 
 abbrev pub definition-at : ℕ → In 3 definition-kinds.ps
-definition-at t =
-    and 3 definition-kinds.ps (is 3 definition-kinds.ps μ-definition t) definition.Pre
-
-abbrev pub definition-below : ℕ → In 3 definition-kinds.ps
-definition-below t =
-    and 3 definition-kinds.ps (falls 3 definition-kinds.ps _<_ μ-definition t) definition.Pre
+definition-at = at 3 definition-kinds.ps μ-definition definition.Pre
 
 abbrev pub definitions-at : ℕ → In 4 definitions-kinds.ps
-definitions-at t =
-    and 4 definitions-kinds.ps (is 4 definitions-kinds.ps μ-definitions t) definitions.Pre
-
-abbrev pub definitions-below : ℕ → In 4 definitions-kinds.ps
-definitions-below t =
-    and 4 definitions-kinds.ps (falls 4 definitions-kinds.ps _<_ μ-definitions t) definitions.Pre
+definitions-at = at 4 definitions-kinds.ps μ-definitions definitions.Pre
 
 abbrev pub fresh-at : ℕ → In 3 fresh-kinds.ps
-fresh-at t = and 3 fresh-kinds.ps (is 3 fresh-kinds.ps μ-fresh t) fresh.Pre
-
-abbrev pub fresh-below : ℕ → In 3 fresh-kinds.ps
-fresh-below t = and 3 fresh-kinds.ps (falls 3 fresh-kinds.ps _<_ μ-fresh t) fresh.Pre
+fresh-at = at 3 fresh-kinds.ps μ-fresh fresh.Pre
 
 abbrev pub lambda-at : ℕ → In 3 lambda-kinds.ps
-lambda-at t = and 3 lambda-kinds.ps (is 3 lambda-kinds.ps μ-lambda t) lambda.Pre
-
-abbrev pub lambda-below : ℕ → In 3 lambda-kinds.ps
-lambda-below t = and 3 lambda-kinds.ps (falls 3 lambda-kinds.ps _<_ μ-lambda t) lambda.Pre
+lambda-at = at 3 lambda-kinds.ps μ-lambda lambda.Pre
 
 abbrev pub operand-at : ℕ → In 3 operand-kinds.ps
-operand-at t = and 3 operand-kinds.ps (is 3 operand-kinds.ps μ-operand t) operand.Pre
-
-abbrev pub operand-below : ℕ → In 3 operand-kinds.ps
-operand-below t = and 3 operand-kinds.ps (falls 3 operand-kinds.ps _<_ μ-operand t) operand.Pre
+operand-at = at 3 operand-kinds.ps μ-operand operand.Pre
 
 abbrev pub operands-at : ℕ → In 3 operands-kinds.ps
-operands-at t = and 3 operands-kinds.ps (is 3 operands-kinds.ps μ-operands t) operands.Pre
-
-abbrev pub operands-below : ℕ → In 3 operands-kinds.ps
-operands-below t =
-    and 3 operands-kinds.ps (falls 3 operands-kinds.ps _<_ μ-operands t) operands.Pre
+operands-at = at 3 operands-kinds.ps μ-operands operands.Pre
 
 abbrev pub thunk-at : ℕ → In 3 thunk-kinds.ps
-thunk-at t = and 3 thunk-kinds.ps (is 3 thunk-kinds.ps μ-thunk t) thunk.Pre
-
-abbrev pub thunk-below : ℕ → In 3 thunk-kinds.ps
-thunk-below t = and 3 thunk-kinds.ps (falls 3 thunk-kinds.ps _<_ μ-thunk t) thunk.Pre
+thunk-at = at 3 thunk-kinds.ps μ-thunk thunk.Pre
 
 -- ---- what its callees claim
 
 abbrev pub build-claims : ℕ → build-lts.Claims
 build-claims t =
-    (put-reads.Asked, put-reads.Learnt, fresh-below t, fresh.Post)
+    (put-reads.Asked, put-reads.Learnt, below 3 fresh-kinds.ps μ-fresh fresh.Pre t, fresh.Post)
 
 abbrev pub define-claims : ℕ → define-lts.Claims
 define-claims t = (
   any-member-reads.Asked,
   any-member-reads.Learnt,
-  build-below t,
+  below 3 build-kinds.ps μ-build build.Pre t,
   build.Post,
   zeros16-reads.Asked,
   zeros16-reads.Learnt,
@@ -158,17 +127,17 @@ define-claims t = (
   members-reads.Learnt,
   put-reads.Asked,
   put-reads.Learnt,
-  definitions-below t,
+  below 4 definitions-kinds.ps μ-definitions definitions.Pre t,
   definitions.Post,
 )
 
 abbrev pub definition-claims : ℕ → definition-lts.Claims
 definition-claims t =
-    (member-reads.Asked, member-reads.Learnt, put-reads.Asked, put-reads.Learnt, build-below t, build.Post)
+    (member-reads.Asked, member-reads.Learnt, put-reads.Asked, put-reads.Learnt, below 3 build-kinds.ps μ-build build.Pre t, build.Post)
 
 abbrev pub definitions-claims : ℕ → definitions-lts.Claims
 definitions-claims t =
-    (entry-reads.Asked, entry-reads.Learnt, definition-below t, definition.Post)
+    (entry-reads.Asked, entry-reads.Learnt, below 3 definition-kinds.ps μ-definition definition.Pre t, definition.Post)
 
 abbrev pub fresh-claims : ℕ → fresh-lts.Claims
 fresh-claims t = (
@@ -176,9 +145,9 @@ fresh-claims t = (
   load-reads.Learnt,
   put-reads.Asked,
   put-reads.Learnt,
-  lambda-below t,
+  below 3 lambda-kinds.ps μ-lambda lambda.Pre t,
   lambda.Post,
-  operands-below t,
+  below 3 operands-kinds.ps μ-operands operands.Pre t,
   operands.Post,
 )
 
@@ -198,13 +167,13 @@ lambda-claims t = (
   copied-reads.Learnt,
   number-reads.Asked,
   number-reads.Learnt,
-  define-below t,
+  below 3 define-kinds.ps μ-define define.Pre t,
   define.Post,
 )
 
 abbrev pub operand-claims : ℕ → operand-lts.Claims
 operand-claims t =
-    (build-below t, build.Post, wide-reads.Asked, wide-reads.Learnt, thunk-below t, thunk.Post)
+    (below 3 build-kinds.ps μ-build build.Pre t, build.Post, wide-reads.Asked, wide-reads.Learnt, below 3 thunk-kinds.ps μ-thunk thunk.Pre t, thunk.Post)
 
 abbrev pub operands-claims : ℕ → operands-lts.Claims
 operands-claims t = (
@@ -220,7 +189,7 @@ operands-claims t = (
   put-reads.Learnt,
   operand-scope-reads.Asked,
   operand-scope-reads.Learnt,
-  operand-below t,
+  below 3 operand-kinds.ps μ-operand operand.Pre t,
   operand.Post,
 )
 
@@ -228,10 +197,10 @@ abbrev pub thunk-claims : ℕ → thunk-lts.Claims
 thunk-claims t = (
   any-member-reads.Asked,
   any-member-reads.Learnt,
-  build-below t,
+  below 3 build-kinds.ps μ-build build.Pre t,
   build.Post,
   copied-reads.Asked,
   copied-reads.Learnt,
-  define-below t,
+  below 3 define-kinds.ps μ-define define.Pre t,
   define.Post,
 )

@@ -10,7 +10,7 @@ use Rattle.planner.proofs.Loaded.{source-low, slots-loaded}
 use Rattle.record.specs.Record.{rowAt}
 use Rattle.key.specs.declared.Symbol.{Symbol}
 use Rattle.planner.proofs.Nodes.{grew-few, plans-copied}
-use Rattle.planner.proofs.Sites.{put-fits, load-fits, site-on}
+use Rattle.planner.proofs.Sites.{site-on}
 use Rattle.planner.proofs.Scoping.{plans-memberless}
 use Rattle.planner.proofs.Binding.{lambda-fits, lambda-writable, body-low, plans-lambda}
 use Rattle.materialize.proofs.lambda.Reads as lambda
@@ -20,13 +20,6 @@ use Rattle.materialize.proofs.+build+define+definition+definitions+fres
 use Rattle.materialize.proofs.+build+define+definition+definitions+fresh+lambda+operand+operands+thunk.Proof.Cycle as cycle
 
 -- ---- thunk
-
-pub thunk-any-member-requires : (t : ℕ) → thunk-lts.Need-any-member-requires (cycle.thunk-claims t) (cycle.thunk-at t)
-    thunk.Post
-thunk-any-member-requires t c κs =
-    let z = c .before .before .before .before in
-    let at = z .pre .1 .1 .1 .0 in
-    (z .pre .1 .0, (z .pre .1 .1 .0, (at .low, at .long)))
 
 pub thunk-build-requires : (t : ℕ) → thunk-lts.Need-build-requires (cycle.thunk-claims t) (cycle.thunk-at t) thunk.Post
 thunk-build-requires t c κs =
@@ -42,10 +35,6 @@ thunk-returns t c =
     let z = c6 .before .before .before .before .before in
     plans-memberless _ _ (z .pre .1 .1 .0) _ _ _ (c6 .any-member .ensures) (not-true _ (c5 .if1 .taken))
     (c2 .build .ensures)
-
-pub thunk-copied-requires : (t : ℕ) → thunk-lts.Need-copied-requires (cycle.thunk-claims t) (cycle.thunk-at t)
-    thunk.Post
-thunk-copied-requires t c κs = c .before .before .before .before .before .before .pre .1 .1 .1 .0 .long
 
 pub thunk-define-requires : (t : ℕ) → thunk-lts.Need-define-requires (cycle.thunk-claims t) (cycle.thunk-at t)
     thunk.Post
@@ -86,12 +75,6 @@ lambda-aux-requires t c κs =
     let e = z .pre .1 .1 .1 .1 in
     (z .pre .1 .0, omega (arith, c .wide .ensures, source-low b _ (at .low) _ e))
 
-pub lambda-load-requires : (t : ℕ) → lambda-lts.Need-load-requires (cycle.lambda-claims t) (cycle.lambda-at t)
-    lambda.Post
-lambda-load-requires t c κs =
-    let z = c .before .before .before .before .before .before .before in
-    load-fits (z .pre .1 .1 .1 .0) (z .pre .1 .1 .0)
-
 pub lambda-slice-read-wide : (t : ℕ) → lambda-lts.Need-slice-read-wide (cycle.lambda-claims t) (cycle.lambda-at t)
     lambda.Post
 lambda-slice-read-wide t c =
@@ -100,17 +83,6 @@ lambda-slice-read-wide t c =
     let at = z .pre .1 .1 .1 .0 in
     let slots = slots-loaded b _ (at .low) (c .before .before .load .ensures) in
     omega (arith, c .before .wide3 .ensures, slots, b .arena .scoped .words)
-
-pub lambda-put-requires : (t : ℕ) → lambda-lts.Need-put-requires (cycle.lambda-claims t) (cycle.lambda-at t) lambda.Post
-lambda-put-requires t c κs =
-    let z = c .before .before .before .before .before .before .before .before .before .before .before .before in
-    put-fits (z .pre .1 .1 .1 .0) (z .pre .1 .1 .0)
-
-pub lambda-copied-requires : (t : ℕ) → lambda-lts.Need-copied-requires (cycle.lambda-claims t) (cycle.lambda-at t)
-    lambda.Post
-lambda-copied-requires t c κs =
-    c .before .before .before .before .before .before .before .before .before .before .before .before .before .before
-    .before .pre .1 .1 .1 .0 .long
 
 pub lambda-number-requires : (t : ℕ) → lambda-lts.Need-number-requires (cycle.lambda-claims t) (cycle.lambda-at t)
     lambda.Post

@@ -6,7 +6,7 @@ use lib.ListN.{length, take}
 use Rattle.planner.specs.Planning.{Defines}
 use Rattle.planner.proofs.Keeping.{buildable-kept}
 use Rattle.planner.proofs.Nodes.{grew-few}
-use Rattle.planner.proofs.Sites.{put-fits, id-fits, site-on}
+use Rattle.planner.proofs.Sites.{id-fits, site-on}
 use Rattle.planner.proofs.Scoping.{defines-none, defines-one, defines-other, defines-more}
 use Rattle.materialize.proofs.definition.Reads as definition
 use Rattle.materialize.proofs.+build+define+definition+definitions+fresh+lambda+operand+operands+thunk.Lts-definition as definition-lts
@@ -31,12 +31,6 @@ definitions-loop-holds t c =
     let z = c .before .before .before .before in
     let at = z .pre .1 .1 .1 .0 in
     (omega arith, at .long, defines-none (at .count))
-
-pub definitions-shared-slice-read-wide : (t : ℕ) → definitions-lts.Need-shared-slice-read-wide
-    (cycle.definitions-claims t) (cycle.definitions-at t) definitions.Post definitions-Inv-loop definitions-μ-loop
-definitions-shared-slice-read-wide t c =
-    let z = c .before .before .before .before .before .before .before in
-    omega (arith, z .pre .1 .1 .1 .1 .0 .0, z .pre .1 .1 .1 .1 .0 .1)
 
 pub definitions-definition-requires : (t : ℕ) → definitions-lts.Need-definition-requires (cycle.definitions-claims t)
     (cycle.definitions-at t) definitions.Post definitions-Inv-loop definitions-μ-loop
@@ -95,31 +89,6 @@ definitions-returns t c =
 
 -- ---- definition
 
-pub definition-member-requires : (t : ℕ) → definition-lts.Need-member-requires (cycle.definition-claims t)
-    (cycle.definition-at t) definition.Post
-definition-member-requires t c κs =
-    let z = c .before .before .before .before .before in
-    let at = z .pre .1 .1 .1 in
-    (z .pre .1 .0, (z .pre .1 .1 .0, (at .low, at .long)))
-
-pub definition-add-id : (t : ℕ) → definition-lts.Need-add-id (cycle.definition-claims t) (cycle.definition-at t)
-    definition.Post
-definition-add-id t c =
-    let z = c .before .before .before .before .before .before .before in
-    omega (arith, z .pre .1 .1 .1 .room)
-
-pub definition-put-requires : (t : ℕ) → definition-lts.Need-put-requires (cycle.definition-claims t)
-    (cycle.definition-at t) definition.Post
-definition-put-requires t c κs =
-    let z = c .before .before .before .before .before .before .before .before in
-    put-fits (z .pre .1 .1 .1) (z .pre .1 .1 .0)
-
-pub definition-add-build : (t : ℕ) → definition-lts.Need-add-build (cycle.definition-claims t) (cycle.definition-at t)
-    definition.Post
-definition-add-build t c =
-    let z = c .before .before .before .before .before .before .before .before .before .before .before .before .before in
-    omega (arith, z .pre .1 .1 .1 .room)
-
 pub definition-build-requires : (t : ℕ) → definition-lts.Need-build-requires (cycle.definition-claims t)
     (cycle.definition-at t) definition.Post
 definition-build-requires t c κs =
@@ -131,13 +100,6 @@ definition-build-requires t c κs =
       omega (arith, z .pre .0),
       (z .pre .1 .0, (buildable-kept (h .kept) b, site-on at refl (omega arith) (grew-few h))),
     )
-
-pub definition-slice-write-map : (t : ℕ) → definition-lts.Need-slice-write-map (cycle.definition-claims t)
-    (cycle.definition-at t) definition.Post
-definition-slice-write-map t c =
-    let z = c .before .before .before .before .before .before .before .before .before .before .before .before .before
-    .before .before .before in
-    id-fits (z .pre .1 .1 .1) (z .pre .1 .1 .0)
 
 pub definition-returns : (t : ℕ) → definition-lts.Need-returns (cycle.definition-claims t) (cycle.definition-at t)
     definition.Post

@@ -19,13 +19,6 @@ pub define-returns : (t : ℕ) → define-lts.Need-returns (cycle.define-claims 
 define-returns t c =
     plans-full _ (c .if1 .taken) (c .before .before .before .before .before .pre .1 .1 .1 .0 .count)
 
-pub define-any-member-requires : (t : ℕ) → define-lts.Need-any-member-requires (cycle.define-claims t)
-    (cycle.define-at t) define.Post
-define-any-member-requires t c κs =
-    let z = c .before .before .before .before .before .before .before in
-    let at = z .pre .1 .1 .1 .0 in
-    (z .pre .1 .0, (z .pre .1 .1 .0, (at .low, at .long)))
-
 pub define-build-requires : (t : ℕ) → define-lts.Need-build-requires (cycle.define-claims t) (cycle.define-at t)
     define.Post
 define-build-requires t c κs =

@@ -1,5 +1,4 @@
 -- What is left to show of `build`, `fresh`, `operand` and `operands`: symbols. Assumes nothing.
-use borrow.Author.Needs.{needs}
 use Prim.Native.Nat.{ℕ, _+_, _-_, _≤_, _<_}
 use mathlib.Core.Path.{refl, sym, ap, _∙_}
 use native.Mathlib.Omega.{arith}
@@ -12,7 +11,7 @@ use Rattle.planner.proofs.Loaded.{node-loaded, put-as, source-low, row-writable
 use Rattle.record.specs.Record.{rowAt}
 use Rattle.planner.proofs.Nodes.{grew-few, plans-full, plans-use, plans-new, plans-const, plans-unparsed}
 use Rattle.planner.proofs.Nodes.{plans-argument, plans-same, plans-thunk, opened-scope}
-use Rattle.planner.proofs.Sites.{put-fits, load-fits, id-fits, site-on}
+use Rattle.planner.proofs.Sites.{site-on}
 use Rattle.planner.proofs.Applying.{operands-start, operands-next, operand-low, operands-end, plans-operation}
 use Rattle.materialize.proofs.build.Reads as build
 use Rattle.materialize.proofs.+build+define+definition+definitions+fresh+lambda+operand+operands+thunk.Lts-build as build-lts
@@ -30,17 +29,6 @@ pub build-returns : (t : ℕ) → build-lts.Need-returns (cycle.build-claims t) 
 build-returns t c =
     plans-full _ (c .if1 .taken) (c .before .before .before .before .before .pre .1 .1 .1 .count)
 
-pub build-shared-slice-read-id : (t : ℕ) → build-lts.Need-shared-slice-read-id (cycle.build-claims t)
-    (cycle.build-at t) build.Post
-build-shared-slice-read-id t c =
-    let z = c .before .before .before .before .before .before in
-    id-fits (z .pre .1 .1 .1) (z .pre .1 .1 .0)
-
-pub build-put-requires : (t : ℕ) → build-lts.Need-put-requires (cycle.build-claims t) (cycle.build-at t) build.Post
-build-put-requires t c κs =
-    let z = c .before .before .before .before .before .before .before .before in
-    put-fits (z .pre .1 .1 .1) (z .pre .1 .1 .0)
-
 pub build-returns-2 : (t : ℕ) → build-lts.Need-returns-2 (cycle.build-claims t) (cycle.build-at t) build.Post
 build-returns-2 t c =
     let c2 = c .before .before in
@@ -49,11 +37,6 @@ build-returns-2 t c =
     let b = z .pre .1 .1 .0 in
     let at = z .pre .1 .1 .1 in
     plans-use b _ (at .low) _ (c4 .if2 .taken) (c2 .put .ensures (z .args .forest .now) tt)
-
-pub build-fresh-requires : (t : ℕ) → build-lts.Need-fresh-requires (cycle.build-claims t) (cycle.build-at t) build.Post
-build-fresh-requires t c κs =
-    let z = c .before .before .before .before .before .before .before .before in
-    (omega (arith, z .pre .0), z .pre .1)
 
 pub build-returns-3 : (t : ℕ) → build-lts.Need-returns-3 (cycle.build-claims t) (cycle.build-at t) build.Post
 build-returns-3 t c =
@@ -65,26 +48,6 @@ build-returns-3 t c =
     plans-new b _ (at .low) _ (c4 .if2 .left) (c2 .fresh .ensures)
 
 -- ---- fresh
-
-pub fresh-load-requires : (t : ℕ) → fresh-lts.Need-load-requires (cycle.fresh-claims t) (cycle.fresh-at t) fresh.Post
-fresh-load-requires t c κs =
-    let z = c .before .before .before .before in
-    load-fits (z .pre .1 .1 .1) (z .pre .1 .1 .0)
-
-pub fresh-put-requires : (t : ℕ) → fresh-lts.Need-put-requires (cycle.fresh-claims t) (cycle.fresh-at t) fresh.Post
-fresh-put-requires t c κs =
-    let z = c .before .before .before .before .before .before .before .before .before in
-    put-fits (z .pre .1 .1 .1) (z .pre .1 .1 .0)
-
-pub fresh-put-requires-2 : (t : ℕ) → fresh-lts.Need-put-requires-2 (cycle.fresh-claims t) (cycle.fresh-at t) fresh.Post
-fresh-put-requires-2 t c κs =
-    let z = c .before .before .before .before .before .before .before .before .before in
-    put-fits (z .pre .1 .1 .1) (z .pre .1 .1 .0)
-
-pub fresh-put-requires-3 : (t : ℕ) → fresh-lts.Need-put-requires-3 (cycle.fresh-claims t) (cycle.fresh-at t) fresh.Post
-fresh-put-requires-3 t c κs =
-    let z = c .before .before .before .before .before .before .before .before in
-    put-fits (z .pre .1 .1 .1) (z .pre .1 .1 .0)
 
 pub fresh-returns : (t : ℕ) → fresh-lts.Need-returns (cycle.fresh-claims t) (cycle.fresh-at t) fresh.Post
 fresh-returns t c =
@@ -139,12 +102,6 @@ fresh-operands-requires t c κs =
     let at = z .pre .1 .1 .1 in
     (omega (arith, z .pre .0), (z .pre .1 .0, (b, (at, node-loaded _ _ (c4 .load .ensures) (c2 .node4 .given .1)))))
 
-pub fresh-returns-4 : (t : ℕ) → fresh-lts.Need-returns-4 (cycle.fresh-claims t) (cycle.fresh-at t) fresh.Post
-fresh-returns-4 t c = c .before .before .lambda .ensures
-
-pub fresh-returns-5 : (t : ℕ) → fresh-lts.Need-returns-5 (cycle.fresh-claims t) (cycle.fresh-at t) fresh.Post
-fresh-returns-5 t c = c .before .before .operands .ensures
-
 -- ---- operand
 
 pub operand-build-requires : (t : ℕ) → operand-lts.Need-build-requires (cycle.operand-claims t) (cycle.operand-at t)
@@ -197,18 +154,6 @@ operands-opcode-requires t c κs =
     let e = z .pre .1 .1 .1 .1 in
     (z .pre .1 .0, omega (arith, c .wide .ensures, source-low b _ (at .low) _ e))
 
-pub operands-load-requires : (t : ℕ) → operands-lts.Need-load-requires (cycle.operands-claims t) (cycle.operands-at t)
-    operands.Post operands-Inv-loop operands-μ-loop
-operands-load-requires t c κs =
-    let z = c .before .before .before .before .before .before in
-    load-fits (z .pre .1 .1 .1 .0) (z .pre .1 .1 .0)
-
-pub operands-put-requires : (t : ℕ) → operands-lts.Need-put-requires (cycle.operands-claims t) (cycle.operands-at t)
-    operands.Post operands-Inv-loop operands-μ-loop
-operands-put-requires t c κs =
-    let z = c .before .before .before .before .before .before .before .before .before .before .before in
-    put-fits (z .pre .1 .1 .1 .0) (z .pre .1 .1 .0)
-
 pub operands-loop-holds : (t : ℕ) → operands-lts.Need-loop-holds (cycle.operands-claims t) (cycle.operands-at t)
     operands.Post operands-Inv-loop operands-μ-loop
 operands-loop-holds t c =
@@ -248,10 +193,6 @@ operands-slice-read-wide t c =
       h .kept .long,
       b .arena .scoped .words,
     )
-
-pub operands-operand-scope-requires : (t : ℕ) → operands-lts.Need-operand-scope-requires (cycle.operands-claims t)
-    (cycle.operands-at t) operands.Post operands-Inv-loop operands-μ-loop
-operands-operand-scope-requires t c κs = search needs
 
 pub operands-add-operand : (t : ℕ) → operands-lts.Need-add-operand (cycle.operands-claims t) (cycle.operands-at t)
     operands.Post operands-Inv-loop operands-μ-loop

@@ -77,11 +77,6 @@ collect-loop-holds t c =
           (p .1 .1 .1 .1)),
     )
 
-pub collect-shared-slice-read-wide : (t : ℕ) → collect-lts.Need-shared-slice-read-wide
-    (measures.collect-calls t) (measures.collect-at t) collect.Post measures.collect-Inv-loop measures.collect-μ-loop
-collect-shared-slice-read-wide t c =
-    omega (arith, c .before .before .before .before .before .before .before .pre .1 .1 .1 .1 .0 .fit)
-
 pub collect-gather-requires : (t : ℕ) → collect-lts.Need-gather-requires
     (measures.collect-calls t) (measures.collect-at t) collect.Post measures.collect-Inv-loop measures.collect-μ-loop
 collect-gather-requires t c κs =
@@ -118,11 +113,6 @@ collect-loop-again t c =
           (c .before .before .before .before .wide .ensures .0) _ _ _ _ (l .inv .2) (v .ensures),
     )
 
-pub collect-same-length : (t : ℕ) → collect-lts.Need-same-length
-    (measures.collect-calls t) (measures.collect-at t) collect.Post measures.collect-Inv-loop measures.collect-μ-loop
-collect-same-length t c =
-    c .before .loop .inv .1
-
 pub collect-returns : (t : ℕ) → collect-lts.Need-returns
     (measures.collect-calls t) (measures.collect-at t) collect.Post measures.collect-Inv-loop measures.collect-μ-loop
 collect-returns t c =
@@ -130,11 +120,6 @@ collect-returns t c =
     arith in rw e at (l .inv .2)
 
 -- ---- `gather`
-
-pub gather-relation-requires : (t : ℕ) → gather-lts.Need-relation-requires (measures.gather-calls t)
-    (measures.gather-at t) gather.Post
-gather-relation-requires t c κs =
-    let p = c .before .before .before .pre .1 in (p .1 .0 .scoped, omega (arith, p .1 .1 .0 .0, p .1 .1 .0 .2))
 
 pub gather-offer-kids-requires : (t : ℕ) → gather-lts.Need-offer-kids-requires
     (measures.gather-calls t) (measures.gather-at t) gather.Post
@@ -151,11 +136,6 @@ gather-borrowed-requires t c κs =
     (told _ _ _ _ _ _ (r .result) Deeper (c .before .enum-told2 .given .1) (r .ensures)) refl (p .1 .1 .0 .2) in
     (omega (arith, lower), (p .0, (p .1 .0, (omega (arith, lower, p .1 .1 .0 .0), p .1 .1 .1))))
 
-pub gather-same-length : (t : ℕ) → gather-lts.Need-same-length (measures.gather-calls t) (measures.gather-at t)
-    gather.Post
-gather-same-length t c =
-    c .before .before .offer-kids .kept .1 .1 .1 .1 .1 .0
-
 pub gather-returns : (t : ℕ) → gather-lts.Need-returns (measures.gather-calls t) (measures.gather-at t) gather.Post
 gather-returns t c =
     let c5 = c .before .before .before .before .before in
@@ -164,11 +144,6 @@ gather-returns t c =
     gathered _ _ _ _ (p .1 .0) _ (p .1 .1 .0 .0) _ (p .1 .1 .0 .1) _ (relIn Local)
     (told _ _ _ _ _ _ (r .result) Local (c .before .before .before .before .enum-told .given .1) (r .ensures)) _ _ _ _
     (c .before .before .offer-kids .ensures)
-
-pub gather-same-length-2 : (t : ℕ) → gather-lts.Need-same-length-2 (measures.gather-calls t) (measures.gather-at t)
-    gather.Post
-gather-same-length-2 t c =
-    c .before .before .borrowed .kept .1 .1 .1 .1 .1 .0
 
 pub gather-returns-2 : (t : ℕ) → gather-lts.Need-returns-2 (measures.gather-calls t) (measures.gather-at t) gather.Post
 gather-returns-2 t c =
@@ -189,24 +164,6 @@ gather-returns-3 t c =
 
 -- ---- `borrowed`
 
-pub borrowed-free-requires : (t : ℕ) → borrowed-lts.Need-free-requires (measures.borrowed-calls t)
-    (measures.borrowed-at t) borrowed.Post
-borrowed-free-requires t c κs =
-    let p = c .before .before .before .before .before .pre .1 in (
-      omega arith,
-      (
-        p .0,
-        (
-          p .1 .0,
-          (
-            p .1 .1 .0,
-            search
-                needs,
-          ),
-        ),
-      ),
-    )
-
 pub borrowed-offer-list-requires : (t : ℕ) → borrowed-lts.Need-offer-list-requires
     (measures.borrowed-calls t) (measures.borrowed-at t) borrowed.Post
 borrowed-offer-list-requires t c κs =
@@ -223,11 +180,6 @@ borrowed-offer-list-requires t c κs =
         p .1 .1 .1,
       ),
     )
-
-pub borrowed-same-length : (t : ℕ) → borrowed-lts.Need-same-length (measures.borrowed-calls t) (measures.borrowed-at t)
-    borrowed.Post
-borrowed-same-length t c =
-    c .before .before .offer-list .kept .1 .1 .1 .1 .1 .0
 
 pub borrowed-returns : (t : ℕ) → borrowed-lts.Need-returns (measures.borrowed-calls t) (measures.borrowed-at t)
     borrowed.Post

@@ -1,10 +1,11 @@
 -- What falls along the cycle of `schedule`: six times the symbol, and the place of each function in a round.
 -- In order: the measures; what each function is called with; what it calls; the loops.
 -- Assumes nothing.
-use Prim.Native.Nat.{ℕ, _+_, _-_, _*_, _<_, _≤_}
+use Prim.Native.Nat.{ℕ, _+_, _-_, _*_, _≤_}
 use mathlib.Core.Path.{_≡_}
 use borrow.Fn.Kinds.{In}
-use borrow.Fn.PlainCycle.{Measures, is, falls, and}
+use borrow.Fn.PlainCycle.{Measures}
+use Rattle.schedule.proofs.Cycles.{at, below}
 use lib.ListN.{length, take}
 use Rattle.model.specs.Schedule.{each, freeVars}
 use Rattle.model.specs.Schedule as model
@@ -71,62 +72,38 @@ abbrev pub μ-visit : Measures 4 visit-kinds.ps ℕ
 μ-visit κs a = 6 * a .1 .1 .1 .1 .0 + 5
 
 abbrev pub across-at : ℕ → In 4 across-kinds.ps
-across-at t = and 4 across-kinds.ps (is 4 across-kinds.ps μ-across t) across.Pre
-
-abbrev pub across-below : ℕ → In 4 across-kinds.ps
-across-below t = and 4 across-kinds.ps (falls 4 across-kinds.ps _<_ μ-across t) across.Pre
+across-at = at 4 across-kinds.ps μ-across across.Pre
 
 abbrev pub borrowed-at : ℕ → In 3 borrowed-kinds.ps
-borrowed-at t = and 3 borrowed-kinds.ps (is 3 borrowed-kinds.ps μ-borrowed t) borrowed.Pre
-
-abbrev pub borrowed-below : ℕ → In 3 borrowed-kinds.ps
-borrowed-below t = and 3 borrowed-kinds.ps (falls 3 borrowed-kinds.ps _<_ μ-borrowed t) borrowed.Pre
+borrowed-at = at 3 borrowed-kinds.ps μ-borrowed borrowed.Pre
 
 abbrev pub collect-at : ℕ → In 4 collect-kinds.ps
-collect-at t = and 4 collect-kinds.ps (is 4 collect-kinds.ps μ-collect t) collect.Pre
-
-abbrev pub collect-below : ℕ → In 4 collect-kinds.ps
-collect-below t = and 4 collect-kinds.ps (falls 4 collect-kinds.ps _<_ μ-collect t) collect.Pre
+collect-at = at 4 collect-kinds.ps μ-collect collect.Pre
 
 abbrev pub free-at : ℕ → In 3 free-kinds.ps
-free-at t = and 3 free-kinds.ps (is 3 free-kinds.ps μ-free t) free.Pre
-
-abbrev pub free-below : ℕ → In 3 free-kinds.ps
-free-below t = and 3 free-kinds.ps (falls 3 free-kinds.ps _<_ μ-free t) free.Pre
+free-at = at 3 free-kinds.ps μ-free free.Pre
 
 abbrev pub gather-at : ℕ → In 3 gather-kinds.ps
-gather-at t = and 3 gather-kinds.ps (is 3 gather-kinds.ps μ-gather t) gather.Pre
-
-abbrev pub gather-below : ℕ → In 3 gather-kinds.ps
-gather-below t = and 3 gather-kinds.ps (falls 3 gather-kinds.ps _<_ μ-gather t) gather.Pre
+gather-at = at 3 gather-kinds.ps μ-gather gather.Pre
 
 abbrev pub local-at : ℕ → In 4 local-kinds.ps
-local-at t = and 4 local-kinds.ps (is 4 local-kinds.ps μ-local t) local.Pre
-
-abbrev pub local-below : ℕ → In 4 local-kinds.ps
-local-below t = and 4 local-kinds.ps (falls 4 local-kinds.ps _<_ μ-local t) local.Pre
+local-at = at 4 local-kinds.ps μ-local local.Pre
 
 abbrev pub near-at : ℕ → In 4 near-kinds.ps
-near-at t = and 4 near-kinds.ps (is 4 near-kinds.ps μ-near t) near.Pre
-
-abbrev pub near-below : ℕ → In 4 near-kinds.ps
-near-below t = and 4 near-kinds.ps (falls 4 near-kinds.ps _<_ μ-near t) near.Pre
+near-at = at 4 near-kinds.ps μ-near near.Pre
 
 abbrev pub visit-at : ℕ → In 4 visit-kinds.ps
-visit-at t = and 4 visit-kinds.ps (is 4 visit-kinds.ps μ-visit t) visit.Pre
-
-abbrev pub visit-below : ℕ → In 4 visit-kinds.ps
-visit-below t = and 4 visit-kinds.ps (falls 4 visit-kinds.ps _<_ μ-visit t) visit.Pre
+visit-at = at 4 visit-kinds.ps μ-visit visit.Pre
 
 abbrev pub across-calls : ℕ → across-lts.Claims
 across-calls t = (
   zeros16-reads.Asked,
   zeros16-reads.Learnt,
-  free-below t,
+  below 3 free-kinds.ps μ-free free.Pre t,
   free.Post,
   wide-reads.Asked,
   wide-reads.Learnt,
-  visit-below t,
+  below 4 visit-kinds.ps μ-visit visit.Pre t,
   visit.Post,
 )
 
@@ -134,7 +111,7 @@ abbrev pub borrowed-calls : ℕ → borrowed-lts.Claims
 borrowed-calls t = (
   zeros16-reads.Asked,
   zeros16-reads.Learnt,
-  free-below t,
+  below 3 free-kinds.ps μ-free free.Pre t,
   free.Post,
   offer-list-reads.Asked,
   offer-list-reads.Learnt,
@@ -142,7 +119,7 @@ borrowed-calls t = (
 
 abbrev pub collect-calls : ℕ → collect-lts.Claims
 collect-calls t =
-    (wide-reads.Asked, wide-reads.Learnt, gather-below t, gather.Post)
+    (wide-reads.Asked, wide-reads.Learnt, below 3 gather-kinds.ps μ-gather gather.Pre t, gather.Post)
 
 abbrev pub free-calls : ℕ → free-lts.Claims
 free-calls t = (
@@ -152,11 +129,11 @@ free-calls t = (
   zeros16-reads.Learnt,
   load-reads.Asked,
   load-reads.Learnt,
-  local-below t,
+  below 4 local-kinds.ps μ-local local.Pre t,
   local.Post,
   put-reads.Asked,
   put-reads.Learnt,
-  collect-below t,
+  below 4 collect-kinds.ps μ-collect collect.Pre t,
   collect.Post,
 )
 
@@ -166,13 +143,13 @@ gather-calls t = (
   relation-reads.Learnt,
   offer-kids-reads.Asked,
   offer-kids-reads.Learnt,
-  borrowed-below t,
+  below 3 borrowed-kinds.ps μ-borrowed borrowed.Pre t,
   borrowed.Post,
 )
 
 abbrev pub local-calls : ℕ → local-lts.Claims
 local-calls t =
-    (load-reads.Asked, load-reads.Learnt, visit-below t, visit.Post)
+    (load-reads.Asked, load-reads.Learnt, below 4 visit-kinds.ps μ-visit visit.Pre t, visit.Post)
 
 abbrev pub near-calls : ℕ → near-lts.Claims
 near-calls t = (
@@ -180,15 +157,15 @@ near-calls t = (
   is-end-reads.Learnt,
   relation-reads.Asked,
   relation-reads.Learnt,
-  local-below t,
+  below 4 local-kinds.ps μ-local local.Pre t,
   local.Post,
-  across-below t,
+  below 4 across-kinds.ps μ-across across.Pre t,
   across.Post,
 )
 
 abbrev pub visit-calls : ℕ → visit-lts.Claims
 visit-calls t =
-    (is-passed-reads.Asked, is-passed-reads.Learnt, near-below t, near.Post, put-reads.Asked, put-reads.Learnt)
+    (is-passed-reads.Asked, is-passed-reads.Learnt, below 4 near-kinds.ps μ-near near.Pre t, near.Post, put-reads.Asked, put-reads.Learnt)
 
 abbrev pub across-Inv-loop : across-lts.InvT-loop
 across-Inv-loop forest work g o s seen₀ list₀ n own count at₀ k₀ seen list at k =

@@ -27,37 +27,16 @@ use Rattle.schedule.proofs.+across+borrowed+collect+free+gather+local+n
 
 -- ---- `visit`
 
-pub visit-is-passed-requires : (t : ℕ) → visit-lts.Need-is-passed-requires (measures.visit-calls t) (measures.visit-at
-    t) visit.Post
-visit-is-passed-requires t c κs =
-    let p = c .before .before .before .before .pre .1 in (p .1 .0 .scoped, p .1 .1 .0)
-
 pub visit-returns : (t : ℕ) → visit-lts.Need-returns (measures.visit-calls t) (measures.visit-at t) visit.Post
 visit-returns t c =
     let p = c .before .before .before .before .before .before .pre .1 in
     visit-passed _ _ _ _ (p .1 .0) _ _ _ (p .1 .1 .0) _ _ _ (p .1 .1 .1) _ (c .before .is-passed .ensures)
     (c .if1 .taken)
 
-pub visit-slice-read-if2 : (t : ℕ) → visit-lts.Need-slice-read-if2 (measures.visit-calls t) (measures.visit-at t)
-    visit.Post
-visit-slice-read-if2 t c =
-    let p = c .before .before .before .before .before .before .before .pre .1 in omega (
-      arith,
-      p .1 .0 .scoped .few,
-      p .1 .1 .0,
-      p .1 .1 .1 .seen-long,
-    )
-
 pub visit-returns-2 : (t : ℕ) → visit-lts.Need-returns-2 (measures.visit-calls t) (measures.visit-at t) visit.Post
 visit-returns-2 t c =
     let p = c .before .before .before .before .before .before .before .before .pre .1 in
     visit-seen _ _ _ _ (p .1 .0) _ _ _ (p .1 .1 .0) _ _ _ (p .1 .1 .1) (c .if2 .taken)
-
-pub visit-near-requires : (t : ℕ) → visit-lts.Need-near-requires (measures.visit-calls t) (measures.visit-at t)
-    visit.Post
-visit-near-requires t c κs =
-    let c5 = c .before .before .before .before .before in
-    (omega arith, c5 .before .before .before .before .before .pre .1)
 
 pub visit-put-requires : (t : ℕ) → visit-lts.Need-put-requires (measures.visit-calls t) (measures.visit-at t) visit.Post
 visit-put-requires t c κs =
@@ -71,19 +50,6 @@ visit-put-requires t c κs =
     _ w in
     let room = put-room _ _ _ _ (w .lent) _ (p .1 .1 .0) (p .1 .0 .scoped .few) fresh in
     (room, omega (arith, p .1 .1 .0, p .1 .0 .scoped .few), w .lent .seen-long, w .lent .held .long)
-
-pub visit-same-length : (t : ℕ) → visit-lts.Need-same-length (measures.visit-calls t) (measures.visit-at t) visit.Post
-visit-same-length t c =
-    let c6 = c .before .before .before .before .before .before in
-    c .before .before .before .before .put .kept .0
-    ∙ c6 .before .before .before .before .before .near .kept .1 .1 .1 .1 .1 .0
-
-pub visit-same-length-2 : (t : ℕ) → visit-lts.Need-same-length-2 (measures.visit-calls t) (measures.visit-at t)
-    visit.Post
-visit-same-length-2 t c =
-    let c6 = c .before .before .before .before .before .before in
-    c .before .before .before .before .put .kept .1 .0
-    ∙ c6 .before .before .before .before .before .near .kept .1 .1 .1 .1 .1 .1 .0
 
 pub visit-returns-3 : (t : ℕ) → visit-lts.Need-returns-3 (measures.visit-calls t) (measures.visit-at t) visit.Post
 visit-returns-3 t c =
@@ -100,39 +66,10 @@ visit-returns-3 t c =
 
 -- ---- `near`
 
-pub near-is-end-requires : (t : ℕ) → near-lts.Need-is-end-requires (measures.near-calls t) (measures.near-at t)
-    near.Post
-near-is-end-requires t c κs =
-    let p = c .before .before .before .before .pre .1 in (p .1 .0 .scoped, p .1 .1 .0)
-
 pub near-returns : (t : ℕ) → near-lts.Need-returns (measures.near-calls t) (measures.near-at t) near.Post
 near-returns t c =
     let p = c .before .before .before .before .before .before .pre .1 in
     near-stops _ _ _ _ (p .1 .0) _ _ _ _ _ _ (c .before .is-end .ensures) (c .if1 .taken) _ (p .1 .1 .1)
-
-pub near-relation-requires : (t : ℕ) → near-lts.Need-relation-requires (measures.near-calls t) (measures.near-at t)
-    near.Post
-near-relation-requires t c κs =
-    let p = c .before .before .before .before .before .before .pre .1 in (p .1 .0 .scoped, p .1 .1 .0)
-
-pub near-local-requires : (t : ℕ) → near-lts.Need-local-requires (measures.near-calls t) (measures.near-at t) near.Post
-near-local-requires t c κs =
-    let c6 = c .before .before .before .before .before .before in
-    (omega arith, c6 .before .before .before .before .before .pre .1)
-
-pub near-across-requires : (t : ℕ) → near-lts.Need-across-requires (measures.near-calls t) (measures.near-at t)
-    near.Post
-near-across-requires t c κs =
-    let c6 = c .before .before .before .before .before .before in
-    (omega arith, c6 .before .before .before .before .before .pre .1)
-
-pub near-same-length : (t : ℕ) → near-lts.Need-same-length (measures.near-calls t) (measures.near-at t) near.Post
-near-same-length t c =
-    c .before .before .before .before .local .kept .1 .1 .1 .1 .1 .0
-
-pub near-same-length-2 : (t : ℕ) → near-lts.Need-same-length-2 (measures.near-calls t) (measures.near-at t) near.Post
-near-same-length-2 t c =
-    c .before .before .before .before .local .kept .1 .1 .1 .1 .1 .1 .0
 
 pub near-returns-2 : (t : ℕ) → near-lts.Need-returns-2 (measures.near-calls t) (measures.near-at t) near.Post
 near-returns-2 t c =
@@ -145,14 +82,6 @@ near-returns-2 t c =
     (told _ _ _ _ _ _ (r .result) Local
     (c .before .before .before .before .before .before .before .enum-told .given .1) (r .ensures)) _ _ _
     (c .before .before .before .before .local .ensures)
-
-pub near-same-length-3 : (t : ℕ) → near-lts.Need-same-length-3 (measures.near-calls t) (measures.near-at t) near.Post
-near-same-length-3 t c =
-    c .before .before .before .before .across .kept .1 .1 .1 .1 .1 .0
-
-pub near-same-length-4 : (t : ℕ) → near-lts.Need-same-length-4 (measures.near-calls t) (measures.near-at t) near.Post
-near-same-length-4 t c =
-    c .before .before .before .before .across .kept .1 .1 .1 .1 .1 .1 .0
 
 pub near-returns-3 : (t : ℕ) → near-lts.Need-returns-3 (measures.near-calls t) (measures.near-at t) near.Post
 near-returns-3 t c =
@@ -183,13 +112,6 @@ pub local-loop-holds : (t : ℕ) → local-lts.Need-loop-holds
 local-loop-holds t c =
     let p = c .before .before .before .before .before .before .before .pre .1 in
     (omega arith, refl, refl, words-begin _ _ _ _ (p .1 .0) _ _ _ _ _ _ (p .1 .1 .1))
-
-pub local-add-d : (t : ℕ) → local-lts.Need-add-d (measures.local-calls t) (measures.local-at t) local.Post
-    measures.local-Inv-loop measures.local-μ-loop
-local-add-d t c =
-    let c5 = c .before .before .before .before .before in
-    let p = c5 .before .before .before .before .pre .1 in
-    omega (arith, kids-lower _ _ _ _ _ (p .1 .0) (p .1 .1 .0) _ (c .before .before .before .before .load .ensures) .fit)
 
 pub local-shared-slice-read-d : (t : ℕ) → local-lts.Need-shared-slice-read-d
     (measures.local-calls t) (measures.local-at t) local.Post measures.local-Inv-loop measures.local-μ-loop
@@ -279,16 +201,6 @@ local-loop-again t c =
       words-go _ _ _ _ (p .1 .0) _ _ _ _ _ (l .loop .k) _ refl _ _ _ _ _ _ (l .loop .inv .3) (v .2),
     )
 
-pub local-same-length : (t : ℕ) → local-lts.Need-same-length
-    (measures.local-calls t) (measures.local-at t) local.Post measures.local-Inv-loop measures.local-μ-loop
-local-same-length t c =
-    c .before .loop .inv .1
-
-pub local-same-length-2 : (t : ℕ) → local-lts.Need-same-length-2
-    (measures.local-calls t) (measures.local-at t) local.Post measures.local-Inv-loop measures.local-μ-loop
-local-same-length-2 t c =
-    c .before .loop .inv .2
-
 pub local-returns : (t : ℕ) → local-lts.Need-returns (measures.local-calls t) (measures.local-at t) local.Post
     measures.local-Inv-loop measures.local-μ-loop
 local-returns t c =
@@ -300,23 +212,6 @@ local-returns t c =
 
 -- ---- `across`
 
-pub across-free-requires : (t : ℕ) → across-lts.Need-free-requires
-    (measures.across-calls t) (measures.across-at t) across.Post measures.across-Inv-loop measures.across-μ-loop
-across-free-requires t c κs =
-    let p = c .before .before .before .before .before .before .pre .1 in (
-      omega arith,
-      (
-        p .0,
-        (
-          p .1 .0,
-          (
-            p .1 .1 .0,
-            search needs,
-          ),
-        ),
-      ),
-    )
-
 pub across-loop-holds : (t : ℕ) → across-lts.Need-loop-holds
     (measures.across-calls t) (measures.across-at t) across.Post measures.across-Inv-loop measures.across-μ-loop
 across-loop-holds t c =
@@ -326,11 +221,6 @@ across-loop-holds t c =
       refl,
       walk-start _ _ _ _ (p .1 .0) _ _ _ _ _ (p .1 .1 .1),
     )
-
-pub across-array-read-wide : (t : ℕ) → across-lts.Need-array-read-wide
-    (measures.across-calls t) (measures.across-at t) across.Post measures.across-Inv-loop measures.across-μ-loop
-across-array-read-wide t c =
-    omega (arith, c .before .before .before .free .ensures .fit)
 
 pub across-visit-requires : (t : ℕ) → across-lts.Need-visit-requires
     (measures.across-calls t) (measures.across-at t) across.Post measures.across-Inv-loop measures.across-μ-loop
@@ -360,16 +250,6 @@ across-loop-again t c =
           (c .before .before .before .before .before .before .before .wide .ensures .0) _ _ _ _ _ _ (l .inv .3)
           (v .ensures),
     )
-
-pub across-same-length : (t : ℕ) → across-lts.Need-same-length
-    (measures.across-calls t) (measures.across-at t) across.Post measures.across-Inv-loop measures.across-μ-loop
-across-same-length t c =
-    c .before .loop .inv .1
-
-pub across-same-length-2 : (t : ℕ) → across-lts.Need-same-length-2
-    (measures.across-calls t) (measures.across-at t) across.Post measures.across-Inv-loop measures.across-μ-loop
-across-same-length-2 t c =
-    c .before .loop .inv .2
 
 pub across-returns : (t : ℕ) → across-lts.Need-returns
     (measures.across-calls t) (measures.across-at t) across.Post measures.across-Inv-loop measures.across-μ-loop
