@@ -3,7 +3,6 @@ mod Cycle
 mod OfSymbols
 mod OfBodies
 mod OfScopes
-mod OfDefinitions
 use borrow.Author.Needs.{needs}
 use Rattle.materialize.proofs.build.Reads as build
 use Rattle.materialize.proofs.+build+define+definition+definitions+fresh+lambda+operand+operands+thunk.Lts-build as build-lts
@@ -27,7 +26,6 @@ use Rattle.materialize.proofs.+build+define+definition+definitions+fres
 use Rattle.materialize.proofs.+build+define+definition+definitions+fresh+lambda+operand+operands+thunk.Proof.OfSymbols as of-symbols
 use Rattle.materialize.proofs.+build+define+definition+definitions+fresh+lambda+operand+operands+thunk.Proof.OfBodies as of-bodies
 use Rattle.materialize.proofs.+build+define+definition+definitions+fresh+lambda+operand+operands+thunk.Proof.OfScopes as of-scopes
-use Rattle.materialize.proofs.+build+define+definition+definitions+fresh+lambda+operand+operands+thunk.Proof.OfDefinitions as of-definitions
 use Rattle.materialize.proofs.+build+define+definition+definitions+fresh+lambda+operand+operands+thunk.{statement}
 use Rattle.materialize.proofs.+build+define+definition+definitions+fresh+lambda+operand+operands+thunk.Tie.{close}
 
@@ -50,16 +48,16 @@ pub +build+define+definition+definitions+fresh+lambda+operand+operands+thunk-spe
     (λ t. definition-lts.spec (cycle.definition-claims t) (cycle.definition-at t) definition.Post
     (λ c κs. search needs) (λ c. search needs)
     (λ c κs. search needs) (λ c. search needs)
-    (of-definitions.definition-build-requires t) (λ c. search needs) (λ c. search needs)
-    (λ c. search needs) (λ c. search needs) (of-definitions.definition-returns t) (λ c. search needs)
-    (λ c. search needs) (of-definitions.definition-returns-2 t))
+    (of-scopes.definition-build-requires t) (λ c. search needs) (λ c. search needs)
+    (λ c. search needs) (λ c. search needs) (of-scopes.definition-returns t) (λ c. search needs)
+    (λ c. search needs) (of-scopes.definition-returns-2 t))
     (λ t. definitions-lts.spec (cycle.definitions-claims t) (cycle.definitions-at t)
-    definitions.Post of-definitions.definitions-Inv-loop of-definitions.definitions-μ-loop
-    (of-definitions.definitions-loop-holds t) (λ c. search needs)
+    definitions.Post of-scopes.definitions-Inv-loop of-scopes.definitions-μ-loop
+    (of-scopes.definitions-loop-holds t) (λ c. search needs)
     (λ c. search needs) (λ c κs. search needs)
-    (of-definitions.definitions-definition-requires t) (λ c. search needs) (λ c. search needs)
-    (of-definitions.definitions-loop-again t) (λ c. search needs) (λ c. search needs)
-    (of-definitions.definitions-returns t))
+    (of-scopes.definitions-definition-requires t) (λ c. search needs) (λ c. search needs)
+    (of-scopes.definitions-loop-again t) (λ c. search needs) (λ c. search needs)
+    (of-scopes.definitions-returns t))
     (λ t. fresh-lts.spec (cycle.fresh-claims t) (cycle.fresh-at t) fresh.Post (λ c κs. search needs)
     (λ c. search needs) (λ c κs. search needs) (λ c. search needs) (λ c κs. search needs)
     (λ c. search needs) (λ c κs. search needs) (λ c. search needs) (of-symbols.fresh-lambda-requires t)

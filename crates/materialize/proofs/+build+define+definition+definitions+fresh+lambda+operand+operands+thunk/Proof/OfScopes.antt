@@ -1,19 +1,53 @@
--- What is left to show of `define`: a scope. Assumes nothing.
-use Prim.Native.Nat.{ℕ}
-use mathlib.Core.Path.{refl, ap, _∙_}
+-- What is left to show of `define`, `definitions` and `definition`: a scope, and what it defines. Assumes nothing.
+use Prim.Native.Nat.{ℕ, _+_, _-_, _≤_}
+use mathlib.Core.Path.{_≡_, refl, ap, _∙_}
+use mathlib.Core.List.{[], _∷_}
 use native.Mathlib.Omega.{arith}
-use lib.ListN.{length}
+use lib.ListN.{length, take}
 use borrow.Author.Tests.{not-true}
 use Rattle.laws.proofs.Frame.{frame-then}
+use Rattle.plan.specs.declared.Planned.the-variants.{Block}
+use Rattle.plan.specs.Plan.{rowFor}
+use Rattle.planner.specs.Grew.{Grew}
+use Rattle.planner.specs.Planning.{Defines}
 use Rattle.planner.proofs.Keeping.{buildable-kept}
 use Rattle.planner.proofs.Nodes.{grew-few, plans-full}
-use Rattle.planner.proofs.Sites.{put-fits, site-on}
+use Rattle.planner.proofs.Sites.{put-fits, id-fits, site-on}
 use Rattle.planner.proofs.Scoping.{plans-memberless, plans-result, plans-block}
+use Rattle.planner.proofs.Scoping.{defines-none, defines-one, defines-other, defines-more}
 use Rattle.materialize.proofs.define.Reads as define
 use Rattle.materialize.proofs.+build+define+definition+definitions+fresh+lambda+operand+operands+thunk.Lts-define as define-lts
+use Rattle.materialize.proofs.definition.Reads as definition
+use Rattle.materialize.proofs.+build+define+definition+definitions+fresh+lambda+operand+operands+thunk.Lts-definition as definition-lts
+use Rattle.materialize.proofs.definitions.Reads as definitions
+use Rattle.materialize.proofs.+build+define+definition+definitions+fresh+lambda+operand+operands+thunk.Lts-definitions as definitions-lts
 use Rattle.materialize.proofs.+build+define+definition+definitions+fresh+lambda+operand+operands+thunk.Proof.Cycle as cycle
 
 -- ---- define
+
+-- where its order is known
+module _ (t : ℕ) (c : define-lts.After-schedule (cycle.define-claims t) (cycle.define-at t) define.Post) where
+  abbrev start : define-lts.Start (cycle.define-claims t) (cycle.define-at t) define.Post
+  start = c .before .before .before .before .before .before .before .before .before .before .before .before .before
+
+  long : length (c .schedule .last .1 .1 .1 .1 .1 .0) ≡ 512
+  long = c .schedule .kept .1 .1 .1 .1 .1 .0 ∙ ap length (c .before .before .before .zeros16 .ensures)
+
+-- where its block's row is put
+module _ (t : ℕ) (c : define-lts.After-put (cycle.define-claims t) (cycle.define-at t) define.Post) where
+  abbrev counted : define-lts.After-members (cycle.define-claims t) (cycle.define-at t) define.Post
+  counted = c .before .before .before
+
+  abbrev ordered : define-lts.After-schedule (cycle.define-claims t) (cycle.define-at t) define.Post
+  ordered = counted .before .before .before .before .before
+
+  abbrev from : define-lts.Start (cycle.define-claims t) (cycle.define-at t) define.Post
+  from = start t ordered
+
+  block-put : Grew (from .args .forest .now) (from .args .work .now) (from .args .p)
+      (rowFor (from .args .forest .now) (Block (counted .members .result + 1)) ∷ []) (from .args .above + 1)
+      (c .put .last .0) (c .put .result)
+  block-put = c .put .ensures (from .args .forest .now) (omega (arith, counted .members .ensures .0))
 
 pub define-returns : (t : ℕ) → define-lts.Need-returns (cycle.define-claims t) (cycle.define-at t) define.Post
 define-returns t c =
@@ -28,129 +62,210 @@ define-build-requires t c κs =
 
 pub define-returns-2 : (t : ℕ) → define-lts.Need-returns-2 (cycle.define-claims t) (cycle.define-at t) define.Post
 define-returns-2 t c =
-    let c2 = c .before .before in
-    let c5 = c2 .before .before .before in
-    let c6 = c5 .before in
-    let z = c6 .before .before .before .before .before .before .before .before in
-    plans-memberless _ _ (z .pre .1 .1 .0) _ _ _ (c6 .any-member .ensures) (not-true _ (c5 .if2 .taken))
-    (c2 .build .ensures)
+    let h = c .before .before in
+    let i = h .before .before .before in
+    let a = i .before in
+    let z = a .before .before .before .before .before .before .before .before in
+    plans-memberless _ _ (z .pre .1 .1 .0) _ _ _ (a .any-member .ensures) (not-true _ (i .if2 .taken))
+    (h .build .ensures)
 
 pub define-schedule-requires : (t : ℕ) → define-lts.Need-schedule-requires (cycle.define-claims t) (cycle.define-at t)
     define.Post
 define-schedule-requires t c κs =
-    let c2 = c .before .before in
-    let z = c2 .before .before .before .before .before .before .before .before .before .before in
-    let b = z .pre .1 .1 .0 in
-    let at = z .pre .1 .1 .1 .0 in
-    (z .pre .1 .0, (b .arena, ((at .low, z .pre .1 .1 .1 .1), ap length (c2 .zeros16 .ensures))))
+    let o = c .before .before in
+    let p = o .before .before .before .before .before .before .before .before .before .before .pre .1 in
+    (p .0, (p .1 .0 .arena, ((p .1 .1 .0 .low, p .1 .1 .1), ap length (o .zeros16 .ensures))))
 
 pub define-members-requires : (t : ℕ) → define-lts.Need-members-requires (cycle.define-claims t) (cycle.define-at t)
     define.Post
 define-members-requires t c κs =
-    let c4 = c .before .before .before .before in
-    let c7 = c4 .before .before .before in
-    let z = c7 .before .before .before .before .before .before .before .before .before .before in
-    let at = z .pre .1 .1 .1 .0 in
-    let long = c4 .schedule .kept .1 .1 .1 .1 .1 .0 ∙ ap length (c7 .zeros16 .ensures) in
-    let s = c4 .schedule .ensures in
-    (z .pre .1 .0, (z .pre .1 .1 .0, ((s .fit, long, at .long), λ k l. omega (arith, s .low k l, at .low))))
+    let o = c .before .before .before .before in
+    let p = start t o .pre .1 in
+    let at = p .1 .1 .0 in
+    let s = o .schedule .ensures in
+    (p .0, (p .1 .0, ((s .fit, long t o, at .long), λ k l. omega (arith, s .low k l, at .low))))
 
 pub define-build-requires-2 : (t : ℕ) → define-lts.Need-build-requires-2 (cycle.define-claims t) (cycle.define-at t)
     define.Post
 define-build-requires-2 t c κs =
-    let z = c .before .before .before .before .before .before .before .before .before .before .before .before .before
-    .before .before .before .before .before .before .before .before in
+    let z = start t (c .before .before .before .before .before .before .before .before) in
     let at = z .pre .1 .1 .1 .0 in
     (omega (arith, z .pre .0), (z .pre .1 .0, (z .pre .1 .1 .0, site-on at refl (omega arith) (at .count))))
 
 pub define-returns-3 : (t : ℕ) → define-lts.Need-returns-3 (cycle.define-claims t) (cycle.define-at t) define.Post
 define-returns-3 t c =
-    let c2 = c .before .before in
-    let c5 = c2 .before .before .before in
-    let c6 = c5 .before in
-    let c11 = c6 .before .before .before .before .before in
-    let z = c11 .before .before .before .before .before .before .before .before .before .before .before .before .before
-    in
-    let b = z .pre .1 .1 .0 in
-    plans-result _ _ b _ _ _ _ _ (c11 .schedule .ensures .is) (c6 .members .ensures .1) (c5 .if3 .taken)
-    (c2 .build2 .ensures)
+    let h = c .before .before in
+    let i = h .before .before .before in
+    let m = i .before in
+    let o = m .before .before .before .before .before in
+    plans-result _ _ (start t o .pre .1 .1 .0) _ _ _ _ _ (o .schedule .ensures .is) (m .members .ensures .1)
+    (i .if3 .taken) (h .build2 .ensures)
 
 pub define-put-requires : (t : ℕ) → define-lts.Need-put-requires (cycle.define-claims t) (cycle.define-at t) define.Post
 define-put-requires t c κs =
-    let z = c .before .before .before .before .before .before .before .before .before .before .before .before .before
-    .before .before .before .before .before .before .before in
+    let z = start t (c .before .before .before .before .before .before .before) in
     put-fits (z .pre .1 .1 .1 .0) (z .pre .1 .1 .0)
 
 pub define-add-definitions : (t : ℕ) → define-lts.Need-add-definitions (cycle.define-claims t) (cycle.define-at t)
     define.Post
 define-add-definitions t c =
-    let z = c .before .before .before .before .before .before .before .before .before .before .before .before .before
-    .before .before .before .before .before .before .before .before .before .before .before .before .before in
-    omega (arith, z .pre .1 .1 .1 .0 .room)
+    omega (arith, from t (c .before .before .before .before .before) .pre .1 .1 .1 .0 .room)
 
 pub define-definitions-requires : (t : ℕ) → define-lts.Need-definitions-requires (cycle.define-claims t)
     (cycle.define-at t) define.Post
 define-definitions-requires t c κs =
-    let c5 = c .before .before .before .before .before in
-    let c8 = c5 .before .before .before in
-    let c13 = c8 .before .before .before .before .before in
-    let c16 = c13 .before .before .before in
-    let z = c16 .before .before .before .before .before .before .before .before .before .before in
-    let b = z .pre .1 .1 .0 in
-    let at = z .pre .1 .1 .1 .0 in
-    let h = c5 .put .ensures (z .args .forest .now) (omega (arith, c8 .members .ensures .0)) in
-    let s = c13 .schedule .ensures in
-    let long = c13 .schedule .kept .1 .1 .1 .1 .1 .0 ∙ ap length (c16 .zeros16 .ensures) in (
+    let p = c .before .before .before .before .before in
+    let z = from t p in
+    let o = ordered t p in
+    let s = o .schedule .ensures in
+    let h = block-put t p in (
       omega (arith, z .pre .0),
       (
         z .pre .1 .0,
-        (buildable-kept (h .kept) b, (site-on at refl (omega arith) (grew-few h), ((s .fit, long), s .low))),
+        (
+          buildable-kept (h .kept) (z .pre .1 .1 .0),
+          (site-on (z .pre .1 .1 .1 .0) refl (omega arith) (grew-few h), ((s .fit, long t o), s .low)),
+        ),
       ),
     )
 
 pub define-add-build : (t : ℕ) → define-lts.Need-add-build (cycle.define-claims t) (cycle.define-at t) define.Post
 define-add-build t c =
-    let z = c .before .before .before .before .before .before .before .before .before .before .before .before .before
-    .before .before .before .before .before .before .before .before .before .before .before .before .before .before
-    .before .before .before .before .before .before in
-    omega (arith, z .pre .1 .1 .1 .0 .room)
+    omega (
+      arith,
+      from t (c .before .before .before .before .before .before .before .before .before .before .before .before) .pre .1 .1 .1 .0 .room,
+    )
 
 pub define-build-requires-3 : (t : ℕ) → define-lts.Need-build-requires-3 (cycle.define-claims t) (cycle.define-at t)
     define.Post
 define-build-requires-3 t c κs =
-    let c6 = c .before .before .before .before .before .before in
-    let c12 = c6 .before .before .before .before .before .before in
-    let c15 = c12 .before .before .before in
-    let c20 = c15 .before .before .before .before .before in
-    let z = c20 .before .before .before .before .before .before .before .before .before .before .before .before .before
-    in
-    let b = z .pre .1 .1 .0 in
-    let at = z .pre .1 .1 .1 .0 in
-    let h = c12 .put .ensures (z .args .forest .now) (omega (arith, c15 .members .ensures .0)) in
-    let d = c6 .definitions .ensures in (
+    let d = c .before .before .before .before .before .before in
+    let p = d .before .before .before .before .before .before in
+    let z = from t p in (
       omega (arith, z .pre .0),
       (
         z .pre .1 .0,
         (
-          buildable-kept (frame-then _ _ _ _ _ (h .kept) (d .kept)) b,
-          site-on at (c6 .definitions .kept .1 .1 .1 .1 .1 .1 .1 .0)
-              (omega (arith, d .few, c20 .schedule .ensures .fit)) (d .full),
+          buildable-kept (frame-then _ _ _ _ _ (block-put t p .kept) (d .definitions .ensures .kept)) (z .pre .1 .1 .0),
+          site-on (z .pre .1 .1 .1 .0) (d .definitions .kept .1 .1 .1 .1 .1 .1 .1 .0)
+              (omega (arith, d .definitions .ensures .few, ordered t p .schedule .ensures .fit))
+              (d .definitions .ensures .full),
         ),
       ),
     )
 
 pub define-returns-4 : (t : ℕ) → define-lts.Need-returns-4 (cycle.define-claims t) (cycle.define-at t) define.Post
 define-returns-4 t c =
+    let h = c .before .before in
+    let d = h .before .before .before .before .before .before .before in
+    let p = d .before .before .before .before .before .before in
+    plans-block _ _ (from t p .pre .1 .1 .0) _ _ _ _ _ (ordered t p .schedule .ensures .is)
+    (counted t p .members .ensures .1) (omega (arith, p .before .before .if3 .left)) (block-put t p)
+    (d .definitions .ensures) (h .build3 .ensures)
+
+-- ---- definitions
+
+abbrev pub definitions-Inv-loop : definitions-lts.InvT-loop
+definitions-Inv-loop forest work₀ g root sc order count map₀ last above d₀ i₀ work map d i =
+    (i ≤ count)
+    × (length map ≡ 512)
+    × Defines forest work₀ g map₀ (d₀ .plan) above sc (take i order) last i work map (d .plan) (d .last)
+
+abbrev pub definitions-μ-loop : definitions-lts.MeasureT-loop
+definitions-μ-loop forest work₀ g root sc order count map₀ last above d₀ i₀ work map d i = count - i
+
+pub definitions-loop-holds : (t : ℕ) → definitions-lts.Need-loop-holds (cycle.definitions-claims t)
+    (cycle.definitions-at t) definitions.Post definitions-Inv-loop definitions-μ-loop
+definitions-loop-holds t c =
+    let z = c .before .before .before .before in
+    let at = z .pre .1 .1 .1 .0 in
+    (omega arith, at .long, defines-none (at .count))
+
+pub definitions-definition-requires : (t : ℕ) → definitions-lts.Need-definition-requires (cycle.definitions-claims t)
+    (cycle.definitions-at t) definitions.Post definitions-Inv-loop definitions-μ-loop
+definitions-definition-requires t c κs =
     let c2 = c .before .before in
-    let c9 = c2 .before .before .before .before .before .before .before in
-    let c15 = c9 .before .before .before .before .before .before in
-    let c17 = c15 .before .before in
-    let c18 = c17 .before in
-    let c23 = c18 .before .before .before .before .before in
-    let z = c23 .before .before .before .before .before .before .before .before .before .before .before .before .before
-    in
+    let c4 = c2 .before .before in
+    let c5 = c4 .before in
+    let z = c5 .before .before .before .before .before in
     let b = z .pre .1 .1 .0 in
-    let h = c15 .put .ensures (z .args .forest .now) (omega (arith, c18 .members .ensures .0)) in
-    plans-block _ _ b _ _ _ _ _ (c23 .schedule .ensures .is) (c18 .members .ensures .1) (omega (arith, c17 .if3 .left))
-    h (c9 .definitions .ensures)
-    (c2 .build3 .ensures)
+    let at = z .pre .1 .1 .1 .0 in
+    let inv = c5 .loop .inv in
+    let low = z .pre .1 .1 .1 .1 .1 _ (c4 .loop-test .taken) in (
+      omega (arith, z .pre .0, c2 .wide .ensures .0, low),
+      (
+        z .pre .1 .0,
+        (
+          buildable-kept (inv .2 .kept) b,
+          record {
+            low = omega (arith, c2 .wide .ensures .0, low, at .low);
+            long = inv .1;
+            room = omega (arith, c2 .wide .ensures .0, low, inv .0, inv .2 .few, at .room, z .pre .1 .1 .1 .1 .0 .0);
+            count = inv .2 .full;
+          },
+        ),
+      ),
+    )
+
+pub definitions-loop-again : (t : ℕ) → definitions-lts.Need-loop-again (cycle.definitions-claims t)
+    (cycle.definitions-at t) definitions.Post definitions-Inv-loop definitions-μ-loop
+definitions-loop-again t c =
+    let c4 = c .before .before .before .before in
+    let c7 = c4 .before .before .before in
+    let c9 = c7 .before .before in
+    let c10 = c9 .before in
+    let z = c10 .before .before .before .before .before in
+    let b = z .pre .1 .1 .0 in
+    let inv = c10 .loop .inv in (
+      omega (arith, c9 .loop-test .taken),
+      c4 .definition .kept .1 .1 .1 .1 .1 .0 ∙ inv .1,
+      defines-more (z .args .order .now) b (omega (
+        arith,
+        c9 .loop-test .taken,
+        z .pre .1 .1 .1 .1 .0 .0,
+        z .pre .1 .1 .1 .1 .0 .1,
+      )) (c7 .wide .ensures .0) (inv .2) (c4 .definition .ensures),
+    )
+
+pub definitions-returns : (t : ℕ) → definitions-lts.Need-returns (cycle.definitions-claims t) (cycle.definitions-at t)
+    definitions.Post definitions-Inv-loop definitions-μ-loop
+definitions-returns t c =
+    let e : c .before .loop .i ≡ c .before .before .before .before .before .before .args .count = omega (
+      arith,
+      c .before .loop .inv .0,
+    ) in
+    rw (← e) (c .before .loop .inv .2)
+
+-- ---- definition
+
+pub definition-build-requires : (t : ℕ) → definition-lts.Need-build-requires (cycle.definition-claims t)
+    (cycle.definition-at t) definition.Post
+definition-build-requires t c κs =
+    let c4 = c .before .before .before .before in
+    let z = c4 .before .before .before .before .before .before .before .before .before in
+    let b = z .pre .1 .1 .0 in
+    let at = z .pre .1 .1 .1 in
+    let h = c4 .put .ensures (z .args .forest .now) tt in (
+      omega (arith, z .pre .0),
+      (z .pre .1 .0, (buildable-kept (h .kept) b, site-on at refl (omega arith) (grew-few h))),
+    )
+
+pub definition-returns : (t : ℕ) → definition-lts.Need-returns (cycle.definition-claims t) (cycle.definition-at t)
+    definition.Post
+definition-returns t c =
+    let c2 = c .before .before in
+    let c7 = c2 .before .before .before .before .before in
+    let c9 = c7 .before .before in
+    let c10 = c9 .before in
+    let z = c10 .before .before .before .before .before .before in
+    let b = z .pre .1 .1 .0 in
+    let at = z .pre .1 .1 .1 in
+    defines-one _ _ b (c9 .if1 .taken) (c10 .member .ensures) (id-fits at b)
+    (c7 .put .ensures (z .args .forest .now) tt)
+    (c2 .build .ensures)
+
+pub definition-returns-2 : (t : ℕ) → definition-lts.Need-returns-2 (cycle.definition-claims t) (cycle.definition-at t)
+    definition.Post
+definition-returns-2 t c =
+    defines-other _ _ (c .if1 .left) (c .before .member .ensures)
+    (c .before .before .before .before .before .before .before .pre .1 .1 .1 .count)

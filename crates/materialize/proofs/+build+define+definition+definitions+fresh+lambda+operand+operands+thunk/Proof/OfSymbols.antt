@@ -1,9 +1,13 @@
 -- What is left to show of `build`, `fresh`, `operand` and `operands`: symbols. Assumes nothing.
 use Prim.Native.Nat.{ℕ, _+_, _-_, _≤_, _<_}
-use mathlib.Core.Path.{refl, sym, ap, _∙_}
+use mathlib.Core.Path.{_≡_, refl, sym, ap, _∙_}
+use mathlib.Core.List.{[], _∷_}
 use native.Mathlib.Omega.{arith}
 use Rattle.laws.proofs.Frame.{frame-none, frame-then}
-use Rattle.planner.specs.Grew.{PlanOnly}
+use Rattle.key.specs.Key.{symbolAt}
+use Rattle.plan.specs.Plan.{rowFor}
+use Rattle.planner.specs.Grew.{PlanOnly, Grew}
+use Rattle.planner.specs.Building.{Buildable, rowOf}
 use Rattle.planner.specs.Planning.{Leads}
 use Rattle.planner.proofs.Keeping.{buildable-kept, symbol-kept}
 use Rattle.planner.proofs.Operands.{opened-there}
@@ -31,21 +35,17 @@ build-returns t c =
 
 pub build-returns-2 : (t : ℕ) → build-lts.Need-returns-2 (cycle.build-claims t) (cycle.build-at t) build.Post
 build-returns-2 t c =
-    let c2 = c .before .before in
-    let c4 = c2 .before .before in
-    let z = c4 .before .before .before .before .before .before .before in
-    let b = z .pre .1 .1 .0 in
-    let at = z .pre .1 .1 .1 in
-    plans-use b _ (at .low) _ (c4 .if2 .taken) (c2 .put .ensures (z .args .forest .now) tt)
+    let h = c .before .before in
+    let i = h .before .before in
+    let z = i .before .before .before .before .before .before .before in
+    plans-use (z .pre .1 .1 .0) _ (z .pre .1 .1 .1 .low) _ (i .if2 .taken) (h .put .ensures (z .args .forest .now) tt)
 
 pub build-returns-3 : (t : ℕ) → build-lts.Need-returns-3 (cycle.build-claims t) (cycle.build-at t) build.Post
 build-returns-3 t c =
-    let c2 = c .before .before in
-    let c4 = c2 .before .before in
-    let z = c4 .before .before .before .before .before .before .before in
-    let b = z .pre .1 .1 .0 in
-    let at = z .pre .1 .1 .1 in
-    plans-new b _ (at .low) _ (c4 .if2 .left) (c2 .fresh .ensures)
+    let h = c .before .before in
+    let i = h .before .before in
+    let z = i .before .before .before .before .before .before .before in
+    plans-new (z .pre .1 .1 .0) _ (z .pre .1 .1 .1 .low) _ (i .if2 .left) (h .fresh .ensures)
 
 -- ---- fresh
 
@@ -145,88 +145,98 @@ operands-Inv-loop forest work₀ g s o ids last above opcode at count q₀ j₀ 
 abbrev pub operands-μ-loop : operands-lts.MeasureT-loop
 operands-μ-loop forest work₀ g s o ids last above opcode at count q₀ j₀ work q j = count - j
 
+-- once the operation's row is put
+module _ (t : ℕ) (c : operands-lts.After-put (cycle.operands-claims t) (cycle.operands-at t) operands.Post
+    operands-Inv-loop operands-μ-loop) where
+  abbrev loaded : operands-lts.After-load (cycle.operands-claims t) (cycle.operands-at t) operands.Post
+      operands-Inv-loop operands-μ-loop
+  loaded = c .before .before .before .before .before
+
+  abbrev start : operands-lts.Start (cycle.operands-claims t) (cycle.operands-at t) operands.Post operands-Inv-loop
+      operands-μ-loop
+  start = loaded .before .before .before .before .before .before .before
+
+  abbrev low : start .args .s < start .args .g .symbols
+  low = start .pre .1 .1 .1 .0 .low
+
+  row-put : Grew (start .args .forest .now) (start .args .work .now) (start .args .p)
+      (rowFor (start .args .forest .now) (rowOf (start .args .o)) ∷ []) (start .args .above + 1) (c .put .last .0)
+      (c .put .result)
+  row-put =
+      let q = start .pre .1 .1 in
+      put-as (c .before .row-of .ensures) (c .put .ensures) (row-writable (q .0) _ low _ (q .1 .1))
+
+  buildable : Buildable (start .args .forest .now) (c .put .last .0) (start .args .g .symbols) (start .args .g .scopes)
+  buildable = buildable-kept (row-put .kept) (start .pre .1 .1 .0)
+
+  symbol-is : loaded .load .result ≡ symbolAt (c .put .last .0) (start .args .s)
+  symbol-is = loaded .load .ensures ∙ sym (symbol-kept (row-put .kept) (start .pre .1 .1 .0 .arena) _ low)
+
 pub operands-opcode-requires : (t : ℕ) → operands-lts.Need-opcode-requires (cycle.operands-claims t)
     (cycle.operands-at t) operands.Post operands-Inv-loop operands-μ-loop
 operands-opcode-requires t c κs =
     let z = c .before .before .before .before in
-    let b = z .pre .1 .1 .0 in
-    let at = z .pre .1 .1 .1 .0 in
-    let e = z .pre .1 .1 .1 .1 in
-    (z .pre .1 .0, omega (arith, c .wide .ensures, source-low b _ (at .low) _ e))
+    let q = z .pre .1 .1 in
+    (z .pre .1 .0, omega (arith, c .wide .ensures, source-low (q .0) _ (q .1 .0 .low) _ (q .1 .1)))
 
 pub operands-loop-holds : (t : ℕ) → operands-lts.Need-loop-holds (cycle.operands-claims t) (cycle.operands-at t)
     operands.Post operands-Inv-loop operands-μ-loop
 operands-loop-holds t c =
-    let c2 = c .before .before in
-    let c3 = c2 .before in
-    let z = c3 .before .before .before .before .before .before .before .before .before .before .before in
-    let b = z .pre .1 .1 .0 in
-    let at = z .pre .1 .1 .1 .0 in
-    let e = z .pre .1 .1 .1 .1 in
-    let h = put-as (c3 .row-of .ensures) (c2 .put .ensures) (row-writable b _ (at .low) _ e) in
-    let b₀ = buildable-kept (h .kept) b in
-    (omega arith, frame-none _ _ _, grew-few h, operands-start b₀ _ (at .low) _ _ _)
+    let p = c .before .before in
+    (omega arith, frame-none _ _ _, grew-few (row-put t p), operands-start (buildable t p) _ (low t p) _ _ _)
 
 pub operands-slice-read-wide : (t : ℕ) → operands-lts.Need-slice-read-wide (cycle.operands-claims t)
     (cycle.operands-at t) operands.Post operands-Inv-loop operands-μ-loop
 operands-slice-read-wide t c =
-    let c2 = c .before .before in
-    let c5 = c2 .before .before .before in
-    let c6 = c5 .before in
-    let c8 = c6 .before .before in
-    let c9 = c8 .before in
-    let c10 = c9 .before in
-    let z = c10 .before .before .before .before .before .before .before in
-    let b = z .pre .1 .1 .0 in
-    let at = z .pre .1 .1 .1 .0 in
-    let e = z .pre .1 .1 .1 .1 in
-    let h = put-as (c6 .row-of .ensures) (c5 .put .ensures) (row-writable b _ (at .low) _ e) in
-    let inv = c2 .loop .inv in
-    let slots = slots-loaded b _ (at .low) (c10 .load .ensures) in
+    let l = c .before .before in
+    let p = l .before .before .before in
+    let b = start t p .pre .1 .1 .0 in
     omega (
       arith,
-      c9 .wide2 .ensures,
-      c8 .wide3 .ensures,
+      p .before .before .before .before .wide2 .ensures,
+      p .before .before .before .wide3 .ensures,
       c .before .loop-test .taken,
-      slots,
-      inv .1 .long,
-      h .kept .long,
+      slots-loaded b _ (low t p) (loaded t p .load .ensures),
+      l .loop .inv .1 .long,
+      row-put t p .kept .long,
       b .arena .scoped .words,
     )
 
 pub operands-add-operand : (t : ℕ) → operands-lts.Need-add-operand (cycle.operands-claims t) (cycle.operands-at t)
     operands.Post operands-Inv-loop operands-μ-loop
 operands-add-operand t c =
-    let z = c .before .before .before .before .before .before .before .before .before .before .before .before .before
-    .before .before .before .before .before .before .before in
-    omega (arith, z .pre .1 .1 .1 .0 .room)
+    let p = c .before .before .before .before .before .before .before .before in
+    omega (arith, start t p .pre .1 .1 .1 .0 .room)
+
+-- the child that a round of the loop reads
+module _ (t : ℕ) (c : operands-lts.After-wide4 (cycle.operands-claims t) (cycle.operands-at t) operands.Post
+    operands-Inv-loop operands-μ-loop) where
+  abbrev head : operands-lts.At-loop (cycle.operands-claims t) (cycle.operands-at t) operands.Post operands-Inv-loop
+      operands-μ-loop
+  head = c .before .before .before
+
+  abbrev put : operands-lts.After-put (cycle.operands-claims t) (cycle.operands-at t) operands.Post operands-Inv-loop
+      operands-μ-loop
+  put = head .before .before .before
+
+  few : head .loop .j < loaded t put .load .result .count
+  few = omega (arith, put .before .before .before .wide3 .ensures, c .before .before .loop-test .taken)
 
 pub operands-operand-requires : (t : ℕ) → operands-lts.Need-operand-requires (cycle.operands-claims t)
     (cycle.operands-at t) operands.Post operands-Inv-loop operands-μ-loop
 operands-operand-requires t c κs =
-    let c2 = c .before .before in
-    let c4 = c2 .before .before in
-    let c5 = c4 .before in
-    let c8 = c5 .before .before .before in
-    let c9 = c8 .before in
-    let c11 = c9 .before .before in
-    let c12 = c11 .before in
-    let c13 = c12 .before in
-    let z = c13 .before .before .before .before .before .before .before in
-    let b = z .pre .1 .1 .0 in
+    let k = c .before .before in
+    let p = put t k in
+    let z = start t p in
     let at = z .pre .1 .1 .1 .0 in
-    let e = z .pre .1 .1 .1 .1 in
-    let h = put-as (c9 .row-of .ensures) (c8 .put .ensures) (row-writable b _ (at .low) _ e) in
-    let b₀ = buildable-kept (h .kept) b in
-    let y₀ = c13 .load .ensures ∙ sym (symbol-kept (h .kept) (b .arena) _ (at .low)) in
-    let inv = c5 .loop .inv in
-    let few : c5 .loop .j < c13 .load .result .count = omega (arith, c11 .wide3 .ensures, c4 .loop-test .taken) in
-    let low = operand-low b₀ _ (at .low) y₀ (c12 .wide2 .ensures) few (inv .1) (c2 .wide4 .ensures) in (
+    let inv = head t k .loop .inv in
+    let low = operand-low (buildable t p) _ (at .low) (symbol-is t p)
+    (p .before .before .before .before .wide2 .ensures) (few t k) (inv .1) (k .wide4 .ensures) in (
       omega (arith, z .pre .0, low),
       (
         z .pre .1 .0,
         (
-          buildable-kept (inv .1) b₀,
+          buildable-kept (inv .1) (buildable t p),
           (
             record {
               low = omega (arith, low, at .low);
@@ -234,7 +244,8 @@ operands-operand-requires t c κs =
               room = omega (arith, low, at .room);
               count = inv .2;
             },
-            opened-there _ _ _ (c .before .operand-scope .ensures) (node-opens b _ (at .low) _ e),
+            opened-there _ _ _ (c .before .operand-scope .ensures)
+                (node-opens (z .pre .1 .1 .0) _ (at .low) _ (z .pre .1 .1 .1 .1)),
           ),
         ),
       ),
@@ -243,52 +254,29 @@ operands-operand-requires t c κs =
 pub operands-loop-again : (t : ℕ) → operands-lts.Need-loop-again (cycle.operands-claims t) (cycle.operands-at t)
     operands.Post operands-Inv-loop operands-μ-loop
 operands-loop-again t c =
-    let c2 = c .before .before in
-    let c4 = c2 .before .before in
-    let c5 = c4 .before in
-    let c7 = c5 .before .before in
-    let c8 = c7 .before in
-    let c11 = c8 .before .before .before in
-    let c12 = c11 .before in
-    let c14 = c12 .before .before in
-    let c15 = c14 .before in
-    let c16 = c15 .before in
-    let z = c16 .before .before .before .before .before .before .before in
-    let b = z .pre .1 .1 .0 in
-    let at = z .pre .1 .1 .1 .0 in
-    let e = z .pre .1 .1 .1 .1 in
-    let h = put-as (c12 .row-of .ensures) (c11 .put .ensures) (row-writable b _ (at .low) _ e) in
-    let b₀ = buildable-kept (h .kept) b in
-    let y₀ = c16 .load .ensures ∙ sym (symbol-kept (h .kept) (b .arena) _ (at .low)) in
-    let inv = c8 .loop .inv in
-    let few : c8 .loop .j < c16 .load .result .count = omega (arith, c14 .wide3 .ensures, c7 .loop-test .taken) in (
-      omega (arith, c7 .loop-test .taken),
-      frame-then _ _ _ _ _ (inv .1) (c2 .operand .ensures .kept),
-      c2 .operand .ensures .full,
-      operands-next b₀ _ (at .low) _ _ _ y₀ (c15 .wide2 .ensures) few (inv .1) (c5 .wide4 .ensures)
-          (c4 .operand-scope .ensures) (inv .3)
-          (c2 .operand .ensures),
+    let o = c .before .before in
+    let k = o .before .before .before in
+    let p = put t k in
+    let inv = head t k .loop .inv in (
+      omega (arith, k .before .before .loop-test .taken),
+      frame-then _ _ _ _ _ (inv .1) (o .operand .ensures .kept),
+      o .operand .ensures .full,
+      operands-next (buildable t p) _ (low t p) _ _ _ (symbol-is t p)
+          (p .before .before .before .before .wide2 .ensures) (few t k) (inv .1) (k .wide4 .ensures)
+          (o .before .before .operand-scope .ensures) (inv .3) (o .operand .ensures),
     )
 
 pub operands-returns : (t : ℕ) → operands-lts.Need-returns (cycle.operands-claims t) (cycle.operands-at t)
     operands.Post operands-Inv-loop operands-μ-loop
 operands-returns t c =
-    let c4 = c .before .before .before .before in
-    let c5 = c4 .before in
-    let c7 = c5 .before .before in
-    let c9 = c7 .before .before in
-    let c11 = c9 .before .before in
-    let c12 = c11 .before in
-    let z = c12 .before .before .before .before in
-    let b = z .pre .1 .1 .0 in
-    let at = z .pre .1 .1 .1 .0 in
-    let e = z .pre .1 .1 .1 .1 in
-    let h = put-as (c5 .row-of .ensures) (c4 .put .ensures) (row-writable b _ (at .low) _ e) in
-    let b₀ = buildable-kept (h .kept) b in
-    let y₀ = c9 .load .ensures ∙ sym (symbol-kept (h .kept) (b .arena) _ (at .low)) in
-    let inv = c .before .loop .inv in
-    let opcode = c11 .opcode .ensures ∙ ap (λ (i : ℕ). rowAt (z .args .forest .now) i .rec .opcode)
-    (c12 .wide .ensures) in
-    let done : c9 .load .result .count ≤ c .before .loop .j = omega (arith, c7 .wide3 .ensures, c .loop-test .left) in
-    plans-operation b _ (at .low) _ _ _ e opcode h (inv .1) (inv .2)
-    (operands-end b₀ _ (at .low) _ _ _ y₀ done (inv .2) (inv .3))
+    let l = c .before in
+    let p = l .before .before .before in
+    let z = start t p in
+    let inv = l .loop .inv in
+    let op = loaded t p .before .before in
+    let opcode = op .opcode .ensures ∙ ap (λ (i : ℕ). rowAt (z .args .forest .now) i .rec .opcode)
+    (op .before .wide .ensures) in
+    let done : loaded t p .load .result .count ≤ l .loop .j =
+    omega (arith, p .before .before .before .wide3 .ensures, c .loop-test .left) in
+    plans-operation (z .pre .1 .1 .0) _ (low t p) _ _ _ (z .pre .1 .1 .1 .1) opcode (row-put t p) (inv .1) (inv .2)
+    (operands-end (buildable t p) _ (low t p) _ _ _ (symbol-is t p) done (inv .2) (inv .3))
