@@ -19,12 +19,14 @@ use Rattle.laws.proofs.Falls.{visit-low, body-falls, free-falls}
 use Rattle.laws.proofs.Orders.{own-local, collect-last, free-opens}
 use Rattle.key.specs.declared.Symbol.{Symbol}
 use Rattle.key.specs.Key.{symbolAt}
-use Rattle.graph.specs.Graph.{Arena, graphOf}
+use Rattle.scopes.specs.declared.Rel as code
+use Rattle.scopes.specs.Relation.{relIn}
+use Rattle.graph.specs.Graph.{Arena, graphOf, Related}
 use Rattle.graph.proofs.Laws.{scope-of, kids-low}
 use Rattle.outsiders.specs.Outsiders.{offered, Below, Held, Listed}
 use Rattle.outsiders.proofs.Lists.{every-at, listed-none, listed-then, listed-as}
 use Rattle.schedule.specs.Schedule.{orderOf, nearOf, stepOf, needsOf, Put, Walked, Freed}
-use Rattle.schedule.proofs.Neighbours.{visit-after, steps-fresh, near-own}
+use Rattle.schedule.proofs.Neighbours.{visit-after, steps-fresh, near-own, told}
 use Rattle.schedule.proofs.Lending.{put-room}
 
 -- the scope of a symbol that was loaded
@@ -94,20 +96,24 @@ module _ (bs ws : List ℕ) (n m : ℕ) (arena : Arena bs ws n m) (c : ℕ) (lt 
 
   -- ---- what a body's symbols need
 
-  module _ (s : ℕ) (r : Rel) (is : (slots : List ℕ) → r ≡ relOf (G slots) s cs) where
+  module _ (s : ℕ) (r v : code.Rel) (read : r ≡ v) (rel : Related ws n m s cs r) where
+    is : (slots : List ℕ) → relIn v ≡ relOf (G slots) s cs
+    is = told bs ws n m s cs r v read rel
+
     abbrev chosen : Rel → Graph → List ℕ
     chosen t g = elim t [ local ↦ localDepOrder (symOf g s) | deeper ↦ freeVars g s | outside ↦ [] ]
 
     pub gathered : (list : List ℕ) (k : ℕ) (list′ : List ℕ) (k′ : ℕ) →
-        Listed bs ws n m (λ g. outsiders g cs (chosen r g)) list k list′ k′ →
+        Listed bs ws n m (λ g. outsiders g cs (chosen (relIn v) g)) list k list′ k′ →
         Listed bs ws n m (λ g. outsiders g cs (needsOf g cs s)) list k list′ k′
     unfolding needsOf
     gathered list k list′ k′ h =
-        listed-as bs ws n m (λ g. outsiders g cs (chosen r g)) (λ g. outsiders g cs (needsOf g cs s)) list k list′ k′
+        listed-as bs ws n m (λ g. outsiders g cs (chosen (relIn v) g)) (λ g. outsiders g cs (needsOf g cs s)) list k
+        list′ k′
         (λ slots o. ap (λ (t : Rel). outsiders (G slots) cs (chosen t (G slots)) o) (is slots)) h
 
     -- a deeper symbol of the body is not c itself
-    pub deeper-lower : r ≡ deeper → s ≤ c → s < c
+    pub deeper-lower : relIn v ≡ deeper → s ≤ c → s < c
     deeper-lower e le = go (ltb s c) refl
       where
         go : (b : Bool) → ltb s c ≡ b → s < c

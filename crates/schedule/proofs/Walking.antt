@@ -10,7 +10,7 @@ use lib.ListN.{length, getD, take}
 use lib.Seq.{take-suc}
 use Rattle.model.specs.Lists.{isIn}
 use Rattle.model.specs.Gate.{Graph, symOf}
-use Rattle.model.specs.Schedule.{Rel, local, deeper, outside, relOf, each, freeVars, schedule}
+use Rattle.model.specs.Schedule.{Rel, local, deeper, outside, each, freeVars, schedule}
 use Rattle.laws.specs.Members.{Under}
 use Rattle.laws.proofs.Falls.{schedule-low}
 use Rattle.laws.proofs.Orders.{each-last}
@@ -20,12 +20,14 @@ use Rattle.key.specs.Key.{symbolAt}
 use Rattle.symbols.specs.Words.{wordsFrom, slotsFrom}
 use Rattle.symbols.proofs.Words.{words-more}
 use Rattle.symbols.proofs.Laws.{kids-at}
-use Rattle.graph.specs.Graph.{Arena, graphOf, Tests}
+use Rattle.scopes.specs.declared.Rel as code
+use Rattle.scopes.specs.Relation.{relIn}
+use Rattle.graph.specs.Graph.{Arena, graphOf, Related, Tests}
 use Rattle.graph.proofs.Laws.{kids-low}
 use Rattle.outsiders.proofs.Lists.{every-at}
 use Rattle.schedule.specs.Schedule.{orderOf, passed, stops, nearOf, stepOf, Lent, Put, Walked, Scheduled}
 use Rattle.schedule.proofs.Neighbours.{near-low, step-passed, step-visit, step-seen, visit-after, steps-fresh}
-use Rattle.schedule.proofs.Neighbours.{near-end, near-rel}
+use Rattle.schedule.proofs.Neighbours.{near-end, near-rel, told}
 use Rattle.schedule.proofs.Lending.{unseen, seen-in, lent-put, walked-none, walked-then, walked-as}
 
 module _ (bs ws : List ℕ) (n m : ℕ) (arena : Arena bs ws n m) (b : Bool) (cs : ℕ) where
@@ -99,15 +101,14 @@ module _ (bs ws : List ℕ) (n m : ℕ) (arena : Arena bs ws n m) (b : Bool) (cs
     abbrev chosen : Rel → Graph → List ℕ
     chosen r g = elim r [ local ↦ symOf g s .kids | deeper ↦ freeVars g s | outside ↦ [] ]
 
-    pub near-goes : p ≡ false → (r : Rel) → ((slots : List ℕ) → r ≡ relOf (graphOf bs ws n m slots) s cs) →
-        (seen′ list′ : List ℕ) (k′ : ℕ) → Steps (chosen r) list k seen′ list′ k′ →
-        Steps (λ g. nearOf g b cs s) list k seen′ list′ k′
-    near-goes e r f seen′ list′ k′ h =
-        walked-as bs ws n m (λ g. each (stepOf g b cs) (chosen r g)) (λ g. each (stepOf g b cs) (nearOf g b cs s))
-        list k seen′ list′ k′
+    pub near-goes : p ≡ false → (r v : code.Rel) → r ≡ v → Related ws n m s cs r → (seen′ list′ : List ℕ) (k′ : ℕ) →
+        Steps (chosen (relIn v)) list k seen′ list′ k′ → Steps (λ g. nearOf g b cs s) list k seen′ list′ k′
+    near-goes e r v f rel seen′ list′ k′ h =
+        walked-as bs ws n m (λ g. each (stepOf g b cs) (chosen (relIn v) g))
+        (λ g. each (stepOf g b cs) (nearOf g b cs s)) list k seen′ list′ k′
         (λ slots o. let g = graphOf bs ws n m slots in
         ap (λ (ds : List ℕ). each (stepOf g b cs) ds o)
-        (sym (near-rel g b cs s (sym (test bs slots) ∙ e) r (f slots)))) h
+        (sym (near-rel g b cs s (sym (test bs slots) ∙ e) (relIn v) (told bs ws n m s cs r v f rel slots)))) h
 
   -- ---- a loop over symbols
 

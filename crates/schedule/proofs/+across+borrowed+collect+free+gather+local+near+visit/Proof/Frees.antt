@@ -5,9 +5,8 @@ use native.Mathlib.Omega.{arith}
 use borrow.Author.Needs.{needs}
 use lib.ListN.{length}
 use Rattle.scopes.specs.declared.Rel.the-variants.{Local, Deeper, Outside}
-use Rattle.scopes.specs.Relation.{relIn}
+use Rattle.key.specs.Key.{symbolAt}
 use Rattle.outsiders.proofs.Offers.{list-start}
-use Rattle.schedule.proofs.Neighbours.{told}
 use Rattle.schedule.proofs.Lending.{held-empty, lent-empty, put-room}
 use Rattle.schedule.proofs.Bodies.{scopeIn, body-fresh, body-below, free-done, gathered, deeper-lower}
 use Rattle.schedule.proofs.Bodies.{collect-start, collect-more, borrowed-done}
@@ -30,40 +29,42 @@ free-local-requires t c κs =
     let z = c .before .before .before .before .before .zeros8 .ensures in
     (omega arith, (p .0, (p .1 .0, (p .1 .1 .0, lent-empty _ _ _ (search needs) z (search needs)))))
 
+-- where the children of c are visited
+module _ (t : ℕ) (c : free-lts.After-local (measures.free-calls t) (measures.free-at t) free.Post) where
+  abbrev from : free-lts.Start (measures.free-calls t) (measures.free-at t) free.Post
+  from = c .before .before .before .before .before .before .before .before .before .before
+
+  own : c .before .before .before .before .load .result .scope ≡ symbolAt (from .args .work .now) (from .args .c) .scope
+  own = ap scopeIn (c .before .before .before .before .load .ensures)
+
 pub free-put-requires : (t : ℕ) → free-lts.Need-put-requires (measures.free-calls t) (measures.free-at t) free.Post
 free-put-requires t c κs =
-    let c7 = c .before .before .before .before .before .before .before in
-    let p = c7 .before .before .before .before .before .before .before .pre .1 in
-    let w = c .before .before .before .before .local .ensures in
-    let fresh = body-fresh _ _ _ _ (p .1 .0) _ (p .1 .1 .0) _ (ap scopeIn
-    (c .before .before .before .before .before .before .before .before .load .ensures)) _ _ _ _ w in
-    let room = put-room _ _ _ _ (w .lent) _ (p .1 .1 .0) (p .1 .0 .scoped .few) fresh in
-    (room, omega (arith, p .1 .1 .0, p .1 .0 .scoped .few), w .lent .seen-long, w .lent .held .long)
+    let h = c .before .before .before .before in
+    let p = from t h .pre .1 .1 in
+    let l = h .local .ensures .lent in
+    let new = body-fresh _ _ _ _ (p .0) _ (p .1 .0) _ (own t h) _ _ _ _ (h .local .ensures) in
+    let room = put-room _ _ _ _ l _ (p .1 .0) (p .0 .scoped .few) new in
+    (room, omega (arith, p .1 .0, p .0 .scoped .few), l .seen-long, l .held .long)
 
 pub free-collect-requires : (t : ℕ) → free-lts.Need-collect-requires (measures.free-calls t) (measures.free-at t)
     free.Post
 free-collect-requires t c κs =
-    let c4 = c .before .before .before .before in
-    let c9 = c4 .before .before .before .before .before in
-    let c14 = c9 .before .before .before .before .before in
-    let b = c14 .before .before .before .before .before in
-    let p = b .pre .1 in
-    let own = ap scopeIn (c9 .before .before .before .before .load .ensures) in
-    let below = body-below _ _ _ _ (p .1 .0) _ (p .1 .1 .0) _ own _ _ _ _ (c9 .local .ensures) _ _ _ (c4 .put .ensures)
-    (c4 .put .kept .1 .0 ∙ c9 .local .ensures .lent .held .long) in
-    (omega (arith, b .pre .0), (p .0, (p .1 .0, ((p .1 .1 .0, own), (below, p .1 .1 .1)))))
+    let q = c .before .before .before .before in
+    let h = q .before .before .before .before .before in
+    let z = from t h in
+    let p = z .pre .1 in
+    let below = body-below _ _ _ _ (p .1 .0) _ (p .1 .1 .0) _ (own t h) _ _ _ _ (h .local .ensures) _ _ _
+    (q .put .ensures) (q .put .kept .1 .0 ∙ h .local .ensures .lent .held .long) in
+    (omega (arith, z .pre .0), (p .0, (p .1 .0, ((p .1 .1 .0, own t h), (below, p .1 .1 .1)))))
 
 pub free-returns : (t : ℕ) → free-lts.Need-returns (measures.free-calls t) (measures.free-at t) free.Post
 free-returns t c =
-    let c6 = c .before .before .before .before .before .before in
-    let c11 = c6 .before .before .before .before .before in
-    let c17 = c11 .before .before .before .before .before .before in
-    let p = c17 .before .before .before .before .before .pre .1 in
-    free-done _ _ _ _ (p .1 .0) _ (p .1 .1 .0) _ (ap scopeIn
-    (c11 .before .before .before .before .before .load .ensures)) _ _ _ _
-    (c6 .before .before .before .before .before .before .local .ensures) _ _ _
-    (c .before .before .before .before .before .before .before .put .ensures) _ _ _
-    (c .before .before .collect .ensures)
+    let d = c .before .before in
+    let q = d .before .before .before .before .before in
+    let h = q .before .before .before .before .before in
+    let p = from t h .pre .1 .1 in
+    free-done _ _ _ _ (p .0) _ (p .1 .0) _ (own t h) _ _ _ _ (h .local .ensures) _ _ _ (q .put .ensures) _ _ _
+    (d .collect .ensures)
 
 -- ---- `collect`
 
@@ -127,40 +128,42 @@ gather-offer-kids-requires t c κs =
     let p = c .before .before .before .before .before .before .before .pre .1 in
     (p .0, (p .1 .0, (omega (arith, p .1 .1 .0 .0, p .1 .1 .0 .2), p .1 .1 .1)))
 
+-- where it is known how s lies
+module _ (t : ℕ) (c : gather-lts.After-relation (measures.gather-calls t) (measures.gather-at t) gather.Post) where
+  abbrev start : gather-lts.Start (measures.gather-calls t) (measures.gather-at t) gather.Post
+  start = c .before .before .before .before
+
 pub gather-borrowed-requires : (t : ℕ) → gather-lts.Need-borrowed-requires (measures.gather-calls t)
     (measures.gather-at t) gather.Post
 gather-borrowed-requires t c κs =
-    let p = c .before .before .before .before .before .before .before .pre .1 in
-    let r = c .before .before .before .relation in
-    let lower = deeper-lower _ _ _ _ (p .1 .0) _ (p .1 .1 .0 .0) _ (p .1 .1 .0 .1) _ (relIn Deeper)
-    (told _ _ _ _ _ _ (r .result) Deeper (c .before .enum-told2 .given .1) (r .ensures)) refl (p .1 .1 .0 .2) in
+    let r = c .before .before .before in
+    let p = start t r .pre .1 in
+    let lower = deeper-lower _ _ _ _ (p .1 .0) _ (p .1 .1 .0 .0) _ (p .1 .1 .0 .1) _ (r .relation .result) Deeper
+    (c .before .enum-told2 .given .1) (r .relation .ensures) refl (p .1 .1 .0 .2) in
     (omega (arith, lower), (p .0, (p .1 .0, (omega (arith, lower, p .1 .1 .0 .0), p .1 .1 .1))))
 
 pub gather-returns : (t : ℕ) → gather-lts.Need-returns (measures.gather-calls t) (measures.gather-at t) gather.Post
 gather-returns t c =
-    let c5 = c .before .before .before .before .before in
-    let p = c5 .before .before .before .before .before .pre .1 in
-    let r = c .before .before .before .before .before .before .relation in
-    gathered _ _ _ _ (p .1 .0) _ (p .1 .1 .0 .0) _ (p .1 .1 .0 .1) _ (relIn Local)
-    (told _ _ _ _ _ _ (r .result) Local (c .before .before .before .before .enum-told .given .1) (r .ensures)) _ _ _ _
-    (c .before .before .offer-kids .ensures)
+    let h = c .before .before in
+    let r = h .before .before .before .before in
+    let p = start t r .pre .1 .1 in
+    gathered _ _ _ _ (p .0) _ (p .1 .0 .0) _ (p .1 .0 .1) _ (r .relation .result) Local
+    (h .before .before .enum-told .given .1) (r .relation .ensures) _ _ _ _ (h .offer-kids .ensures)
 
 pub gather-returns-2 : (t : ℕ) → gather-lts.Need-returns-2 (measures.gather-calls t) (measures.gather-at t) gather.Post
 gather-returns-2 t c =
-    let c5 = c .before .before .before .before .before in
-    let p = c5 .before .before .before .before .before .pre .1 in
-    let r = c .before .before .before .before .before .before .relation in
-    gathered _ _ _ _ (p .1 .0) _ (p .1 .1 .0 .0) _ (p .1 .1 .0 .1) _ (relIn Deeper)
-    (told _ _ _ _ _ _ (r .result) Deeper (c .before .before .before .before .enum-told2 .given .1) (r .ensures)) _ _ _
-    _ (c .before .before .borrowed .ensures)
+    let h = c .before .before in
+    let r = h .before .before .before .before in
+    let p = start t r .pre .1 .1 in
+    gathered _ _ _ _ (p .0) _ (p .1 .0 .0) _ (p .1 .0 .1) _ (r .relation .result) Deeper
+    (h .before .before .enum-told2 .given .1) (r .relation .ensures) _ _ _ _ (h .borrowed .ensures)
 
 pub gather-returns-3 : (t : ℕ) → gather-lts.Need-returns-3 (measures.gather-calls t) (measures.gather-at t) gather.Post
 gather-returns-3 t c =
-    let p = c .before .before .before .before .before .before .pre .1 in
-    let r = c .before .before .relation in
-    gathered _ _ _ _ (p .1 .0) _ (p .1 .1 .0 .0) _ (p .1 .1 .0 .1) _ (relIn Outside)
-    (told _ _ _ _ _ _ (r .result) Outside (c .enum-told3 .given .1) (r .ensures)) _ _ _ _ (list-start _ _ _ _ _ _ _
-    (p .1 .1 .1))
+    let r = c .before .before in
+    let p = start t r .pre .1 .1 in
+    gathered _ _ _ _ (p .0) _ (p .1 .0 .0) _ (p .1 .0 .1) _ (r .relation .result) Outside (c .enum-told3 .given .1)
+    (r .relation .ensures) _ _ _ _ (list-start _ _ _ _ _ _ _ (p .1 .1))
 
 -- ---- `borrowed`
 

@@ -8,10 +8,8 @@ use denote.Ref.{now}
 use lib.ListN.{length, getD}
 use Rattle.regions.specs.Regions.{SLOTS}
 use Rattle.scopes.specs.declared.Rel.the-variants.{Local, Deeper, Outside}
-use Rattle.scopes.specs.Relation.{relIn}
 use Rattle.outsiders.proofs.Offers.{kids-lower}
 use Rattle.schedule.specs.Schedule.{stepOf, Walked}
-use Rattle.schedule.proofs.Neighbours.{told}
 use Rattle.schedule.proofs.Lending.{put-room}
 use Rattle.schedule.proofs.Walking.{visit-passed, visit-seen, near-fresh, visit-new, near-stops, near-goes}
 use Rattle.schedule.proofs.Walking.{walk-start, words-begin, words-go, words-done, list-go, list-done, kids-down}
@@ -38,31 +36,33 @@ visit-returns-2 t c =
     let p = c .before .before .before .before .before .before .before .before .pre .1 in
     visit-seen _ _ _ _ (p .1 .0) _ _ _ (p .1 .1 .0) _ _ _ (p .1 .1 .1) (c .if2 .taken)
 
+-- where the neighbours of s are visited
+module _ (t : ℕ) (c : visit-lts.After-near (measures.visit-calls t) (measures.visit-at t) visit.Post) where
+  abbrev tested : visit-lts.After-is-passed (measures.visit-calls t) (measures.visit-at t) visit.Post
+  tested = c .before .before .before .before .before .before
+
+  abbrev from : visit-lts.Start (measures.visit-calls t) (measures.visit-at t) visit.Post
+  from = tested .before .before .before .before .before
+
 pub visit-put-requires : (t : ℕ) → visit-lts.Need-put-requires (measures.visit-calls t) (measures.visit-at t) visit.Post
 visit-put-requires t c κs =
-    let c5 = c .before .before .before .before .before in
-    let c11 = c5 .before .before .before .before .before .before in
-    let p = c11 .before .before .before .before .before .before .pre .1 in
-    let w = c .before .before .before .before .before .before .near .ensures in
-    let fresh = near-fresh _ _ _ _ (p .1 .0) _ _ _ (p .1 .1 .0) _ _ _ (p .1 .1 .1) _
-    (c5 .before .before .before .before .before .before .before .is-passed .ensures)
-    (c5 .before .before .before .before .before .before .if1 .left) (c5 .before .before .before .before .if2 .left) _ _
-    _ w in
-    let room = put-room _ _ _ _ (w .lent) _ (p .1 .1 .0) (p .1 .0 .scoped .few) fresh in
-    (room, omega (arith, p .1 .1 .0, p .1 .0 .scoped .few), w .lent .seen-long, w .lent .held .long)
+    let h = c .before .before .before .before .before .before in
+    let p = from t h .pre .1 .1 in
+    let l = h .near .ensures .lent in
+    let new = near-fresh _ _ _ _ (p .0) _ _ _ (p .1 .0) _ _ _ (p .1 .1) _ (tested t h .is-passed .ensures)
+    (h .before .before .before .before .before .if1 .left) (h .before .before .before .if2 .left) _ _ _
+    (h .near .ensures) in
+    let room = put-room _ _ _ _ l _ (p .1 .0) (p .0 .scoped .few) new in
+    (room, omega (arith, p .1 .0, p .0 .scoped .few), l .seen-long, l .held .long)
 
 pub visit-returns-3 : (t : ℕ) → visit-lts.Need-returns-3 (measures.visit-calls t) (measures.visit-at t) visit.Post
 visit-returns-3 t c =
-    let c4 = c .before .before .before .before in
-    let c9 = c4 .before .before .before .before .before in
-    let c16 = c9 .before .before .before .before .before .before .before in
-    let p = c16 .before .before .before .before .before .before .pre .1 in
-    let w = c4 .before .before .before .before .before .before .before .near .ensures in
-    visit-new _ _ _ _ (p .1 .0) _ _ _ (p .1 .1 .0) _ _ _ (p .1 .1 .1) _
-    (c9 .before .before .before .before .before .before .before .before .is-passed .ensures)
-    (c9 .before .before .before .before .before .before .before .if1 .left)
-    (c9 .before .before .before .before .before .if2 .left) _ _ _ w _ _ _ (c4 .put .ensures) (c4 .put .kept .1 .0
-    ∙ w .lent .held .long)
+    let q = c .before .before .before .before in
+    let h = q .before .before .before .before .before .before .before in
+    let p = from t h .pre .1 .1 in
+    visit-new _ _ _ _ (p .0) _ _ _ (p .1 .0) _ _ _ (p .1 .1) _ (tested t h .is-passed .ensures)
+    (h .before .before .before .before .before .if1 .left) (h .before .before .before .if2 .left) _ _ _
+    (h .near .ensures) _ _ _ (q .put .ensures) (q .put .kept .1 .0 ∙ h .near .ensures .lent .held .long)
 
 -- ---- `near`
 
@@ -71,39 +71,34 @@ near-returns t c =
     let p = c .before .before .before .before .before .before .pre .1 in
     near-stops _ _ _ _ (p .1 .0) _ _ _ _ _ _ (c .before .is-end .ensures) (c .if1 .taken) _ (p .1 .1 .1)
 
+-- where it is known how s lies
+module _ (t : ℕ) (c : near-lts.After-relation (measures.near-calls t) (measures.near-at t) near.Post) where
+  abbrev start : near-lts.Start (measures.near-calls t) (measures.near-at t) near.Post
+  start = c .before .before .before .before .before .before .before
+
 pub near-returns-2 : (t : ℕ) → near-lts.Need-returns-2 (measures.near-calls t) (measures.near-at t) near.Post
 near-returns-2 t c =
-    let c5 = c .before .before .before .before .before in
-    let c11 = c5 .before .before .before .before .before .before in
-    let r = c5 .before .before .before .before .relation in
-    near-goes _ _ _ _ (c11 .before .before .before .before .before .pre .1 .1 .0) _ _ _ _ _ _
-    (c5 .before .before .before .before .before .before .is-end .ensures)
-    (c5 .before .before .before .before .before .if1 .left) (relIn Local)
-    (told _ _ _ _ _ _ (r .result) Local
-    (c .before .before .before .before .before .before .before .enum-told .given .1) (r .ensures)) _ _ _
-    (c .before .before .before .before .local .ensures)
+    let h = c .before .before .before .before in
+    let r = h .before .before .before .before .before in
+    near-goes _ _ _ _ (start t r .pre .1 .1 .0) _ _ _ _ _ _ (r .before .before .is-end .ensures) (r .before .if1 .left)
+    (r .relation .result) Local (h .before .before .before .enum-told .given .1) (r .relation .ensures) _ _ _
+    (h .local .ensures)
 
 pub near-returns-3 : (t : ℕ) → near-lts.Need-returns-3 (measures.near-calls t) (measures.near-at t) near.Post
 near-returns-3 t c =
-    let c5 = c .before .before .before .before .before in
-    let c11 = c5 .before .before .before .before .before .before in
-    let r = c5 .before .before .before .before .relation in
-    near-goes _ _ _ _ (c11 .before .before .before .before .before .pre .1 .1 .0) _ _ _ _ _ _
-    (c5 .before .before .before .before .before .before .is-end .ensures)
-    (c5 .before .before .before .before .before .if1 .left) (relIn Deeper)
-    (told _ _ _ _ _ _ (r .result) Deeper
-    (c .before .before .before .before .before .before .before .enum-told2 .given .1) (r .ensures)) _ _ _
-    (c .before .before .before .before .across .ensures)
+    let h = c .before .before .before .before in
+    let r = h .before .before .before .before .before in
+    near-goes _ _ _ _ (start t r .pre .1 .1 .0) _ _ _ _ _ _ (r .before .before .is-end .ensures) (r .before .if1 .left)
+    (r .relation .result) Deeper (h .before .before .before .enum-told2 .given .1) (r .relation .ensures) _ _ _
+    (h .across .ensures)
 
 pub near-returns-4 : (t : ℕ) → near-lts.Need-returns-4 (measures.near-calls t) (measures.near-at t) near.Post
 near-returns-4 t c =
-    let c5 = c .before .before .before .before .before in
-    let c9 = c5 .before .before .before .before in
-    let r = c .before .before .relation in
-    near-goes _ _ _ _ (c9 .pre .1 .1 .0) _ _ _ _ _ _ (c .before .before .before .before .is-end .ensures)
-    (c .before .before .before .if1 .left) (relIn Outside)
-    (told _ _ _ _ _ _ (r .result) Outside (c .enum-told3 .given .1) (r .ensures)) _ _ _
-    (walk-start _ _ _ _ (c9 .pre .1 .1 .0) _ _ _ _ _ (c9 .pre .1 .1 .1 .1))
+    let r = c .before .before in
+    let p = start t r .pre .1 .1 in
+    near-goes _ _ _ _ (p .0) _ _ _ _ _ _ (r .before .before .is-end .ensures) (r .before .if1 .left)
+    (r .relation .result) Outside (c .enum-told3 .given .1) (r .relation .ensures) _ _ _
+    (walk-start _ _ _ _ (p .0) _ _ _ _ _ (p .1 .1))
 
 -- ---- `local`
 
