@@ -14,10 +14,10 @@ use Rattle.model.specs.Lister.{decimal, line, linesFrom, symbolLines}
 use Rattle.model.specs.Gate.{allSlots}
 use Rattle.regions.specs.Regions.{SLOTS}
 use Rattle.key.specs.Key.{symbolAt}
-use Rattle.symbols.specs.Symbols.{kidsAt, symOf, symFrom, symsOf, AllSound}
+use Rattle.symbols.specs.Symbols.{kidsAt, symOf, symFrom, symsOf}
 use Rattle.symbols.proofs.Words.{words-length}
 use Rattle.symbols.proofs.Laws.{syms-length, sym-at}
-use Rattle.gate.specs.Gate.{usesAt}
+use Rattle.gate.specs.Gate.{usesAt, Lower}
 use Rattle.laws.proofs.Once.{count-short, count-append}
 use Rattle.output.specs.Output.{over, Wrote}
 use Rattle.output.proofs.Wrote.{wrote-none, wrote-as, wrote-then, wrote-both}
@@ -32,10 +32,11 @@ unfolding allSlots
 slots-more [] y = append-nil (y .kids)
 slots-more (x ∷ l) y = rw (slots-more l y) (sym (append-assoc (x .kids) (allSlots l) (y .kids)))
 
-slots-few : (bs ws : List ℕ) (n s : ℕ) → AllSound bs ws (SLOTS .size) n → count s (allSlots (symsOf bs ws n)) ≤ SLOTS .size * n
+slots-few : (bs ws : List ℕ) (n s : ℕ) → ((i : ℕ) → i < n → Lower ws i) →
+    count s (allSlots (symsOf bs ws n)) ≤ SLOTS .size * n
 unfolding symsOf allSlots count symOf
-slots-few bs ws zero s sound = omega arith
-slots-few bs ws (suc n) s sound =
+slots-few bs ws zero s kids = omega arith
+slots-few bs ws (suc n) s kids =
     let l = symsOf bs ws n in
     let e : count s (allSlots (l ++ (symFrom bs l ws n ∷ []))) ≡ count s (allSlots l ++ kidsAt ws n) =
     ap (count s) (slots-more l (symFrom bs l ws n)) in
@@ -44,12 +45,12 @@ slots-few bs ws (suc n) s sound =
       count-append s (allSlots l) (kidsAt ws n),
       count-short s (kidsAt ws n),
       words-length ws (SLOTS .first + symbolAt ws n .kids) (symbolAt ws n .count),
-      sound n (omega arith) .slots,
-      slots-few bs ws n s (λ i lt. sound i (omega arith)),
+      kids n (omega arith) .slots,
+      slots-few bs ws n s (λ i lt. kids i (omega arith)),
     )
 
 pub uses-few : (bs ws : List ℕ) (n s : ℕ) → Listable bs ws n → s < n → usesAt ws s < 1000000000
-uses-few bs ws n s h lt = omega (arith, h .uses s lt, h .few, slots-few bs ws n s (h .sound))
+uses-few bs ws n s h lt = omega (arith, h .uses s lt, h .countable .few, slots-few bs ws n s (h .countable .kids))
 
 -- ---- one line more
 

@@ -22,6 +22,7 @@ use Rattle.graph.proofs.Laws.{Still, still-above, arena-agree}
 use Rattle.output.specs.Output.{over, Wrote}
 use Rattle.lines.specs.Lines.{Listable}
 use Rattle.cse.specs.Call.{Held}
+use Rattle.cse.proofs.Buildable.{arena-countable}
 
 -- the uses are counted in words ws₁
 module _ (bs ws : List ℕ) (n : ℕ) (held : Held bs ws n) (ws₁ : List ℕ) (tallied : Tallied ws ws₁ n) where
@@ -37,9 +38,8 @@ module _ (bs ws : List ℕ) (n : ℕ) (held : Held bs ws n) (ws₁ : List ℕ) (
       arena-agree still bs (λ i l. held .arena .sound i l .slots) (held .arena) in
       record {
         laid = accept-passed bs (treesOf bs) (held .accepted) .shaped .sound .laid;
-        sound = a .sound;
-        few = a .scoped .few;
-        words = a .scoped .words;
+        countable = arena-countable a;
+        from = λ s h. a .sound s h .from;
         uses = λ s h. rw syms-same (tallied .uses bs s h);
       }
 

@@ -1,6 +1,6 @@
 -- Where a tree is planned: what the code asks there, and the site of a tree that is planned next.
 -- Assumes nothing.
-use Prim.Native.Nat.{ℕ, _+_, _*_, _<_, _≤_}
+use Prim.Native.Nat.{ℕ, _+_, _<_, _≤_}
 use mathlib.Core.Path.{_≡_, _∙_}
 use mathlib.Core.List.{List}
 use native.Mathlib.Omega.{arith}
@@ -12,12 +12,9 @@ use Rattle.planner.specs.Planning.{Site}
 
 module _ {n s slack : ℕ} {ids : List ℕ} {last above : ℕ} {p : Plan} (at : Site n s slack ids last above p) where
   module _ {bs ws : List ℕ} {m : ℕ} (b : Buildable bs ws n m) where
-    -- what `put` asks, what `load` asks, and an id that is read
+    -- what `put` asks, and an id that is read
     pub put-fits : (WORDS ≤ length ws) × (p .rows ≤ 257) × (above < 4294967296)
     put-fits = (omega (arith, b .arena .scoped .words), at .count, omega (arith, at .room))
-
-    pub load-fits : 5 * s + 5 ≤ length ws
-    load-fits = omega (arith, at .low, b .arena .scoped .few, b .arena .scoped .words)
 
     pub id-fits : s < length ids
     id-fits = omega (arith, at .low, at .long, b .arena .scoped .few)

@@ -1,6 +1,7 @@
 -- `gate::clear` meets its contract. Assumes nothing.
 use Prim.Native.Nat.{_-_, _≤_}
 use mathlib.Core.Path.{_≡_, refl, _∙_}
+use borrow.Author.Needs.{needs}
 use native.Mathlib.Omega.{arith}
 use native.Mathlib.Numerals.{add-one}
 use lib.ListN.{length, length-set}
@@ -27,9 +28,6 @@ loop-again c =
     let l = c .before .loop in
     (omega arith, simp length-set (l .inv .1), rw (l .inv .2, add-one (l .s)))
 
-same-length : tie.Need-same-length Inv-loop μ-loop
-same-length c = c .before .loop .inv .1
-
 returns : tie.Need-returns Inv-loop μ-loop
 returns c =
     let l = c .before .loop in
@@ -40,4 +38,4 @@ pub clear-spec : {M : Type 1} → statement M
 clear-spec =
     tie.close (tie.spec Inv-loop μ-loop loop-holds (λ c. omega arith) (λ c. omega arith) (λ c. omega arith)
     (λ c. omega arith) (λ c. omega arith) slice-write-work-2 (λ c. omega arith) (λ c. omega arith) loop-again
-    same-length returns)
+    (λ c. search needs) returns)

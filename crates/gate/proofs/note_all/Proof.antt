@@ -1,6 +1,7 @@
 -- `gate::note_all` meets its contract. Assumes nothing.
 use Prim.Native.Nat.{_+_, _-_, _≤_}
 use mathlib.Core.Path.{_≡_, refl, _∙_}
+use borrow.Author.Needs.{needs}
 use native.Mathlib.Omega.{arith}
 use denote.Ref.{now}
 use lib.ListN.{length}
@@ -43,9 +44,6 @@ loop-again c =
     let more = run-more (now (a .work)) (a .at) (a .count) (s .pre) (l .loop .k) t _ (l .loop .inv .2) in
     (omega arith, n .note .kept .0 ∙ l .loop .inv .1, n .note .ensures ∙ more)
 
-same-length : tie.Need-same-length Inv-loop μ-loop
-same-length c = c .before .loop .inv .1
-
 returns : tie.Need-returns Inv-loop μ-loop
 returns c =
     let l = c .before .loop in
@@ -55,4 +53,4 @@ returns c =
 pub note-all-spec : {M : Type 1} → statement M
 note-all-spec =
     tie.close (tie.spec Inv-loop μ-loop loop-holds (λ c. omega arith) (λ c. omega arith) (λ c. omega arith) cast-kid
-    note-requires (λ c. omega arith) (λ c. omega arith) loop-again same-length returns)
+    note-requires (λ c. omega arith) (λ c. omega arith) loop-again (λ c. search needs) returns)

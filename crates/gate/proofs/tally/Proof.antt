@@ -1,6 +1,7 @@
 -- `gate::tally` meets its contract. Assumes nothing.
 use Prim.Native.Nat.{_-_, _≤_}
 use mathlib.Core.Path.{_≡_, refl, _∙_}
+use borrow.Author.Needs.{needs}
 use native.Mathlib.Omega.{arith}
 use denote.Ref.{now}
 use Rattle.symbols.specs.Symbols.{kidsAt}
@@ -41,9 +42,6 @@ loop-again c =
       tallied-more w n (s .pre .0) (l .loop .work) _ (l .loop .inv .1) (l .loop .s) t _ e (l .loop .inv .2),
     )
 
-same-length : tie.Need-same-length Inv-loop μ-loop
-same-length c = c .before .loop .inv .1 .kept .long
-
 returns : tie.Need-returns Inv-loop μ-loop
 returns c =
     let l = c .before .loop in
@@ -53,4 +51,4 @@ returns c =
 pub tally-spec : {M : Type 1} → statement M
 tally-spec =
     tie.close (tie.spec Inv-loop μ-loop loop-holds note-kids-requires (λ c. omega arith) (λ c. omega arith) loop-again
-    same-length returns)
+    (λ c. search needs) returns)

@@ -1,6 +1,7 @@
 -- `gate::visit` meets its contract. Assumes nothing.
 use Prim.Native.Nat.{suc, _+_, _-_, _<_, _≤_}
 use mathlib.Core.Path.{_≡_, _∙_}
+use borrow.Author.Needs.{needs}
 use native.Mathlib.Omega.{arith}
 use native.Mathlib.Numerals.{add-one}
 use denote.Ref.{now}
@@ -18,9 +19,6 @@ Inv-loop work₀ root s₀ work s =
 
 abbrev μ-loop : tie.MeasureT-loop
 μ-loop work₀ root s₀ work s = s
-
-add-s : tie.Need-add-s Inv-loop μ-loop
-add-s c = omega (arith, c .before .pre .0 .few)
 
 loop-holds : tie.Need-loop-holds Inv-loop μ-loop
 loop-holds c =
@@ -52,13 +50,10 @@ loop-again c =
           ∙ l .loop .inv .2,
     )
 
-same-length : tie.Need-same-length Inv-loop μ-loop
-same-length c = c .before .loop .inv .1 .kept .long
-
 returns : tie.Need-returns Inv-loop μ-loop
 returns c = let l = c .before .loop in down-end _ (l .work) _ (l .s) (c .loop-test .left) (l .inv .2)
 
 pub visit-spec : {M : Type 1} → statement M
 visit-spec =
-    tie.close (tie.spec Inv-loop μ-loop add-s loop-holds (λ c. omega arith) visit-symbol-requires (λ c. omega arith)
-    loop-again same-length returns)
+    tie.close (tie.spec Inv-loop μ-loop (λ c. search needs) loop-holds (λ c. omega arith) visit-symbol-requires
+    (λ c. omega arith) loop-again (λ c. search needs) returns)

@@ -30,7 +30,7 @@ loop-holds c =
 
 shared-slice-read-put-line : tie.Need-shared-slice-read-put-line Inv-loop μ-loop
 shared-slice-read-put-line c =
-    let h = c .before .before .before .before .before .before .before .pre .0 in omega (arith, h .few, h .words)
+    let h = c .before .before .before .before .before .before .before .pre .0 .countable in omega (arith, h .few, h .words)
 
 put-line-requires : tie.Need-put-line-requires Inv-loop μ-loop
 put-line-requires c κs =
@@ -40,9 +40,15 @@ put-line-requires c κs =
     let i = l .loop in
     let lt = c .before .before .loop-test .taken in
     let far = lines-end _ _ _ _ (i .inv .2) in
-    let few : s .args .n ≤ 512 = h .few in
-    let all : WORDS ≤ length (now (s .args .work)) = h .words in
-    (h .laid, (h .sound _ lt, ((omega arith, omega arith, uses-few _ _ _ _ h lt), omega (arith, s .pre .1, i .inv .1))))
+    let few : s .args .n ≤ 512 = h .countable .few in
+    let all : WORDS ≤ length (now (s .args .work)) = h .countable .words in
+    let kids = h .countable .kids _ lt in (
+      h .laid,
+      (
+        record { from = h .from _ lt; slots = kids .slots; lower = kids .lower },
+        ((omega arith, omega arith, uses-few _ _ _ _ h lt), omega (arith, s .pre .1, i .inv .1)),
+      ),
+    )
 
 loop-again : tie.Need-loop-again Inv-loop μ-loop
 loop-again c =

@@ -11,13 +11,13 @@ cast-put-number : tie.Need-cast-put-number
 cast-put-number c =
     let w = c .before .before .before in
     let s = w .before .before .before .before .before .before in
-    omega (arith, s .pre .0 .few)
+    omega (arith, s .pre .0 .countable .few)
 
 put-number-requires : tie.Need-put-number-requires
 put-number-requires c κs =
     let w = c .before .before .before in
     let s = w .before .before .before .before .before .before in
-    (omega (arith, s .pre .0 .few), omega (arith, s .pre .1, w .put-bytes .kept, w .put-bytes .ensures .ends))
+    (omega (arith, s .pre .0 .countable .few), omega (arith, s .pre .1, w .put-bytes .kept, w .put-bytes .ensures .ends))
 
 put-lines-requires : tie.Need-put-lines-requires
 put-lines-requires c κs =
@@ -26,7 +26,7 @@ put-lines-requires c κs =
     let s = w .before .before .before .before .before .before in
     let e₁ = w .put-bytes .ensures .ends in
     let e₂ = number-ends _ _ (v .put-number .ensures) in
-    (s .pre .0, omega (arith, s .pre .0 .few, s .pre .1, w .put-bytes .kept, v .put-number .kept))
+    (s .pre .0, omega (arith, s .pre .0 .countable .few, s .pre .1, w .put-bytes .kept, v .put-number .kept))
 
 returns : tie.Need-returns
 unfolding text

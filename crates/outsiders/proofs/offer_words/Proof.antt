@@ -2,6 +2,7 @@
 use Prim.Native.Nat.{ℕ, _-_, _≤_}
 use mathlib.Core.Path.{_≡_, refl, _∙_}
 use mathlib.Core.List.{List, []}
+use borrow.Author.Needs.{needs}
 use native.Mathlib.Omega.{arith}
 use lib.ListN.{length}
 use Rattle.model.specs.Schedule.{operands}
@@ -23,11 +24,6 @@ abbrev μ-loop : tie.MeasureT-loop
 loop-holds : tie.Need-loop-holds Inv-loop μ-loop
 loop-holds c =
     (omega arith, refl, λ bs. words-start _ _ _ _ _ _ _ _ _ _ (c .before .before .pre .1 .1))
-
-inside : tie.Need-shared-slice-read-d Inv-loop μ-loop
-inside c =
-    let c5 = c .before .before .before .before .before in
-    omega (arith, c5 .pre .0 .words, c5 .pre .1 .0 .fit)
 
 offer-requires : tie.Need-offer-operand-requires Inv-loop μ-loop
 offer-requires c κs =
@@ -54,7 +50,7 @@ offer-words-spec =
     tie.close (tie.spec Inv-loop μ-loop loop-holds (λ c. omega (
       arith,
       c .before .before .before .before .pre .1 .0 .fit,
-    )) (λ c. omega arith) inside
+    )) (λ c. omega arith) (λ c. search needs)
     (λ c. let c5 = c .before .before .before .before .before in
     omega (arith, c5 .pre .0 .few, c5 .pre .1 .0 .low (c .before .before .loop .k) (c .before .loop-test .taken)))
     offer-requires (λ c. omega arith) (λ c. omega arith) loop-again (λ c. c .before .loop .inv .1)

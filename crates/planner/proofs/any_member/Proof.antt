@@ -26,11 +26,6 @@ returns : tie.Need-returns Inv-loop μ-loop
 returns c =
     λ gr env st maps. any-found gr _ env _ _ _ (c .if1 .taken) (c .before .member .ensures gr env st maps) (omega arith)
 
-add-s : tie.Need-add-s Inv-loop μ-loop
-add-s c =
-    let p = c .before .before .before .before .before .before .before .pre in
-    omega (arith, p .1 .1 .0, p .1 .0 .arena .scoped .few)
-
 loop-again : tie.Need-loop-again Inv-loop μ-loop
 loop-again c = (
   omega arith,
@@ -45,5 +40,5 @@ returns-2 c =
 
 pub any-member-spec : {M : Type 1} → statement M
 any-member-spec =
-    tie.close (tie.spec Inv-loop μ-loop loop-holds member-requires returns add-s (λ c. search needs) loop-again
-    returns-2)
+    tie.close (tie.spec Inv-loop μ-loop loop-holds member-requires returns (λ c. search needs) (λ c. search needs)
+    loop-again returns-2)

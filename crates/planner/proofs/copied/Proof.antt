@@ -1,6 +1,6 @@
 -- `planner::copied` meets its contract. Assumes nothing.
 use Prim.Native.Nat.{_-_, _≤_}
-use mathlib.Core.Path.{_≡_, ap, refl}
+use mathlib.Core.Path.{_≡_}
 use native.Mathlib.Omega.{arith}
 use borrow.Author.Needs.{needs}
 use lib.ListN.{length, take, length-set}
@@ -13,9 +13,6 @@ Inv-loop ids map₀ s₀ map s = (s ≤ 512) × (length map ≡ 512) × (length 
 
 abbrev μ-loop : tie.MeasureT-loop
 μ-loop ids map₀ s₀ map s = 512 - s
-
-loop-holds : tie.Need-loop-holds Inv-loop μ-loop
-loop-holds c = (omega arith, ap length (c .no-ids .ensures), c .before .before .pre, refl)
 
 loop-again : tie.Need-loop-again Inv-loop μ-loop
 loop-again c = let inv = c .before .before .loop .inv in
@@ -31,5 +28,5 @@ returns c = let inv = c .before .loop .inv in
 
 pub copied-spec : {M : Type 1} → statement M
 copied-spec =
-    tie.close (tie.spec Inv-loop μ-loop (λ c κs. search needs) loop-holds (λ c. search needs) (λ c. search needs)
-    (λ c. search needs) (λ c. search needs) (λ c. search needs) (λ c. search needs) loop-again returns)
+    tie.close (tie.spec Inv-loop μ-loop (λ c κs. search needs) (λ c. search needs) (λ c. search needs)
+    (λ c. search needs) (λ c. search needs) (λ c. search needs) (λ c. search needs) (λ c. search needs) loop-again returns)

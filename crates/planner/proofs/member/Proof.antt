@@ -22,11 +22,6 @@ returns-2 c =
     let few : z .args .s < 512 = omega (arith, z .pre .1 .0 .arena .scoped .few) in
     member-given gr _ _ env _ few maps (c .if2 .taken)
 
-load-requires : tie.Need-load-requires
-load-requires c κs =
-    let a = c .before .before .before .before .before .before .before .pre .1 .0 .arena in
-    omega (arith, a .scoped .few, a .scoped .words)
-
 returns-3 : tie.Need-returns-3
 returns-3 c =
     λ gr env st maps.
@@ -34,11 +29,6 @@ returns-3 c =
     let few : z .args .s < 512 = omega (arith, z .pre .1 .0 .arena .scoped .few) in
     member-elsewhere gr _ _ env _ few maps
     (scope-not st _ (z .pre .1 .1 .0) (c .before .before .load .ensures) (c .before .wide .ensures) (c .if3 .taken))
-
-is-arg-requires : tie.Need-is-arg-requires
-is-arg-requires c κs =
-    let z = c .before .before .before .before .before .before .before .before .before .before in
-    (z .pre .1 .0 .arena .scoped, z .pre .1 .1 .0)
 
 returns-4 : tie.Need-returns-4
 returns-4 c =
@@ -69,5 +59,5 @@ returns-5 c =
 pub member-spec : {M : Type 1} → statement M
 member-spec =
     tie.close (tie.spec (λ c. search needs) (λ c. search needs) (λ c. search needs) returns (λ c. search needs)
-    (λ c. search needs) returns-2 load-requires (λ c κs. search needs) returns-3 is-arg-requires returns-4
-    should-hoist-requires returns-5)
+    (λ c. search needs) returns-2 (λ c κs. search needs) (λ c κs. search needs) returns-3 (λ c κs. search needs)
+    returns-4 should-hoist-requires returns-5)
