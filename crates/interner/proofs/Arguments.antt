@@ -3,14 +3,13 @@
 -- Assumes nothing.
 use Prim.Native.Nat.{ℕ, zero, suc, _+_, _-_, _<_, _≤_}
 use mathlib.Core.Path.{_≡_, refl, sym, ap, _∙_, subst}
-use mathlib.Core.Logic.{⊎-elim}
 use mathlib.Core.Bool.{Bool, false, _||_, or-false}
 use mathlib.Core.Option.{some}
 use mathlib.Core.List.{List, [], _∷_}
 use native.Mathlib.Omega.{arith}
 use native.Mathlib.Decide.{decLt}
-use native.Mathlib.Nat.{eq-or-lt-of-le}
 use borrow.Author.Tests.{lt-ltb, le-ltb, ne-eqb}
+use borrow.Author.Count.{below-more}
 use lib.Dec.{eqb}
 use lib.ListN.{length, length-append}
 use Rattle.regions.specs.Regions.{SCOPES}
@@ -20,6 +19,7 @@ use Rattle.model.specs.Tree.{Rec}
 use Rattle.model.specs.Forest.{recordCount}
 use Rattle.model.specs.Intern.{Scope, scopeAt, argument, Outs, push, alloc, allocArgs}
 use Rattle.model.specs.Intern as intern
+use Rattle.laws.specs.Members.{In}
 use Rattle.laws.proofs.Members.{in-one, apart-anyIn}
 use Rattle.laws.proofs.Ranges.{range-in}
 use Rattle.record.specs.Record.{rowAt}
@@ -34,8 +34,8 @@ use Rattle.tables.specs.Tables.{Open}
 use Rattle.tables.proofs.Stack.{open-later}
 use Rattle.scopes.specs.Levels.{has}
 use Rattle.scopes.specs.Scopes.{scopeWord, levelOf, scopesOf, outward}
-use Rattle.scopes.proofs.Laws.{scopes-length, scope-level, scope-args}
-use Rattle.scopes.proofs.Tracks.{Below, outward-below, EachArgs, tracks-apart}
+use Rattle.scopes.proofs.Laws.{scope-level, scope-args, outward-below}
+use Rattle.scopes.proofs.Climb.{tracks-apart}
 use Rattle.interner.specs.declared.State.{State}
 use Rattle.interner.specs.declared.Step.{Step}
 use Rattle.interner.specs.Levels.{AtLevel}
@@ -110,11 +110,6 @@ one-level all r k d j e f g = f ∙ rw (e, g) (or-false (eqb j (d + 1)))
 abbrev arg : ℕ → Node
 arg at = Arg (record { source = at })
 
-each-args : (scs : List Scope) (P : List ℕ → Type 0) (m : ℕ) (out : List ℕ) → Below m out →
-    ((s : ℕ) → s < m → (xs : List ℕ) → scopeAt scs s .args ≡ some xs → P xs) → EachArgs scs P out
-each-args scs P m [] b h = tt
-each-args scs P m (s ∷ out) b h = (h s (b .0), each-args scs P m out (b .1) h)
-
 module _ (bs ws : List ℕ) (st : State) (cur at levels : ℕ) (rep : Rep bs ws st) (from : at < recordCount bs)
     (current : cur < st .scopes) where
   arg-fresh : Fresh bs ws st cur (arg at) 0 0
@@ -136,14 +131,14 @@ module _ (bs ws : List ℕ) (st : State) (cur at levels : ℕ) (rep : Rep bs ws 
     scs = scopesOf ws (st .scopes)
 
     -- no scope around has the new argument
-    apart : EachArgs scs (λ xs. anyIn xs (st .symbols ∷ []) ≡ false) (outward scs cur)
-    apart =
-        each-args scs (λ xs. anyIn xs (st .symbols ∷ []) ≡ false) (st .scopes) (outward scs cur)
-        (subst (λ (z : ℕ). Below z (outward scs cur)) (scopes-length ws (st .scopes))
-        (outward-below ws (st .scopes) (rep .arena .scoped .nested) cur current))
-        (λ s lt xs e. apart-anyIn xs (st .symbols ∷ []) (λ a i j.
-        let l = rep .levels .arguments s lt xs (sym (scope-args ws (st .scopes) (st .scopes) s (rep .arena .scoped .nested) lt lt) ∙ e) a i in
-        omega (arith, l .low, in-one j)))
+    apart : (s : ℕ) → In s (outward scs cur) → (xs : List ℕ) → scopeAt scs s .args ≡ some xs →
+        anyIn xs (st .symbols ∷ []) ≡ false
+    apart s around xs e =
+        let nested = rep .arena .scoped .nested in
+        let lt = outward-below ws (st .scopes) nested cur current s around in
+        apart-anyIn xs (st .symbols ∷ []) (λ a i j.
+        let l = rep .levels .arguments s lt xs (sym (scope-args ws (st .scopes) (st .scopes) s nested lt lt) ∙ e) a i in
+        omega (arith, l .low, in-one j))
 
     arg-levels : Levels ws st cur (st .symbols ∷ []) levels
     arg-levels = record {
@@ -221,21 +216,19 @@ module _ (bs ws₀ : List ℕ) (st₀ : State) (cur at count : ℕ) where
     }
 
     args-more : (i : ℕ) → i < k + 1 → AtLevel ws₁ (s₁ .symbols) (levelOf (scopeWord ws₀ cur) + 1) (st₀ .symbols + i)
-    args-more i l =
-        let le : i ≤ k = omega arith in
-        ⊎-elim
-        (λ e. let d : s .symbols ≡ st₀ .symbols + i = omega (arith, f .symbols) in
-        subst (AtLevel ws₁ (s₁ .symbols) (levelOf (scopeWord ws₀ cur) + 1)) d new-level)
-        (λ r. let h = f .args i r in record {
+    args-more =
+        let d : s .symbols ≡ st₀ .symbols + k = omega (arith, f .symbols) in
+        below-more (λ i. AtLevel ws₁ (s₁ .symbols) (levelOf (scopeWord ws₀ cur) + 1) (st₀ .symbols + i)) k
+        (λ i r. let h = f .args i r in record {
           low = omega (arith, h .low, pushed-symbols done);
           one = λ j. rw (done .stored .others (st₀ .symbols + i) (h .low)) (h .one j);
-        }) (eq-or-lt-of-le le)
+        }) (rw d at new-level)
 
     pub so-far-more : SoFar bs ws₀ st₀ cur at count (k + 1) ws₁ s₁
     so-far-more = record {
       few = omega (arith, lt);
       rep = done .rep;
-      leaves = leaves-then ws₀ ws ws₁ st₀ s s₁ (f .leaves) (done .leaves);
+      leaves = leaves-then (f .leaves) (done .leaves);
       symbols = omega (arith, pushed-symbols done, f .symbols);
       left = left-more;
       args = args-more;

@@ -34,7 +34,7 @@ use Rattle.interner.specs.declared.Step.{Step}
 use Rattle.interner.specs.Levels.{InForce}
 use Rattle.interner.specs.State.{absOf, Rep}
 use Rattle.interner.specs.Step.{outOf, given, Answers, Ready, finishOf, Projects, fieldRec, fieldOf, withPair}
-use Rattle.interner.proofs.Sharing.{leaves-none, leaves-then, out-given, out-good, out-number}
+use Rattle.interner.proofs.Sharing.{leaves-then, out-given, out-good, out-number, answers-as, given-answers}
 use Rattle.interner.proofs.Keeps.{Keeps, finish-keeps}
 use Rattle.memo.proofs.Below.{recall-low}
 use Rattle.interner.proofs.Memos.{memo-room, abs-remembered, rep-remembered, leaves-remembered}
@@ -99,8 +99,7 @@ module _ (bs ws : List ℕ) (t : Tables) (st : State) (cur at i held : ℕ) wher
   pub field-answers : (ws′ : List ℕ) (r : Step) → 0 < i →
       Answers bs ws t st (finishOf bs ws t st cur (field at i) held 1) ws′ r →
       Answers bs ws t st (fieldOf at cur (rowAt bs at .rec) i (getD ws (PENDING .first + held) 0) (absOf bs ws t st)) ws′ r
-  field-answers ws′ r lt a =
-      record { rep = a .rep; leaves = a .leaves; low = a .low; is = a .is ∙ field-is lt }
+  field-answers ws′ r lt a = answers-as a (field-is lt)
 
 -- ---- answers
 
@@ -112,33 +111,34 @@ module _ (bs ws : List ℕ) (t : Tables) (r : Step) where
 
 -- ---- the state between them
 
+-- the symbol that is pending, and the record
+abbrev pend : ℕ → List ℕ → ℕ
+pend held ws = getD ws (PENDING .first + held) 0
+
+abbrev own : List ℕ → ℕ → Rec
+own bs at = rowAt bs at .rec
+
 module _ (bs ws : List ℕ) (t : Tables) (st : State) (cur at held : ℕ) where
-  abbrev pend : List ℕ → ℕ
-  pend us = getD us (PENDING .first + held) 0
-
-  abbrev own : Rec
-  own = rowAt bs at .rec
-
   module _ (i : ℕ) (ws₁ : List ℕ) (a : Step)
-      (h : Answers bs ws t st (fieldOf at cur own i (pend ws) (absOf bs ws t st)) ws₁ a) (ok : a .number ≡ 0) where
-    pub field-good : fieldOf at cur own i (pend ws) (absOf bs ws t st) ≡ good (a .symbol, absOf bs ws₁ t (a .st))
+      (h : Answers bs ws t st (fieldOf at cur (own bs at) i (pend held ws) (absOf bs ws t st)) ws₁ a) (ok : a .number ≡ 0) where
+    pub field-good : fieldOf at cur (own bs at) i (pend held ws) (absOf bs ws t st) ≡ good (a .symbol, absOf bs ws₁ t (a .st))
     field-good = sym (h .is) ∙ out-good bs ws₁ t a ok
 
     pub field-keeps : Keeps (absOf bs ws t st) 1 (a .symbol, absOf bs ws₁ t (a .st))
     field-keeps =
         subst (Holds (Keeps (absOf bs ws t st) 1)) field-good
-        (finish-keeps at cur (fieldRec own i) (pend ws ∷ []) [] (operation []) (absOf bs ws t st))
+        (finish-keeps at cur (fieldRec (own bs at) i) (pend held ws ∷ []) [] (operation []) (absOf bs ws t st))
 
-    same-pending : pend ws₁ ≡ pend ws
+    same-pending : pend held ws₁ ≡ pend held ws
     same-pending = h .leaves .frame .after (PENDING .first + held) (omega arith)
 
     pub projects-next : Rep bs ws st → Projects bs ws st cur at held 2 → Projects bs ws₁ (a .st) cur at held 1
     projects-next rep p =
         let k = field-keeps in
-        let deps : symAt (symsOf bs ws₁ (a .st .symbols)) (pend ws₁) .deps
-        ≡ symAt (symsOf bs ws (st .symbols)) (pend ws) .deps =
+        let deps : symAt (symsOf bs ws₁ (a .st .symbols)) (pend held ws₁) .deps
+        ≡ symAt (symsOf bs ws (st .symbols)) (pend held ws) .deps =
         ap (λ (z : ℕ). symAt (symsOf bs ws₁ (a .st .symbols)) z .deps) same-pending
-        ∙ ap (λ (y : Sym). y .deps) (k .syms (pend ws) (omega (arith, syms-length bs ws (st .symbols), p .low))) in
+        ∙ ap (λ (y : Sym). y .deps) (k .syms (pend held ws) (omega (arith, syms-length bs ws (st .symbols), p .low))) in
         record {
           from = p .from;
           shape = p .shape;
@@ -148,7 +148,7 @@ module _ (bs ws : List ℕ) (t : Tables) (st : State) (cur at held : ℕ) where
           pending = p .pending;
           low = omega (arith, p .low, same-pending, h .leaves .more);
           forced =
-              subst (λ (z : List Scope). InForce z cur (symAt (symsOf bs ws₁ (a .st .symbols)) (pend ws₁) .deps))
+              subst (λ (z : List Scope). InForce z cur (symAt (symsOf bs ws₁ (a .st .symbols)) (pend held ws₁) .deps))
               (sym (k .scopes))
               (subst (InForce (scopesOf ws (st .scopes)) cur) (sym deps) (p .forced));
         }
@@ -159,44 +159,35 @@ module _ (bs ws : List ℕ) (t : Tables) (st : State) (cur at held : ℕ) where
 -- ---- both
 
 module _ (bs ws : List ℕ) (t : Tables) (st : State) (cur at held : ℕ) where
-  abbrev pend′ : List ℕ → ℕ
-  pend′ us = getD us (PENDING .first + held) 0
-
-  abbrev own′ : Rec
-  own′ = rowAt bs at .rec
-
   module _ (i : ℕ) where
     abbrev second : ℕ × intern.State → Out
     second a = do
-      b ← fieldOf at cur own′ 2 (pend′ ws) (a .1)
-      good (pick i (a .0, b .0), remember (pend′ ws) (a .0) (b .0) (b .1))
+      b ← fieldOf at cur (own bs at) 2 (pend held ws) (a .1)
+      good (pick i (a .0, b .0), remember (pend held ws) (a .0) (b .0) (b .1))
 
     abbrev newOf : Out
-    newOf = newProjections at cur own′ i (pend′ ws) (absOf bs ws t st)
+    newOf = newProjections at cur (own bs at) i (pend held ws) (absOf bs ws t st)
 
     abbrev pairOf : Out
-    pairOf = pairProjection at cur own′ i (pend′ ws) (absOf bs ws t st)
+    pairOf = pairProjection at cur (own bs at) i (pend held ws) (absOf bs ws t st)
 
-    new-is : newOf ≡ (fieldOf at cur own′ 1 (pend′ ws) (absOf bs ws t st) >>= second)
+    new-is : newOf ≡ (fieldOf at cur (own bs at) 1 (pend held ws) (absOf bs ws t st) >>= second)
     unfolding newProjections
     new-is = refl
 
     pub first-refused : (ws₁ : List ℕ) (a : Step) →
-        Answers bs ws t st (fieldOf at cur own′ 1 (pend′ ws) (absOf bs ws t st)) ws₁ a → (a .number ≡ 0 → ⊥) →
+        Answers bs ws t st (fieldOf at cur (own bs at) 1 (pend held ws) (absOf bs ws t st)) ws₁ a → (a .number ≡ 0 → ⊥) →
         Answers bs ws t st newOf ws₁ a
-    first-refused ws₁ a h n = record {
-      rep = h .rep;
-      leaves = h .leaves;
-      low = h .low;
-      is = sym (out-refused bs ws₁ t a n second) ∙ (ap (λ (m : Out). m >>= second) (h .is) ∙ sym new-is);
-    }
+    first-refused ws₁ a h n =
+        answers-as h
+        (sym (h .is) ∙ (sym (out-refused bs ws₁ t a n second) ∙ (ap (λ (m : Out). m >>= second) (h .is) ∙ sym new-is)))
 
     module _ (ws₁ : List ℕ) (a : Step)
-        (h : Answers bs ws t st (fieldOf at cur own′ 1 (pend′ ws) (absOf bs ws t st)) ws₁ a)
+        (h : Answers bs ws t st (fieldOf at cur (own bs at) 1 (pend held ws) (absOf bs ws t st)) ws₁ a)
         (ok : a .number ≡ 0) (ws₂ : List ℕ) (b : Step)
-        (g : Answers bs ws₁ t (a .st) (fieldOf at cur own′ 2 (pend′ ws₁) (absOf bs ws₁ t (a .st))) ws₂ b) where
+        (g : Answers bs ws₁ t (a .st) (fieldOf at cur (own bs at) 2 (pend held ws₁) (absOf bs ws₁ t (a .st))) ws₂ b) where
       abbrev last : ℕ × intern.State → Out
-      last o = good (pick i (a .symbol, o .0), remember (pend′ ws) (a .symbol) (o .0) (o .1))
+      last o = good (pick i (a .symbol, o .0), remember (pend held ws) (a .symbol) (o .0) (o .1))
 
       new-second : newOf ≡ (outOf bs ws₂ t b >>= last)
       unfolding _>>=_
@@ -204,29 +195,29 @@ module _ (bs ws : List ℕ) (t : Tables) (st : State) (cur at held : ℕ) where
           new-is
           ∙ (ap (λ (m : Out). m >>= second) (field-good bs ws t st cur at held 1 ws₁ a h ok)
           ∙ ap (λ (m : Out). m >>= last)
-          (ap (λ (z : ℕ). fieldOf at cur own′ 2 z (absOf bs ws₁ t (a .st)))
+          (ap (λ (z : ℕ). fieldOf at cur (own bs at) 2 z (absOf bs ws₁ t (a .st)))
           (sym (same-pending bs ws t st cur at held 1 ws₁ a h ok))
           ∙ sym (g .is)))
 
       pub second-refused : (b .number ≡ 0 → ⊥) → Answers bs ws t st newOf ws₂ b
       second-refused n = record {
         rep = g .rep;
-        leaves = leaves-then ws ws₁ ws₂ st (a .st) (b .st) (h .leaves) (g .leaves);
+        leaves = leaves-then (h .leaves) (g .leaves);
         low = g .low;
         is = out-number bs ws₂ t b n
             ∙ sym (new-second ∙ (out-refused bs ws₂ t b n last ∙ out-number bs ws₂ t b n));
       }
 
       module _ (fine : b .number ≡ 0) (rep : Rep bs ws st) (opened : Open t (st .entries))
-          (p : Projects bs ws st cur at held 2) (new : recall (memoOf ws (st .memo)) (pend′ ws) ≡ none) where
+          (p : Projects bs ws st cur at held 2) (new : recall (memoOf ws (st .memo)) (pend held ws) ≡ none) where
         memo-kept : memoOf ws₂ (b .st .memo) ≡ memoOf ws (st .memo)
         memo-kept =
             keeps-memo bs ws₁ t (a .st) cur at held 2 ws₂ b g fine ∙ keeps-memo bs ws t st cur at held 1 ws₁ a h ok
 
-        still-new : recall (memoOf ws₂ (b .st .memo)) (pend′ ws) ≡ none
-        still-new = ap (λ (ms : List (ℕ × ℕ × ℕ)). recall ms (pend′ ws)) memo-kept ∙ new
+        still-new : recall (memoOf ws₂ (b .st .memo)) (pend held ws) ≡ none
+        still-new = ap (λ (ms : List (ℕ × ℕ × ℕ)). recall ms (pend held ws)) memo-kept ∙ new
 
-        low-p : pend′ ws < b .st .symbols
+        low-p : pend held ws < b .st .symbols
         low-p = omega (arith, p .low, h .leaves .more, g .leaves .more)
 
         low-a : a .symbol < b .st .symbols
@@ -234,14 +225,14 @@ module _ (bs ws : List ℕ) (t : Tables) (st : State) (cur at held : ℕ) where
 
         pub room-memo : b .st .memo < 512
         room-memo =
-            omega (arith, memo-room bs ws₂ (b .st) (pend′ ws) (g .rep) low-p still-new, g .rep .arena .scoped .few)
+            omega (arith, memo-room bs ws₂ (b .st) (pend held ws) (g .rep) low-p still-new, g .rep .arena .scoped .few)
 
         still-open : Open t (b .st .entries)
         still-open =
             open-later t (st .entries) opened (b .st .entries) (omega (arith, h .leaves .entries, g .leaves .entries))
 
         abbrev ws₃ : List ℕ
-        ws₃ = remembered ws₂ (b .st .memo) (pend′ ws) (a .symbol) (b .symbol)
+        ws₃ = remembered ws₂ (b .st .memo) (pend held ws) (a .symbol) (b .symbol)
 
         abbrev result : Step
         result = given (withPair (b .st)) (pick i (a .symbol, b .symbol))
@@ -252,50 +243,41 @@ module _ (bs ws : List ℕ) (t : Tables) (st : State) (cur at held : ℕ) where
             new-second
             ∙ (ap (λ (m : Out). m >>= last) (out-good bs ws₂ t b fine)
             ∙ (ap (λ (s : intern.State). good (pick i (a .symbol, b .symbol), s))
-            (sym (abs-remembered bs ws₂ (b .st) (pend′ ws) (g .rep) low-p still-new (a .symbol) (b .symbol) low-a
+            (sym (abs-remembered bs ws₂ (b .st) (pend held ws) (g .rep) low-p still-new (a .symbol) (b .symbol) low-a
             (g .low) t still-open))
             ∙ sym (out-given bs ws₃ t (withPair (b .st)) (pick i (a .symbol, b .symbol)))))
 
         whole : Answers bs ws t st newOf ws₃ result
         whole = record {
-          rep = rep-remembered bs ws₂ (b .st) (pend′ ws) (g .rep) low-p still-new (a .symbol) (b .symbol) low-a
+          rep = rep-remembered bs ws₂ (b .st) (pend held ws) (g .rep) low-p still-new (a .symbol) (b .symbol) low-a
               (g .low);
-          leaves = leaves-then ws ws₂ ws₃ st (b .st) (withPair (b .st))
-              (leaves-then ws ws₁ ws₂ st (a .st) (b .st) (h .leaves) (g .leaves))
-              (leaves-remembered bs ws₂ (b .st) (pend′ ws) (g .rep) low-p still-new (a .symbol) (b .symbol) low-a
+          leaves = leaves-then (leaves-then (h .leaves) (g .leaves))
+              (leaves-remembered bs ws₂ (b .st) (pend held ws) (g .rep) low-p still-new (a .symbol) (b .symbol) low-a
               (g .low));
           low = pick-low i (a .symbol) (b .symbol) (b .st .symbols) low-a (g .low);
           is = sym new-both;
         }
 
         pub both-made : (ws′ : List ℕ) (r : Step) → ws′ ≡ ws₃ → r ≡ result → Answers bs ws t st newOf ws′ r
-        both-made ws′ r d e =
-            subst (λ (z : List ℕ). Answers bs ws t st newOf z r) (sym d)
-            (subst (Answers bs ws t st newOf ws₃) (sym e) whole)
+        both-made ws′ r d e = rw (d, e) whole
 
     -- ---- what is remembered, or both made
 
-    pair-some : (x y : ℕ) → recall (memoOf ws (st .memo)) (pend′ ws) ≡ some (x, y) →
+    pair-some : (x y : ℕ) → recall (memoOf ws (st .memo)) (pend held ws) ≡ some (x, y) →
         pairOf ≡ good (pick i (x, y), absOf bs ws t st)
     unfolding pairProjection
     pair-some x y e = rw (e, pairProjection)
 
-    pair-none : recall (memoOf ws (st .memo)) (pend′ ws) ≡ none → pairOf ≡ newOf
+    pair-none : recall (memoOf ws (st .memo)) (pend held ws) ≡ none → pairOf ≡ newOf
     unfolding pairProjection
     pair-none e = rw (e, pairProjection)
 
-    pub recalled : (x y : ℕ) (r : Step) → Rep bs ws st → recall (memoOf ws (st .memo)) (pend′ ws) ≡ some (x, y) →
+    pub recalled : (x y : ℕ) (r : Step) → Rep bs ws st → recall (memoOf ws (st .memo)) (pend held ws) ≡ some (x, y) →
         r ≡ given st (pick i (x, y)) → Answers bs ws t st pairOf ws r
     recalled x y r rep f e =
-        let low = recall-low (st .symbols) (memoOf ws (st .memo)) (pend′ ws) x y (rep .memo .below) f in
-        subst (Answers bs ws t st pairOf ws) (sym e) (record {
-          rep = rep;
-          leaves = leaves-none ws st;
-          low = pick-low i x y (st .symbols) (low .0) (low .1);
-          is = out-given bs ws t st (pick i (x, y)) ∙ sym (pair-some x y f);
-        })
+        let low = recall-low (st .symbols) (memoOf ws (st .memo)) (pend held ws) x y (rep .memo .below) f in
+        answers-as (given-answers rep (pick-low i x y (st .symbols) (low .0) (low .1)) e) (sym (pair-some x y f))
 
-    pub not-recalled : (ws′ : List ℕ) (r : Step) → recall (memoOf ws (st .memo)) (pend′ ws) ≡ none →
+    pub not-recalled : (ws′ : List ℕ) (r : Step) → recall (memoOf ws (st .memo)) (pend held ws) ≡ none →
         Answers bs ws t st newOf ws′ r → Answers bs ws t st pairOf ws′ r
-    not-recalled ws′ r f h =
-        record { rep = h .rep; leaves = h .leaves; low = h .low; is = h .is ∙ sym (pair-none f) }
+    not-recalled ws′ r f h = answers-as h (sym (pair-none f))

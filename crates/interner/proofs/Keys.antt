@@ -2,7 +2,8 @@
 -- stand; `finish` by what is found.
 -- Assumes nothing.
 use Prim.Native.Nat.{ℕ, zero, suc, _+_, _-_, _<_, _≤_}
-use mathlib.Core.Path.{_≡_, refl, sym, ap, _∙_, subst}
+use mathlib.Core.Path.{_≡_, refl, sym, ap, _∙_}
+use mathlib.Core.Logic.{inl, inr}
 use mathlib.Core.Bool.{Bool, true, false}
 use mathlib.Core.Option.{Option, none, some}
 use mathlib.Core.List.{List, [], _∷_}
@@ -14,6 +15,7 @@ use Rattle.model.specs.Forest.{recordCount}
 use Rattle.model.specs.Lists.{without}
 use Rattle.model.specs.Intern.{Sym, isKey, lookupIn, lookup, unionDeps, alloc, finish}
 use Rattle.model.specs.Intern as intern
+use Rattle.laws.specs.Members.{Under}
 use Rattle.laws.proofs.Apart.{none-some}
 use Rattle.laws.specs.Stack.{stackOf}
 use Rattle.key.specs.declared.Node.{Node}
@@ -31,30 +33,26 @@ use Rattle.interner.specs.declared.Step.{Step}
 use Rattle.interner.proofs.Same.{used-sound}
 use Rattle.interner.specs.State.{absOf, Rep}
 use Rattle.interner.specs.Step.{stepTo, Answers, allocOf, finishOf, newDeps, Keyed}
-use Rattle.interner.proofs.Sharing.{leaves-none, step-found, out-given}
+use Rattle.interner.proofs.Sharing.{step-found, answers-as, given-answers}
 
 -- ---- what is found is below what all entries are
 
-abbrev EachBelow : ℕ → List ℕ → Type 0
-EachBelow n [] = Unit {0}
-EachBelow n (e ∷ es) = (e < n) × EachBelow n es
-
-abbrev AllBelow : ℕ → List (List ℕ) → Type 0
-AllBelow n [] = Unit {0}
-AllBelow n (t ∷ ts) = EachBelow n t × AllBelow n ts
+abbrev AllUnder : ℕ → List (List ℕ) → Type 0
+AllUnder n [] = Unit {0}
+AllUnder n (t ∷ ts) = Under n t × AllUnder n ts
 
 module _ (ss : List Sym) (r : Rec) (ks : List ℕ) (n : ℕ) where
-  in-low : (es : List ℕ) (i : ℕ) → EachBelow n es → lookupIn ss r ks es ≡ some i → i < n
+  in-low : (es : List ℕ) (i : ℕ) → Under n es → lookupIn ss r ks es ≡ some i → i < n
   unfolding lookupIn
   in-low [] i b e = none-some e
-  in-low (x ∷ es) i b e = go (isKey ss r ks x) (in-low es i (b .1)) e
+  in-low (x ∷ es) i b e = go (isKey ss r ks x) (in-low es i (λ a h. b a (inr h))) e
     where
       go : (t : Bool) → (lookupIn ss r ks es ≡ some i → i < n) →
           elim t [ true ↦ some x | false ↦ lookupIn ss r ks es ] ≡ some i → i < n
-      go true rest e = let p : i ≡ x = cc in rw p (b .0)
+      go true rest e = let p : i ≡ x = cc in b i (inl p)
       go false rest e = rest e
 
-  lookup-low : (ts : List (List ℕ)) (i : ℕ) → AllBelow n ts → lookup ss r ks ts ≡ some i → i < n
+  lookup-low : (ts : List (List ℕ)) (i : ℕ) → AllUnder n ts → lookup ss r ks ts ≡ some i → i < n
   unfolding lookup
   lookup-low [] i b e = none-some e
   lookup-low (t ∷ ts) i b e = go (lookupIn ss r ks t) refl (lookup-low ts i (b .1)) e
@@ -65,13 +63,14 @@ module _ (ss : List Sym) (r : Rec) (ks : List ℕ) (n : ℕ) where
       go none f rest e = rest e
 
 module _ (ws : List ℕ) (top n : ℕ) (below : Below ws top n) where
-  entries-low : (start k : ℕ) → k ≤ top - start → EachBelow n (entries ws start k)
+  entries-low : (start k : ℕ) → k ≤ top - start → Under n (entries ws start k)
   unfolding entries stackOf
-  entries-low start zero le = tt
-  entries-low start (suc k) le = (below (start + k) (omega arith), entries-low start k (omega arith))
+  entries-low start zero le a h = absurd h
+  entries-low start (suc k) le a (inl e) = rw e (below (start + k) (omega arith))
+  entries-low start (suc k) le a (inr h) = entries-low start k (omega arith) a h
 
   tables-low : (base : List ℕ) (d end : ℕ) → ((e : ℕ) → e < d → getD base e 0 ≤ top) → end ≤ top →
-      AllBelow n (tables ws base d end)
+      AllUnder n (tables ws base d end)
   unfolding tables
   tables-low base zero end starts le = tt
   tables-low base (suc d) end starts le = (
@@ -109,15 +108,9 @@ module _ (bs ws : List ℕ) (t : Tables) (st : State) (cur : ℕ) (node : Node) 
   pub found-answers : (s : ℕ) → some s ≡ sought →
       Answers bs ws t st (finishOf bs ws t st cur node held count) ws (stepTo st node count s)
   found-answers s f =
-      subst (Answers bs ws t st (finishOf bs ws t st cur node held count) ws)
-      (sym (step-found st node count s (found-low s f))) (record {
-        rep = rep;
-        leaves = leaves-none ws st;
-        low = found-low s f;
-        is = out-given bs ws t st s
-            ∙ sym (finish-some (partsOf node .source) cur (recOf bs node) (pendingFrom ws held count) (ownOf bs node)
-            (modelNode bs node) (absOf bs ws t st) s (sym f));
-      })
+      answers-as (given-answers rep (found-low s f) (step-found st node count s (found-low s f)))
+      (sym (finish-some (partsOf node .source) cur (recOf bs node) (pendingFrom ws held count) (ownOf bs node)
+      (modelNode bs node) (absOf bs ws t st) s (sym f)))
 
   -- the deps of a node that has a key
   key-deps : (nd : Node) → Keyed bs ws (st .scopes) cur nd →
@@ -132,16 +125,12 @@ module _ (bs ws : List ℕ) (t : Tables) (st : State) (cur : ℕ) (node : Node) 
   pub made-answers : (ws′ : List ℕ) (r : Step) → Keyed bs ws (st .scopes) cur node → none ≡ sought →
       Answers bs ws t st (allocOf bs ws t st cur node held count true) ws′ r →
       Answers bs ws t st (finishOf bs ws t st cur node held count) ws′ r
-  made-answers ws′ r keyed f a = record {
-    rep = a .rep;
-    leaves = a .leaves;
-    low = a .low;
-    is = a .is
-        ∙ (ap (λ (z : List ℕ). alloc (partsOf node .source) cur (recOf bs node) (pendingFrom ws held count) z true
-        (modelNode bs node) (absOf bs ws t st)) (key-deps node keyed)
-        ∙ sym (finish-none (partsOf node .source) cur (recOf bs node) (pendingFrom ws held count) (ownOf bs node)
-        (modelNode bs node) (absOf bs ws t st) (sym f)));
-  }
+  made-answers ws′ r keyed f a =
+      answers-as a
+      (ap (λ (z : List ℕ). alloc (partsOf node .source) cur (recOf bs node) (pendingFrom ws held count) z true
+      (modelNode bs node) (absOf bs ws t st)) (key-deps node keyed)
+      ∙ sym (finish-none (partsOf node .source) cur (recOf bs node) (pendingFrom ws held count) (ownOf bs node)
+      (modelNode bs node) (absOf bs ws t st) (sym f)))
 
   -- what `find` answers, and what it may be asked
 

@@ -1,7 +1,7 @@
 -- One pair of projections more, as model's `remember` has it.
 -- Assumes nothing.
 use Prim.Native.Nat.{ℕ, _+_, _<_}
-use mathlib.Core.Path.{_≡_, refl, ap}
+use mathlib.Core.Path.{_≡_, refl, sym, ap, _∙_}
 use mathlib.Core.Option.{none}
 use mathlib.Core.List.{List, _∷_}
 use native.Mathlib.Omega.{arith}
@@ -18,7 +18,7 @@ use Rattle.memo.proofs.Below.{recall-new, pairs-few}
 use Rattle.interner.specs.declared.State.{State}
 use Rattle.interner.specs.State.{absOf, Rep}
 use Rattle.interner.specs.Step.{Leaves, withPair}
-use Rattle.interner.proofs.Same.{Same, same-above, abs-same, rep-same}
+use Rattle.interner.proofs.Same.{Same, same-above, abs-same, rep-same, rep-with}
 
 module _ (bs ws : List ℕ) (st : State) (p : ℕ) (rep : Rep bs ws st) (low : p < st .symbols)
     (new : recall (memoOf ws (st .memo)) p ≡ none) where
@@ -45,29 +45,16 @@ module _ (bs ws : List ℕ) (st : State) (p : ℕ) (rep : Rep bs ws st) (low : p
         absOf bs ws₁ t (withPair st) ≡ remember p a b (absOf bs ws t st)
     abs-remembered t opened =
         let kept = abs-same bs ws ws₁ st rep same t opened in
-        rw (
-          memo-is,
-          ap (λ (z : intern.State). z .syms) kept,
-          ap (λ (z : intern.State). z .tables) kept,
-          ap (λ (z : intern.State). z .scopes) kept,
-        )
+        rw (memo-is ∙ ap (λ (z : intern.State). (p, a, b) ∷ z .memo) (sym kept)) (ap (remember p a b) kept)
 
     pub rep-remembered : Rep bs ws₁ (withPair st)
     rep-remembered =
         let old = rep-same bs ws ws₁ st rep same in
-        record {
-          arena = old .arena;
-          slots = old .slots;
-          sourced = old .sourced;
-          levels = old .levels;
-          entries = old .entries;
-          memo = record {
-            few = omega (arith, memo-room);
-            below = rw memo-is ((low, la, lb), rep .memo .below);
-            once = rw memo-is (recall-new (memoOf ws (st .memo)) p new, rep .memo .once);
-          };
-          few-readings = rep .few-readings;
-        }
+        rep-with old (old .entries) (record {
+          few = omega (arith, memo-room);
+          below = rw memo-is ((low, la, lb), rep .memo .below);
+          once = rw memo-is (recall-new (memoOf ws (st .memo)) p new, rep .memo .once);
+        }) (rep .few-readings)
 
     pub leaves-remembered : Leaves ws ws₁ st (withPair st)
     leaves-remembered = record {

@@ -2,13 +2,12 @@
 -- holds of it; the whole; the counts after it.
 -- Assumes nothing.
 use Prim.Native.Nat.{ℕ, suc, _+_, _<_, _≤_}
-use mathlib.Core.Path.{_≡_, refl, sym, ap, _∙_, subst}
-use mathlib.Core.Logic.{⊎-elim}
+use mathlib.Core.Path.{_≡_, refl, ap, _∙_}
 use mathlib.Core.Bool.{false}
 use mathlib.Core.List.{List, [], _∷_, _++_}
 use native.Mathlib.Omega.{arith}
-use native.Mathlib.Nat.{eq-or-lt-of-le}
 use native.Mathlib.Numerals.{add-one}
+use borrow.Author.Count.{below-more}
 use lib.Seq.{getD-at}
 use Rattle.regions.specs.Regions.{SYMBOLS, SLOTS, PENDING, end}
 use Rattle.model.specs.Forest.{recordCount}
@@ -27,14 +26,13 @@ use Rattle.symbols.specs.Words.{pendingFrom}
 use Rattle.symbols.specs.Symbols.{symsOf, symOf, recOf, modelNode, made, Room, AllSound}
 use Rattle.symbols.specs.Sourced.{Sourced}
 use Rattle.symbols.proofs.Laws.{syms-length, made-length, made-before, made-between, made-after, made-symbol, syms-made}
-use Rattle.symbols.proofs.Laws.{made-kids, sound-made}
+use Rattle.symbols.proofs.Laws.{made-kids, sound-made, sounds-more}
 use Rattle.symbols.proofs.Words.{words-length}
 use Rattle.tables.specs.declared.Tables.{Tables}
 use Rattle.tables.specs.Tables.{hint, hintOf, Open}
-use Rattle.scopes.specs.Scopes.{scopesOf, outward, Placed}
-use Rattle.scopes.proofs.Laws.{scopes-length}
+use Rattle.scopes.specs.Scopes.{scopesOf, Placed}
+use Rattle.scopes.proofs.Laws.{outward-below}
 use Rattle.scopes.proofs.Climb as climb
-use Rattle.scopes.proofs.Tracks.{Below, outward-below}
 use Rattle.memo.specs.Memo.{memoOf}
 use Rattle.memo.proofs.Below.{memo-more}
 use Rattle.graph.specs.Graph.{Arena}
@@ -70,8 +68,7 @@ module _ (bs ws : List ℕ) (st : State) (cur : ℕ) (node : Node) (held count l
   scope-low =
       rw (place (st .scopes) deps (fresh .current) (lv .tracks))
       (climb-low (scopesOf ws (st .scopes)) deps _ (st .scopes) (rep .arena .scoped .some-scope)
-      (subst (λ (z : ℕ). Below z (outward (scopesOf ws (st .scopes)) cur)) (scopes-length ws (st .scopes))
-      (outward-below ws (st .scopes) (rep .arena .scoped .nested) cur (fresh .current))))
+      (outward-below ws (st .scopes) (rep .arena .scoped .nested) cur (fresh .current)))
 
   -- ---- its words
 
@@ -172,18 +169,10 @@ module _ (bs ws : List ℕ) (st : State) (cur : ℕ) (node : Node) (held count l
       is = λ j. rw (deps-new, stored .own) (lv .are ws₁ stored j);
     }
 
-    -- what holds of the new symbol and of the others holds of all
-    each-pushed : (P : ℕ → Type 0) → P (st .symbols) → ((s : ℕ) → s < st .symbols → P s) → (s : ℕ) →
-        s < st .symbols + 1 → P s
-    each-pushed P new others s lt =
-        let le : s ≤ st .symbols = omega arith in
-        ⊎-elim (λ e. subst P (sym e) new) (others s) (eq-or-lt-of-le le)
-
     sound-pushed : AllSound bs ws₁ (st .slots + count) (st .symbols + 1)
     sound-pushed =
-        rw (add-one (st .symbols))
-        (sound-made ws (st .symbols) held y room bs (st .slots) (omega arith) (used-sound bs ws st rep) (fresh .from)
-        (fresh .lower))
+        sound-made ws (st .symbols) held y room bs (st .slots) (omega arith) (used-sound bs ws st rep) (fresh .from)
+        (fresh .lower)
 
     arena-pushed : Arena bs ws₁ (st .symbols + 1) (st .scopes)
     arena-pushed =
@@ -195,12 +184,10 @@ module _ (bs ws : List ℕ) (st : State) (cur : ℕ) (node : Node) (held count l
             some-scope = h .some-scope;
             few-scopes = h .few-scopes;
             nested = h .nested;
-            placed = each-pushed (λ s. symbolAt ws₁ s .scope < st .scopes)
-                (rw (made-symbol ws (st .symbols) held y room) scope-low) (h .placed);
+            placed = below-more (λ s. symbolAt ws₁ s .scope < st .scopes) (st .symbols) (h .placed)
+                (rw (made-symbol ws (st .symbols) held y room) scope-low);
           };
-          sound = λ i lt.
-              let s = sound-pushed i lt in
-              record { from = s .from; slots = omega (arith, s .slots, fresh .slots); lower = s .lower };
+          sound = sounds-more (fresh .slots) sound-pushed;
         }
 
     slots-pushed : slotsIn (symsOf bs ws₁ (st .symbols + 1)) ≡ st .slots + count
@@ -218,10 +205,10 @@ module _ (bs ws : List ℕ) (st : State) (cur : ℕ) (node : Node) (held count l
     rep-pushed = record {
       arena = arena-pushed;
       slots = record { few = fresh .slots; all = slots-pushed; within = λ i lt. sound-pushed i lt .slots };
-      sourced = each-pushed (λ s. Sourced bs (symbolAt ws₁ s .node) (symbolAt ws₁ s .count))
-          (rw (made-symbol ws (st .symbols) held y room) (fresh .sourced)) (old .sourced);
+      sourced = below-more (λ s. Sourced bs (symbolAt ws₁ s .node) (symbolAt ws₁ s .count)) (st .symbols) (old .sourced)
+          (rw (made-symbol ws (st .symbols) held y room) (fresh .sourced));
       levels = record {
-        each = each-pushed (Levelled bs ws₁) levelled-new (old .levels .each);
+        each = below-more (Levelled bs ws₁) (st .symbols) (old .levels .each) levelled-new;
         arguments = args-pushed;
       };
       entries = record {
@@ -258,7 +245,7 @@ module _ (bs ws : List ℕ) (st : State) (cur : ℕ) (node : Node) (held count l
     }
 
     pub pushed-by : (ws′ : List ℕ) → ws′ ≡ ws₁ → Pushed bs ws st cur node held count levels ws′ st₁
-    pushed-by ws′ e = subst (λ (z : List ℕ). Pushed bs ws st cur node held count levels z st₁) (sym e) pushed
+    pushed-by ws′ e = rw e pushed
 
 module _ {bs ws : List ℕ} {st : State} {cur : ℕ} {node : Node} {held count levels : ℕ} {ws′ : List ℕ} {r : State}
     (done : Pushed bs ws st cur node held count levels ws′ r) where

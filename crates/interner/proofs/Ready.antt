@@ -1,7 +1,7 @@
 -- What holds of the symbol of a key before it is made. In order: its children; the deps that it will have; the lambdas
 -- around it; its levels; the levels that `key_levels` answers.
 -- Assumes nothing.
-use Prim.Native.Nat.{ℕ, zero, suc, _+_, _<_}
+use Prim.Native.Nat.{ℕ, suc, _+_, _<_}
 use mathlib.Core.Path.{_≡_, sym, ap, _∙_, subst}
 use mathlib.Core.Logic.{inl, inr}
 use mathlib.Core.Bool.{Bool, true, false, not, _&&_}
@@ -20,8 +20,9 @@ use Rattle.key.specs.declared.Node.{Node}
 use Rattle.key.specs.declared.Node.the-variants.{Const, Unparsed, Arg, Lambda, Op}
 use Rattle.key.specs.declared.Parts.{Parts}
 use Rattle.key.specs.Key.{partsOf, symbolAt}
-use Rattle.symbols.specs.Words.{wordsFrom, pendingFrom}
+use Rattle.symbols.specs.Words.{pendingFrom}
 use Rattle.symbols.specs.Symbols.{symsOf, ownOf}
+use Rattle.symbols.proofs.Words.{words-under}
 use Rattle.symbols.proofs.Laws.{sym-kept}
 use Rattle.scopes.specs.Levels.{has}
 use Rattle.scopes.specs.Scopes.{scopeWord, levelOf, argsIn, scopesOf, outward}
@@ -35,16 +36,6 @@ use Rattle.interner.proofs.Tracks.{outside, bound-args, bound-level, tr
 
 -- ---- its children
 
--- a word of a run
-words-in : (ws : List ℕ) (at n s : ℕ) → In s (wordsFrom ws at n) → (k : ℕ) × (k < n) × (s ≡ getD ws (at + k) 0)
-unfolding wordsFrom
-words-in ws at zero s h = absurd h
-words-in ws at (suc n) s (inl e) = let z : at + 0 ≡ at = omega arith in (0, omega arith, rw z e)
-words-in ws at (suc n) s (inr h) =
-    let w = words-in ws (suc at) n s h in
-    let z : at + suc (w .0) ≡ suc at + w .0 = omega arith in
-    (suc (w .0), omega (arith, w .1), rw z (w .2))
-
 module _ (bs ws : List ℕ) (st : State) (rep : Rep bs ws st) (held count : ℕ)
     (lower : (k : ℕ) → k < count → getD ws (PENDING .first + held + k) 0 < st .symbols) where
   abbrev kids : List ℕ
@@ -54,7 +45,7 @@ module _ (bs ws : List ℕ) (st : State) (rep : Rep bs ws st) (held count : ℕ)
   syms = symsOf bs ws (st .symbols)
 
   kid-low : (k : ℕ) → In k kids → k < st .symbols
-  kid-low k i = let w = words-in ws (PENDING .first + held) count k i in rw (w .2) (lower (w .0) (w .1))
+  kid-low = words-under ws (PENDING .first + held) count (st .symbols) lower
 
   kid-deps : (k : ℕ) → k < st .symbols → symAt syms k .deps ≡ depsAt bs ws k
   kid-deps k lt = ap (λ (z : Sym). z .deps) (sym-kept bs ws (st .symbols) (suc k) k lt (omega arith))

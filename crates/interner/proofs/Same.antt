@@ -1,5 +1,5 @@
 -- The words that a state hangs on. In order: words kept (`Same`); what holds of the state, part by part; what it stands
--- for; words after those in use.
+-- for; words after those in use; a state with other entries, pairs and readings.
 -- Assumes nothing.
 use Prim.Native.Nat.{ℕ, suc, _+_, _<_, _≤_}
 use mathlib.Core.Path.{_≡_, sym, ap, _∙_}
@@ -130,4 +130,26 @@ same-above bs ws ws′ st rep lo hi le f = record {
   still = still-above f (omega arith) (rep .slots .few) (rep .arena .scoped);
   entries = λ k l r. f .before k (omega (arith, rep .entries .few, rep .arena .scoped .few));
   memo = λ k l r. f .before k (omega arith);
+}
+
+-- ---- the same symbols and scopes, with other entries, pairs and readings
+
+pub rep-with : {bs ws : List ℕ} {st : State} {entries memo readings : ℕ} → Rep bs ws st →
+    Entered bs ws entries (st .symbols) → Remembered ws memo (st .symbols) → readings ≤ 2048 →
+    Rep bs ws (record {
+      entries = entries;
+      symbols = st .symbols;
+      slots = st .slots;
+      scopes = st .scopes;
+      memo = memo;
+      readings = readings;
+    })
+rep-with rep entered remembered few = record {
+  arena = rep .arena;
+  slots = rep .slots;
+  sourced = rep .sourced;
+  levels = rep .levels;
+  entries = entered;
+  memo = remembered;
+  few-readings = few;
 }

@@ -10,7 +10,7 @@ use borrow.Author.Tests.{lt-ltb, le-ltb, eq-eqb, ne-eqb}
 use lib.ListN.{length, set}
 use Rattle.regions.specs.Regions.{SYMBOLS, ENTRIES, PENDING, end}
 use Rattle.model.specs.Answer.{refused, good, guard}
-use Rattle.model.specs.Intern.{push, alloc}
+use Rattle.model.specs.Intern.{Out, push, alloc}
 use Rattle.model.specs.Intern as intern
 use Rattle.laws.specs.Frame.{Frame}
 use Rattle.laws.proofs.Frame.{frame-none, frame-then, frame-wider, frame-store}
@@ -31,13 +31,13 @@ use Rattle.interner.specs.declared.Step.{Step}
 use Rattle.interner.specs.State.{absOf, Rep}
 use Rattle.interner.specs.Step.{outOf, given, overFull, withSymbol, entered, stepTo, Leaves, newDeps}
 use Rattle.interner.specs.Step.{Pushed, allocOf, Answers}
-use Rattle.interner.proofs.Same.{used-sound, Same, abs-same, rep-same}
+use Rattle.interner.proofs.Same.{used-sound, Same, abs-same, rep-same, rep-with}
 use Rattle.interner.proofs.Pushing.{pushed-entries, pushed-symbols}
 
 -- ---- what steps leave
 
-pub leaves-then : (us ws xs : List ℕ) (a b c : State) → Leaves us ws a b → Leaves ws xs b c → Leaves us xs a c
-leaves-then us ws xs a b c g h = record {
+pub leaves-then : {us ws xs : List ℕ} {a b c : State} → Leaves us ws a b → Leaves ws xs b c → Leaves us xs a c
+leaves-then {us} {ws} {xs} g h = record {
   frame = frame-then (SYMBOLS .first) (PENDING .first) us ws xs (g .frame) (h .frame);
   scope-words = λ k l r. h .scope-words k l r ∙ g .scope-words k l r;
   scopes = h .scopes ∙ g .scopes;
@@ -92,6 +92,18 @@ module _ (bs ws : List ℕ) (t : Tables) (r : Step) where
   unfolding outOf
   out-number n = rw (ne-eqb (r .number) 0 n, outOf)
 
+module _ {bs ws : List ℕ} {t : Tables} {st : State} where
+  -- the definition's answer in other words
+  pub answers-as : {o o′ : Out} {ws′ : List ℕ} {r : Step} → Answers bs ws t st o ws′ r → o ≡ o′ →
+      Answers bs ws t st o′ ws′ r
+  answers-as a e = record { rep = a .rep; leaves = a .leaves; low = a .low; is = a .is ∙ e }
+
+  -- a symbol that stands, and nothing changed
+  pub given-answers : {s : ℕ} {r : Step} → Rep bs ws st → s < st .symbols → r ≡ given st s →
+      Answers bs ws t st (good (s, absOf bs ws t st)) ws r
+  given-answers {s} rep low e =
+      rw e (record { rep = rep; leaves = leaves-none ws st; low = low; is = out-given bs ws t st s })
+
 module _ (bs ws : List ℕ) (t : Tables) (st : State) (cur : ℕ) (node : Node) (held count : ℕ) where
   abbrev pushOf : Bool → intern.State
   pushOf shared =
@@ -111,14 +123,12 @@ module _ (bs ws : List ℕ) (t : Tables) (st : State) (cur : ℕ) (node : Node) 
 
   pub full-answers : (shared : Bool) → Rep bs ws st → 512 ≤ st .symbols →
       Answers bs ws t st (allocOf bs ws t st cur node held count shared) ws (stepTo st node count 512)
-  full-answers shared rep full =
-      subst (Answers bs ws t st (allocOf bs ws t st cur node held count shared) ws)
-      (sym (step-full st node count 512 (rep .arena .scoped .few) (omega arith))) (record {
-        rep = rep;
-        leaves = leaves-none ws st;
-        low = omega arith;
-        is = out-full bs ws t st node ∙ sym (alloc-full shared full);
-      })
+  full-answers shared rep full = rw (step-full st node count 512 (rep .arena .scoped .few) (omega arith)) (record {
+    rep = rep;
+    leaves = leaves-none ws st;
+    low = omega arith;
+    is = out-full bs ws t st node ∙ sym (alloc-full shared full);
+  })
 
   module _ (ws₁ : List ℕ) (st₁ : State) (levels m : ℕ) (few : st .symbols < 512) (rep : Rep bs ws st)
       (opened : Open t (st .entries)) (done : Pushed bs ws st cur node held count levels ws₁ st₁) where
@@ -164,22 +174,14 @@ module _ (bs ws : List ℕ) (t : Tables) (st : State) (cur : ℕ) (node : Node) 
     rep-shared own =
         let new = done .rep in
         let old = rep-same bs ws₁ ws₂ st₁ new same in
-        record {
-          arena = old .arena;
-          slots = old .slots;
-          sourced = old .sourced;
-          levels = old .levels;
-          entries = record {
-            few = omega (arith, pushed-symbols done, pushed-entries done, rep .entries .few);
-            below = entered-below t (st₁ .entries) still-open ws₁ (st .symbols) m few room (st₁ .symbols)
-                (new .entries .below) newest;
-            hinted = entered-hinted t (st₁ .entries) still-open ws₁ (st .symbols) m few room bs (st₁ .slots)
-                (st₁ .symbols) (used-sound bs ws₁ st₁ new) (new .slots .few) (new .arena .scoped .few)
-                (new .entries .below) newest (new .entries .hinted) own;
-          };
-          memo = old .memo;
-          few-readings = old .few-readings;
-        }
+        rep-with old (record {
+          few = omega (arith, pushed-symbols done, pushed-entries done, rep .entries .few);
+          below = entered-below t (st₁ .entries) still-open ws₁ (st .symbols) m few room (st₁ .symbols)
+              (new .entries .below) newest;
+          hinted = entered-hinted t (st₁ .entries) still-open ws₁ (st .symbols) m few room bs (st₁ .slots)
+              (st₁ .symbols) (used-sound bs ws₁ st₁ new) (new .slots .few) (new .arena .scoped .few)
+              (new .entries .below) newest (new .entries .hinted) own;
+        }) (old .memo) (old .few-readings)
 
     leaves-entered : Leaves ws₁ ws₂ st₁ (entered st₁)
     leaves-entered = record {
@@ -195,11 +197,7 @@ module _ (bs ws : List ℕ) (t : Tables) (st : State) (cur : ℕ) (node : Node) 
     own-hint : (p : Parts) → p ≡ partsOf node →
         m ≡ hint (rowAt bs (p .source) .rec .opcode) (pendingFrom ws held count) → m ≡ hintOf bs ws₁ (st .symbols)
     own-hint p is h =
-        h
-        ∙ ap (λ (z : Parts). hint (rowAt bs (z .source) .rec .opcode) (pendingFrom ws held count)) is
-        ∙ ap (λ (o : ℕ). hint o (pendingFrom ws held count))
-        (sym (key-opcode bs (partsOf node .source) (partsOf node .field)))
-        ∙ sym (done .hinted)
+        h ∙ rw (is, ← key-opcode bs (partsOf node .source) (partsOf node .field)) (sym (done .hinted))
 
     step-shared : stepTo st node count (st .symbols) ≡ given (entered st₁) (st .symbols)
     step-shared =
@@ -210,14 +208,11 @@ module _ (bs ws : List ℕ) (t : Tables) (st : State) (cur : ℕ) (node : Node) 
         m ≡ hint (rowAt bs (p .source) .rec .opcode) (pendingFrom ws held count) →
         (ws′ : List ℕ) → ws′ ≡ ws₂ →
         Answers bs ws t st (allocOf bs ws t st cur node held count true) ws′ (stepTo st node count (st .symbols))
-    shared-answers p is h ws′ d =
-        subst (λ (z : List ℕ). Answers bs ws t st (allocOf bs ws t st cur node held count true) z
-        (stepTo st node count (st .symbols))) (sym d)
-        (subst (Answers bs ws t st (allocOf bs ws t st cur node held count true) ws₂) (sym step-shared) (record {
-          rep = rep-shared (own-hint p is h);
-          leaves = leaves-then ws ws₁ ws₂ st st₁ (entered st₁) (done .leaves) leaves-entered;
-          low = omega (arith, pushed-symbols done);
-          is = out-given bs ws₂ t (entered st₁) (st .symbols)
-              ∙ ap (λ (z : intern.State). good (st .symbols, z)) abs-shared
-              ∙ sym (alloc-good true few);
-        }))
+    shared-answers p is h ws′ d = rw (d, step-shared) (record {
+      rep = rep-shared (own-hint p is h);
+      leaves = leaves-then (done .leaves) leaves-entered;
+      low = omega (arith, pushed-symbols done);
+      is = out-given bs ws₂ t (entered st₁) (st .symbols)
+          ∙ ap (λ (z : intern.State). good (st .symbols, z)) abs-shared
+          ∙ sym (alloc-good true few);
+    })

@@ -1,6 +1,6 @@
 -- Levels track deps that are in force. In order: the level of a scope around another; scopes of one level; tracking.
 -- Assumes nothing.
-use Prim.Native.Nat.{ℕ, zero, suc, _+_, _<_, _≤_}
+use Prim.Native.Nat.{ℕ, _+_, _<_, _≤_}
 use mathlib.Core.Path.{_≡_, refl, sym, ap, _∙_, subst}
 use mathlib.Core.Logic.{_⊎_, inl, inr}
 use mathlib.Core.Bool.{Bool, true, false, _||_}
@@ -12,15 +12,14 @@ use borrow.Author.Tests.{eq-eqb, ne-eqb}
 use Rattle.model.specs.Lists.{isIn, anyIn}
 use Rattle.model.specs.Intern.{Scope, scopeAt, climb}
 use Rattle.laws.proofs.Apart.{false-true}
-use Rattle.laws.specs.Members.{In}
+use Rattle.laws.specs.Members.{In, Under}
 use Rattle.laws.proofs.Members.{isIn-true, anyIn-false}
 use Rattle.key.specs.Key.{symbolAt}
 use Rattle.scopes.specs.Levels.{has}
 use Rattle.scopes.specs.Scopes.{scopeWord, parentOf, levelOf, argsIn, scopesOf, ownLevel, Nested}
 use Rattle.scopes.specs.Scopes.{outward, Tracks, lambdas}
 use Rattle.scopes.proofs.Laws.{scope-args, scope-around, scope-level, outermost-around}
-use Rattle.scopes.proofs.Laws.{scopes-length}
-use Rattle.scopes.proofs.Tracks.{Below, outward-below}
+use Rattle.scopes.proofs.Laws.{outwards, steps, outward-below}
 use Rattle.interner.specs.Levels.{anyHas, AtLevel, ArgLevels, Bound, InForce}
 use Rattle.interner.proofs.Levels.{anyHas-in, anyHas-none}
 
@@ -35,11 +34,6 @@ anyIn-true (x ∷ xs) ys e = go (isIn x ys) refl (anyIn-true xs ys) e
     go true f rest e = (x, inl refl, isIn-true x ys f)
     go false f rest e = let w = rest e in (w .0, inr (w .1), w .2)
 
-below-in : (m : ℕ) (out : List ℕ) (c : ℕ) → Below m out → In c out → c < m
-below-in m [] c b i = absurd i
-below-in m (s ∷ out) c b (inl e) = rw e (b .0)
-below-in m (s ∷ out) c b (inr i) = below-in m out c (b .1) i
-
 module _ (ws : List ℕ) (m : ℕ) (h : Nested ws m) where
   abbrev pub level : ℕ → ℕ
   level k = levelOf (scopeWord ws k)
@@ -47,35 +41,13 @@ module _ (ws : List ℕ) (m : ℕ) (h : Nested ws m) where
   abbrev pub out : ℕ → List ℕ
   out k = outward (scopesOf ws m) k
 
-  -- the scopes from k outwards: k itself, or those from its parent
-  steps : (k c : ℕ) → k < m → In c (out k) → (c ≡ k) ⊎ ((0 < k) × In c (out (parentOf (scopeWord ws k))))
-  steps k c q (inl e) = inl e
-  steps k c q (inr i) = elim (decLt 0 k) [
-    | yes z ↦ inr (z, rw (scope-around ws m m k h z q q) at i)
-    | no z ↦
-        let e : k ≡ 0 = omega arith in
-        let n : scopeAt (scopesOf ws m) k .around ≡ [] = rw e (outermost-around ws m (omega arith)) in
-        absurd (rw n at i)
-  ]
+  -- ---- a scope around another is at its level or a lower one
 
-  -- ---- a scope around another is at its level or a lower one; by induction on a bound f
-
-  parent-level : (k : ℕ) → 0 < k → k < m →
-      level k ≡ ownLevel (argsIn (scopeWord ws k)) + level (parentOf (scopeWord ws k))
-  parent-level k z q = h .level k z q
-
-  level-below : (f k c : ℕ) → k ≤ f → k < m → In c (out k) → level c ≤ level k
-  level-below zero k c le q i = elim (steps k c q i) [
+  level-below : (k c : ℕ) → k < m → In c (out k) → level c ≤ level k
+  level-below k c = outwards ws m h (λ k. In c (out k) → level c ≤ level k) (λ k q rest i. elim (steps ws m h k c q i) [
     | inl e ↦ rw e (omega arith)
-    | inr p ↦ absurd (omega (arith, p .0))
-  ]
-  level-below (suc f) k c le q i = elim (steps k c q i) [
-    | inl e ↦ rw e (omega arith)
-    | inr p ↦
-        let lt : parentOf (scopeWord ws k) < k = h .lower k (p .0) q in
-        let r = level-below f (parentOf (scopeWord ws k)) c (omega arith) (omega arith) (p .1) in
-        omega (arith, r, parent-level k (p .0) q)
-  ]
+    | inr p ↦ omega (arith, rest (p .0) (p .1), h .level k (p .0) q)
+  ]) k
 
   -- ---- two lambdas of one level around a scope are the same
 
@@ -84,12 +56,12 @@ module _ (ws : List ℕ) (m : ℕ) (h : Nested ws m) where
 
   pub deeper : (k : ℕ) → 0 < k → k < m → IsLambda k → level k ≡ 1 + level (parentOf (scopeWord ws k))
   deeper k z q l =
-      parent-level k z q ∙ ap (λ (o : Option (List ℕ)). ownLevel o + level (parentOf (scopeWord ws k))) (l .1)
+      h .level k z q ∙ ap (λ (o : Option (List ℕ)). ownLevel o + level (parentOf (scopeWord ws k))) (l .1)
 
   pub outside : (k c : ℕ) → k < m → 0 < k → IsLambda k → In c (out (parentOf (scopeWord ws k))) → level c < level k
   outside k c q z l i =
       let lt : parentOf (scopeWord ws k) < k = h .lower k z q in
-      omega (arith, level-below k (parentOf (scopeWord ws k)) c (omega arith) (omega arith) i, deeper k z q l)
+      omega (arith, level-below (parentOf (scopeWord ws k)) c (omega arith) i, deeper k z q l)
 
   -- the step of the induction: `rest` where both are around the parent
   once-step : (k c d : ℕ) → k < m → IsLambda c → IsLambda d → level c ≡ level d →
@@ -103,26 +75,18 @@ module _ (ws : List ℕ) (m : ℕ) (h : Nested ws m) where
       absurd (omega (arith, outside k c q (p .0) (subst IsLambda r ld) (p .1), ap level r, e))
   once-step k c d q lc ld e (inr p) (inr r) rest = rest (p .0) (p .1) (r .1)
 
-  level-once : (f k c d : ℕ) → k ≤ f → k < m → In c (out k) → In d (out k) → IsLambda c → IsLambda d →
-      level c ≡ level d → c ≡ d
-  level-once zero k c d le q i j lc ld e =
-      once-step k c d q lc ld e (steps k c q i) (steps k d q j) (λ z p r. absurd (omega arith))
-  level-once (suc f) k c d le q i j lc ld e =
-      once-step k c d q lc ld e (steps k c q i) (steps k d q j)
-      (λ z p r. let lt : parentOf (scopeWord ws k) < k = h .lower k z q in
-      level-once f (parentOf (scopeWord ws k)) c d (omega arith) (omega arith) p r lc ld e)
+  level-once : (k c d : ℕ) → k < m → In c (out k) → In d (out k) → IsLambda c → IsLambda d → level c ≡ level d → c ≡ d
+  level-once k c d q i j lc ld e =
+      outwards ws m h (λ k. In c (out k) → In d (out k) → c ≡ d)
+      (λ k q rest i j. once-step k c d q lc ld e (steps ws m h k c q i) (steps ws m h k d q j) rest) k q i j
 
   -- ---- tracking
-
-  around-low : (k c : ℕ) → k < m → In c (out k) → c < m
-  around-low k c q i =
-      subst (λ (z : ℕ). c < z) (scopes-length ws m) (below-in _ (out k) c (outward-below ws m h k q) i)
 
   -- what stands in the word of a scope around, in the list of scopes
   pub bound-args : (cur a : ℕ) → cur < m → (b : Bound (scopesOf ws m) cur a) →
       (b .scope < m) × (argsIn (scopeWord ws (b .scope)) ≡ some (b .args))
   bound-args cur a q b =
-      let lt : b .scope < m = around-low cur (b .scope) q (b .around) in
+      let lt : b .scope < m = outward-below ws m h cur q (b .scope) (b .around) in
       (lt, sym (scope-args ws m m (b .scope) h lt lt) ∙ b .args-is)
 
   module _ (n : ℕ) (args : ArgLevels ws n m) (cur : ℕ) (current : cur < m) where
@@ -145,7 +109,7 @@ module _ (ws : List ℕ) (m : ℕ) (h : Nested ws m) where
               bound-level a b .one (level k)
               ∙ ne-eqb (level k) (level (b .scope))
               (λ r. anyIn-false a xs deps f
-              (subst (In a) (same (b .scope) (b .args) (p .1) (level-once cur cur (b .scope) k (omega arith) current
+              (subst (In a) (same (b .scope) (b .args) (p .1) (level-once cur (b .scope) k current
               (b .around) i (b .args, p .1) (xs, e) (sym r))) (b .member)) d)
             where
               same : (c : ℕ) (ys : List ℕ) → argsIn (scopeWord ws c) ≡ some ys → c ≡ k → ys ≡ xs
@@ -165,43 +129,40 @@ module _ (ws : List ℕ) (m : ℕ) (h : Nested ws m) where
           ap (has levels) (sym (scope-level ws m m k h q q))
           ∙ tracks-one k q (sub k (inl refl)) xs (sym (scope-args ws m m k h q q) ∙ e)
 
-      tracks-outermost : (k : ℕ) → k ≤ 0 → k < m →
-          Tracks (scopesOf ws m) levels deps (scopeAt (scopesOf ws m) k .around)
-      tracks-outermost k le q =
-          let e : k ≡ 0 = omega arith in
-          let n : scopeAt (scopesOf ws m) k .around ≡ [] = rw e (outermost-around ws m (omega arith)) in
-          rw n tt
-
-      -- from scope k outwards, where these are among those from `cur`; by induction on a bound f
-      tracks-from : (f k : ℕ) → k ≤ f → k < m → ((c : ℕ) → In c (out k) → In c (out cur)) →
+      -- from scope k outwards, where these are among those from `cur`
+      tracks-from : (k : ℕ) → k < m → ((c : ℕ) → In c (out k) → In c (out cur)) →
           Tracks (scopesOf ws m) levels deps (out k)
-      tracks-from zero k le q sub = (tracks-here k q sub, tracks-outermost k (omega arith) q)
-      tracks-from (suc f) k le q sub = (
-        tracks-here k q sub,
-        elim (decLt 0 k) [
-          | no z ↦ tracks-outermost k (omega arith) q
-          | yes z ↦
-              let lt : parentOf (scopeWord ws k) < k = h .lower k z q in
-              let n = scope-around ws m m k h z q q in
-              rw n (tracks-from f (parentOf (scopeWord ws k)) (omega arith) (omega arith) (λ c i. sub c (inr (rw n i))))
-        ],
-      )
+      tracks-from =
+          outwards ws m h
+          (λ k. ((c : ℕ) → In c (out k) → In c (out cur)) → Tracks (scopesOf ws m) levels deps (out k))
+          (λ k q rest sub. (
+            tracks-here k q sub,
+            elim (decLt 0 k) [
+              | no z ↦
+                  let e : k ≡ 0 = omega arith in
+                  let n : scopeAt (scopesOf ws m) k .around ≡ [] = rw e (outermost-around ws m (omega arith)) in
+                  rw n tt
+              | yes z ↦
+                  let n = scope-around ws m m k h z q q in
+                  rw n (rest z (λ c i. sub c (inr (rw n i))))
+            ],
+          ))
 
       pub tracks-forced : Tracks (scopesOf ws m) levels deps (out cur)
-      tracks-forced = tracks-from cur cur (omega arith) current (λ c i. i)
+      tracks-forced = tracks-from cur current (λ c i. i)
 
 -- ---- where a symbol is placed is one of the scopes
 
-pub climb-low : (scs : List Scope) (deps out : List ℕ) (m : ℕ) → 0 < m → Below m out → climb scs deps out < m
+pub climb-low : (scs : List Scope) (deps out : List ℕ) (m : ℕ) → 0 < m → Under m out → climb scs deps out < m
 unfolding climb
 climb-low scs deps [] m z h = z
-climb-low scs deps (s ∷ out) m z h = go (scopeAt scs s .args) (climb-low scs deps out m z (h .1))
+climb-low scs deps (s ∷ out) m z h = go (scopeAt scs s .args) (climb-low scs deps out m z (λ c i. h c (inr i)))
   where
     turn : (b : Bool) → climb scs deps out < m → elim b [ true ↦ s | false ↦ climb scs deps out ] < m
-    turn true r = h .0
+    turn true r = h s (inl refl)
     turn false r = r
 
     go : (o : Option (List ℕ)) → climb scs deps out < m →
         elim o [ none ↦ s | some xs ↦ elim (anyIn xs deps) [ true ↦ s | false ↦ climb scs deps out ] ] < m
-    go none r = h .0
+    go none r = h s (inl refl)
     go (some xs) r = turn (anyIn xs deps) r

@@ -1,10 +1,11 @@
 -- Steps from a scope outwards.
--- In order: what a scope's word says; placement; ancestors, and where a scope lies. Assumes nothing.
+-- In order: what a scope's word says; placement; levels that track a fresh argument; ancestors, and where a scope lies. Assumes nothing.
 use Prim.Native.Nat.{ℕ, zero, suc, _-_, _<_, _≤_}
 use mathlib.Core.Path.{_≡_, refl, sym, ap, _∙_}
 use mathlib.Core.Bool.{Bool, true, false, not, _&&_}
+use mathlib.Core.Logic.{inl, inr}
 use mathlib.Core.Option.{Option, none, some}
-use mathlib.Core.List.{List, _∷_}
+use mathlib.Core.List.{List, [], _∷_}
 use native.Mathlib.Omega.{arith}
 use borrow.Author.Tests.{eq-eqb, ne-eqb}
 use lib.Dec.{eqb, eqb·suc-zero}
@@ -12,24 +13,12 @@ use Rattle.model.specs.Lists.{isIn, anyIn}
 use Rattle.model.specs.Intern.{Scope, State, scopeAt, climb, placement}
 use Rattle.model.specs.Gate.{Graph}
 use Rattle.model.specs.Schedule.{local, deeper, outside, classify}
+use Rattle.laws.specs.Members.{In}
 use Rattle.laws.proofs.Apart.{true-false, some-none}
 use Rattle.scopes.specs.Levels.{has}
 use Rattle.laws.specs.Range.{range}
-use Rattle.scopes.specs.Scopes.{
-  scopeWord,
-  parentOf,
-  firstOf,
-  codeOf,
-  levelOf,
-  argsFrom,
-  argsIn,
-  scopesOf,
-  Nested,
-  outward,
-  leftBy,
-  Tracks,
-  Placed,
-}
+use Rattle.scopes.specs.Scopes.{scopeWord, parentOf, firstOf, codeOf, levelOf, argsFrom, argsIn, scopesOf, Nested}
+use Rattle.scopes.specs.Scopes.{outward, leftBy, lambdas, Tracks, Placed}
 use Rattle.scopes.proofs.Laws.{scope-args, scope-around, scope-level, outermost-around}
 
 -- ---- what a scope's word says
@@ -134,6 +123,17 @@ module _ (ws : List ℕ) (n k : ℕ) (h : Nested ws n) (p : k < n) (levels : ℕ
               (sym (tracked passedArgs (l .1)) ∙ l .0)
               ∙ ap (λ (out : List ℕ). climb (scopesOf ws m) deps out) a),
         )
+
+-- levels deeper than the scopes, and deps that are arguments of none of them
+pub tracks-apart : (scs : List Scope) (levels : ℕ) (deps out : List ℕ) (m : ℕ) → lambdas scs out ≤ m →
+    ((j : ℕ) → j ≤ m → has levels j ≡ false) →
+    ((s : ℕ) → In s out → (xs : List ℕ) → scopeAt scs s .args ≡ some xs → anyIn xs deps ≡ false) →
+    Tracks scs levels deps out
+tracks-apart scs levels deps [] m le e f = tt
+tracks-apart scs levels deps (s ∷ out) m le e f = (
+  λ xs h. e (lambdas scs (s ∷ out)) le ∙ sym (f s (inl refl) xs h),
+  tracks-apart scs levels deps out m (omega arith) e (λ c i. f c (inr i)),
+)
 
 -- what `placement` answers, as the definition's placement
 pub placed : (ws : List ℕ) (m cur levels r : ℕ) (deps : List ℕ) (st : State) → st .scopes ≡ scopesOf ws m → cur < m

@@ -1,29 +1,19 @@
--- The scopes of words. In order: a scope's word and its parts; the scopes by number; the parts of scope k.
+-- The scopes of words. In order: a scope's word and its parts; the scopes by number; the parts of scope k; induction from a
+-- scope outwards; its level; the scopes from it outwards.
 -- Assumes nothing.
-use Prim.Native.Nat.{ℕ, zero, suc, _+_, _<_, _≤_}
+use Prim.Native.Nat.{ℕ, zero, suc, _+_, _<_}
 use mathlib.Core.Path.{_≡_, refl, sym, ap, _∙_}
+use mathlib.Core.Logic.{_⊎_, inl, inr}
 use mathlib.Core.List.{List, [], _∷_}
 use native.Mathlib.Omega.{arith}
 use native.Mathlib.Decide.{decLt}
 use lib.ListN.{length, length-append, List·getD-append}
 use lib.Seq.{getD-at}
 use Rattle.model.specs.Intern.{Scope, rootScope, scopeAt}
-use Rattle.scopes.specs.Scopes.{
-  scopeWord,
-  packedOf,
-  parentOf,
-  firstOf,
-  codeOf,
-  levelOf,
-  argsFrom,
-  argsIn,
-  scopeFrom,
-  scopesOf,
-  Nested,
-  ownLevel,
-  outward,
-  lambdas,
-}
+use Rattle.laws.specs.Members.{In, Under}
+use Rattle.laws.proofs.Induction.{strong}
+use Rattle.scopes.specs.Scopes.{scopeWord, packedOf, parentOf, firstOf, codeOf, levelOf, argsFrom, argsIn}
+use Rattle.scopes.specs.Scopes.{scopeFrom, scopesOf, Nested, ownLevel, outward, lambdas}
 
 -- ---- a scope's word and its parts
 
@@ -89,24 +79,55 @@ module _ (ws : List ℕ) (m : ℕ) where
       ap (λ (s : Scope). s .around) (scopes-at ws m (suc k) q)
       ∙ ap (λ (s : Scope). w ∷ s .around) (scopes-more ws (suc k) m w lt (omega arith))
 
-  level-outermost : (n : ℕ) → Nested ws n → 0 < n → 0 < m
-      → levelOf (scopeWord ws 0) ≡ lambdas (scopesOf ws m) (outward (scopesOf ws m) 0)
-  level-outermost n h p q = rw (scope-args n 0 h p q, outermost-around q, h .outermost)
+-- ---- induction: what holds of a scope if it holds of its parent, where it has one, holds of each
 
-  -- the level in a scope's word is the number of lambdas from it outwards; by induction on a bound f
-  level-from : (n : ℕ) → Nested ws n → (f k : ℕ) → k ≤ f → k < n → k < m
-      → levelOf (scopeWord ws k) ≡ lambdas (scopesOf ws m) (outward (scopesOf ws m) k)
-  level-from n h zero k le p q = let e : k ≡ 0 = omega arith in rw e (level-outermost n h (omega arith) (omega arith))
-  level-from n h (suc f) k le p q = elim (decLt 0 k) [
-    | yes z ↦
-        let lt = h .lower k z p in
-        rw (scope-args n k h p q, scope-around n k h z p q)
-        (h .level k z p
-        ∙ ap (λ (x : ℕ). ownLevel (argsIn (scopeWord ws k)) + x)
-        (level-from n h f (parentOf (scopeWord ws k)) (omega arith) (omega arith) (omega arith)))
-    | no z ↦ let e : k ≡ 0 = omega arith in rw e (level-outermost n h (omega arith) (omega arith))
+pub outwards : (ws : List ℕ) (n : ℕ) → Nested ws n → (P : ℕ → Type 0) →
+    ((k : ℕ) → k < n → (0 < k → P (parentOf (scopeWord ws k))) → P k) → (k : ℕ) → k < n → P k
+outwards ws n h P step =
+    strong (λ k. k < n → P k)
+    (λ k rest q. step k q (λ z. let lt = h .lower k z q in rest (parentOf (scopeWord ws k)) lt (omega arith)))
+
+-- the level in a scope's word is the number of lambdas from it outwards
+pub scope-level : (ws : List ℕ) (m n k : ℕ) → Nested ws n → k < n → k < m →
+    levelOf (scopeWord ws k) ≡ lambdas (scopesOf ws m) (outward (scopesOf ws m) k)
+scope-level ws m n k h = outwards ws n h (λ k. k < m → levelOf (scopeWord ws k) ≡ count k) step k
+  where
+    count : ℕ → ℕ
+    count k = lambdas (scopesOf ws m) (outward (scopesOf ws m) k)
+
+    step : (k : ℕ) → k < n →
+        (0 < k → parentOf (scopeWord ws k) < m →
+        levelOf (scopeWord ws (parentOf (scopeWord ws k))) ≡ count (parentOf (scopeWord ws k))) →
+        k < m → levelOf (scopeWord ws k) ≡ count k
+    step k p rest q = elim (decLt 0 k) [
+      | yes z ↦
+          let lt = h .lower k z p in
+          rw (scope-args ws m n k h p q, scope-around ws m n k h z p q)
+          (h .level k z p ∙ ap (λ (x : ℕ). ownLevel (argsIn (scopeWord ws k)) + x) (rest z (omega arith)))
+      | no z ↦
+          let e : k ≡ 0 = omega arith in
+          rw (e, scope-args ws m n 0 h (omega arith) (omega arith), outermost-around ws m (omega arith), h .outermost)
+    ]
+
+-- ---- the scopes from one outwards
+
+module _ (ws : List ℕ) (m : ℕ) (h : Nested ws m) where
+  abbrev out : ℕ → List ℕ
+  out k = outward (scopesOf ws m) k
+
+  -- k itself, or those from its parent
+  pub steps : (k c : ℕ) → k < m → In c (out k) → (c ≡ k) ⊎ ((0 < k) × In c (out (parentOf (scopeWord ws k))))
+  steps k c q (inl e) = inl e
+  steps k c q (inr i) = elim (decLt 0 k) [
+    | yes z ↦ inr (z, rw (scope-around ws m m k h z q q) at i)
+    | no z ↦
+        let e : k ≡ 0 = omega arith in
+        let n : scopeAt (scopesOf ws m) k .around ≡ [] = rw e (outermost-around ws m (omega arith)) in
+        absurd (rw n at i)
   ]
 
-  pub scope-level : (n k : ℕ) → Nested ws n → k < n → k < m
-      → levelOf (scopeWord ws k) ≡ lambdas (scopesOf ws m) (outward (scopesOf ws m) k)
-  scope-level n k h p q = level-from n h k k (omega arith) p q
+  pub outward-below : (k : ℕ) → k < m → Under m (out k)
+  outward-below = outwards ws m h (λ k. Under m (out k)) (λ k q rest c i. elim (steps k c q i) [
+    | inl e ↦ rw e q
+    | inr p ↦ rest (p .0) c (p .1)
+  ])

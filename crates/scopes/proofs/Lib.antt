@@ -3,4 +3,3 @@ pub mod Bits
 pub mod Laws
 pub mod Climb
 pub mod Open
-pub mod Tracks

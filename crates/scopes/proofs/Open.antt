@@ -6,7 +6,7 @@ use mathlib.Core.Option.{Option, none, some}
 use mathlib.Core.List.{List, [], _∷_, _++_}
 use native.Mathlib.Omega.{arith}
 use native.Mathlib.Numerals.{add-one}
-use native.Mathlib.Decide.{decLt}
+use borrow.Author.Count.{below-more}
 use lib.ListN.{length, set}
 use lib.Seq.{getD-set-same}
 use Rattle.model.specs.Intern.{Scope, rootScope}
@@ -14,23 +14,8 @@ use Rattle.laws.specs.Range.{range}
 use Rattle.laws.specs.Frame.{Agree}
 use Rattle.laws.proofs.Frame.{agree-store}
 use Rattle.regions.specs.Regions.{SCOPES}
-use Rattle.scopes.specs.Scopes.{
-  scopeWord,
-  packedOf,
-  parentOf,
-  levelOf,
-  argsFrom,
-  argsIn,
-  thunkWord,
-  lambdaWord,
-  withThunk,
-  withLambda,
-  scopeFrom,
-  scopesOf,
-  ownLevel,
-  Nested,
-  outward,
-}
+use Rattle.scopes.specs.Scopes.{scopeWord, packedOf, parentOf, levelOf, argsFrom, argsIn, thunkWord, lambdaWord}
+use Rattle.scopes.specs.Scopes.{withThunk, withLambda, scopeFrom, scopesOf, ownLevel, Nested, outward}
 use Rattle.scopes.proofs.Laws.{packed-parent, packed-level, packed-args}
 
 -- ---- words kept
@@ -91,42 +76,43 @@ nested-outermost ws lt = record {
 -- ---- one more scope, whatever its word
 
 module _ (ws : List ℕ) (m w : ℕ) (room : SCOPES .first + m < length ws) where
-  word-new : scopeWord (set ws (SCOPES .first + m) w) m ≡ w
+  abbrev grown : List ℕ
+  grown = set ws (SCOPES .first + m) w
+
+  word-new : scopeWord grown m ≡ w
   word-new = getD-set-same ws (SCOPES .first + m) w 0 room
 
-  old-kept : Agree ws (set ws (SCOPES .first + m) w) (SCOPES .first) (SCOPES .first + m)
+  old-kept : Agree ws grown (SCOPES .first) (SCOPES .first + m)
   old-kept = agree-store ws (SCOPES .first + m) w (SCOPES .first) (SCOPES .first + m) (omega arith)
 
   scopes-one : 0 < m
-      → scopesOf (set ws (SCOPES .first + m) w) (m + 1)
+      → scopesOf grown (m + 1)
       ≡ scopesOf ws m ++ (record { around = outward (scopesOf ws m) (parentOf w); args = argsIn w } ∷ [])
   unfolding scopesOf
   scopes-one z =
-      rw (add-one m, scopes-agree ws (set ws (SCOPES .first + m) w) m old-kept)
+      rw (add-one m, scopes-agree ws grown m old-kept)
       (ap (λ (s : Scope). scopesOf ws m ++ (s ∷ [])) (one m z word-new))
     where
-      one : (k : ℕ) → 0 < k → scopeWord (set ws (SCOPES .first + m) w) k ≡ w
+      one : (k : ℕ) → 0 < k → scopeWord grown k ≡ w
           → _≡_ {A = Scope}
-          (scopeFrom (scopesOf ws m) (set ws (SCOPES .first + m) w) k)
+          (scopeFrom (scopesOf ws m) grown k)
           (record { around = outward (scopesOf ws m) (parentOf w); args = argsIn w })
       one zero z e = absurd (omega arith)
       one (suc k) z e = rw e
 
   nested-one : 0 < m → parentOf w < m
       → levelOf w ≡ ownLevel (argsIn w) + levelOf (scopeWord ws (parentOf w)) → Nested ws m
-      → Nested (set ws (SCOPES .first + m) w) (m + 1)
+      → Nested grown (m + 1)
   nested-one z p l h =
-      let o = nested-agree ws (set ws (SCOPES .first + m) w) m z old-kept h in
+      let o = nested-agree ws grown m z old-kept h in
       record {
         outermost = o .outermost;
-        lower = λ k i lt. elim (decLt k m) [
-          | yes q ↦ o .lower k i q
-          | no q ↦ let e : k ≡ m = omega arith in rw (e, word-new) p
-        ];
-        level = λ k i lt. elim (decLt k m) [
-          | yes q ↦ o .level k i q
-          | no q ↦ let e : k ≡ m = omega arith in rw (e, word-new, word-agree ws (set ws (SCOPES .first + m) w) m old-kept (parentOf w) p) l
-        ];
+        lower = λ k i lt.
+            below-more (λ k. 0 < k → parentOf (scopeWord grown k) < k) m (λ k q i. o .lower k i q) (λ i. rw word-new p) k lt i;
+        level = λ k i lt.
+            below-more (λ k. 0 < k → levelOf (scopeWord grown k)
+            ≡ ownLevel (argsIn (scopeWord grown k)) + levelOf (scopeWord grown (parentOf (scopeWord grown k)))) m
+            (λ k q i. o .level k i q) (λ i. rw (word-new, word-agree ws grown m old-kept (parentOf w) p) l) k lt i;
       }
 
 -- ---- a thunk, a lambda

@@ -7,6 +7,7 @@ use mathlib.Core.List.{List, [], _∷_, _++_}
 use mathlib.Core.Logic.{⊎-elim}
 use native.Mathlib.Omega.{arith}
 use native.Mathlib.Nat.{eq-or-lt-of-le}
+use borrow.Author.Count.{below-more}
 use lib.ListN.{length, getD, length-append, List·getD-append}
 use lib.Seq.{sets, length-sets, getD-at}
 use Rattle.model.specs.Forest.{recordCount}
@@ -100,8 +101,10 @@ module _ (bs ws ws′ : List ℕ) (used : ℕ) (slots : Agree ws ws′ (SLOTS .f
   pub sounds-agree : (n : ℕ) → Agree ws ws′ 0 (5 * n) → AllSound bs ws used n → AllSound bs ws′ used n
   sounds-agree n own sound i lt = sound-agree i (λ k l r. own k (omega arith) (omega arith)) (sound i lt)
 
-  sound-more : (more i : ℕ) → used ≤ more → Sound bs ws used i → Sound bs ws more i
-  sound-more more i le sound = record { from = sound .from; slots = omega (arith, sound .slots); lower = sound .lower }
+-- more slots in use
+pub sounds-more : {bs ws : List ℕ} {used more n : ℕ} → used ≤ more → AllSound bs ws used n → AllSound bs ws more n
+sounds-more le sound i lt =
+    let s = sound i lt in record { from = s .from; slots = omega (arith, s .slots); lower = s .lower }
 
 -- ---- what one more symbol changes
 
@@ -163,9 +166,6 @@ module _ (ws : List ℕ) (n held : ℕ) (y : Symbol) (room : Room ws n held y) w
     slots-kept : Agree ws (made ws n held y) (SLOTS .first) (SLOTS .first + used)
     slots-kept k l r = made-between ws n held y k (omega (arith, room .few)) (omega arith)
 
-    own-kept : (i : ℕ) → i < n → Agree ws (made ws n held y) (5 * i) (5 * i + 5)
-    own-kept i lt k l r = made-before ws n held y (room .few) k (omega arith) (omega arith)
-
     pub syms-made : symsOf bs (made ws n held y) (suc n)
         ≡ symsOf bs ws n ++ (symOf bs (symsOf bs ws n) n y (pendingFrom ws held (y .count)) ∷ [])
     unfolding symsOf
@@ -176,16 +176,12 @@ module _ (ws : List ℕ) (n held : ℕ) (y : Symbol) (room : Room ws n held y) w
 
     pub sound-made : partsOf (y .node) .source < recordCount bs →
         ((k : ℕ) → k < y .count → getD ws (PENDING .first + held + k) 0 < n) →
-        AllSound bs (made ws n held y) (y .kids + y .count) (suc n)
-    sound-made from lower i lt =
-        let le : i ≤ n = omega arith in ⊎-elim (λ e. rw e newest) others (eq-or-lt-of-le le)
+        AllSound bs (made ws n held y) (y .kids + y .count) (n + 1)
+    sound-made from lower =
+        below-more (Sound bs (made ws n held y) (y .kids + y .count)) n
+        (sounds-more (omega arith)
+        (sounds-agree bs ws (made ws n held y) used slots-kept n (made-before ws n held y (room .few)) sound)) newest
       where
-        others : i < n → Sound bs (made ws n held y) (y .kids + y .count) i
-        others l =
-            sound-more bs (made ws n held y) (made ws n held y) used (λ k h r. refl) (y .kids + y .count) i
-            (omega arith)
-            (sound-agree bs ws (made ws n held y) used slots-kept i (own-kept i l) (sound i l))
-
         kid : (k : ℕ) → k < y .count → getD (made ws n held y) (SLOTS .first + y .kids + k) 0 < n
         kid k l =
             subst (λ (z : ℕ). z < n)

@@ -2,12 +2,11 @@
 -- table; opening one and dropping it; one entry more; entries that are sound.
 -- Assumes nothing.
 use Prim.Native.Nat.{ℕ, zero, suc, _+_, _*_, _-_, _<_, _≤_}
-use mathlib.Core.Path.{_≡_, refl, sym, ap, _∙_}
+use mathlib.Core.Path.{_≡_, refl, sym, _∙_}
 use mathlib.Core.List.{List, [], _∷_}
-use mathlib.Core.Logic.{⊎-elim}
 use native.Mathlib.Omega.{arith}
-use native.Mathlib.Nat.{eq-or-lt-of-le}
 use native.Mathlib.Numerals.{add-one}
+use borrow.Author.Count.{below-more}
 use lib.ListN.{length, getD, set, length-set}
 use lib.Seq.{getD-set-same, getD-set-other}
 use Rattle.model.specs.Intern.{enter, dropFirst}
@@ -19,7 +18,7 @@ use Rattle.laws.proofs.Stack.{stack-kept}
 use Rattle.regions.specs.Regions.{SLOTS, ENTRIES}
 use Rattle.key.proofs.Laws.{symbol-agree}
 use Rattle.symbols.specs.Symbols.{AllSound}
-use Rattle.symbols.proofs.Laws.{kids-agree}
+use Rattle.symbols.proofs.Laws.{kids-agree, sounds-more}
 use Rattle.tables.specs.declared.Tables.{Tables}
 use Rattle.tables.specs.Tables.{entrySymbol, entryHint, hintOf, entries, tables, tablesOf, first, opened}
 use Rattle.tables.specs.Tables.{Open, Entries, Below, Hinted}
@@ -102,29 +101,22 @@ module _ (t : Tables) (top : ℕ) (is : Open t top) where
     new-start : getD (opened t top .base) (t .depth) 0 ≡ top
     new-start = getD-set-same (t .base) (t .depth) top 0 (omega (arith, is .long))
 
-    newest-start : (d : ℕ) → d ≡ t .depth → getD (opened t top .base) d 0 ≡ top
-    newest-start d e = ap (λ (z : ℕ). getD (opened t top .base) z 0) e ∙ new-start
-
     pub opened-open : Open (opened t top) top
     opened-open = record {
       some = omega arith;
       few = omega arith;
       long = length-set (t .base) (t .depth) top ∙ is .long;
-      sorted = sorted;
+      sorted = λ d e le lt.
+          below-more (λ e. d ≤ e → getD (opened t top .base) d 0 ≤ getD (opened t top .base) e 0) (t .depth)
+          (λ e l le. rw (older-start d (omega arith), older-start e l) (is .sorted d e le l))
+          (λ le. omega (arith, new-start, starts d (omega arith))) e lt le;
       starts = starts;
     }
       where
         starts : (d : ℕ) → d < t .depth + 1 → getD (opened t top .base) d 0 ≤ top
-        starts d lt =
-            let le : d ≤ t .depth = omega arith in
-            ⊎-elim (λ e. omega (arith, newest-start d e)) (λ l. rw (older-start d l) (is .starts d l))
-            (eq-or-lt-of-le le)
-
-        sorted : (d e : ℕ) → d ≤ e → e < t .depth + 1 → getD (opened t top .base) d 0 ≤ getD (opened t top .base) e 0
-        sorted d e le lt =
-            let s : e ≤ t .depth = omega arith in
-            ⊎-elim (λ p. omega (arith, newest-start e p, starts d (omega arith)))
-            (λ l. rw (older-start d (omega arith), older-start e l) (is .sorted d e le l)) (eq-or-lt-of-le s)
+        starts =
+            below-more (λ d. getD (opened t top .base) d 0 ≤ top) (t .depth)
+            (λ d l. rw (older-start d l) (is .starts d l)) (omega (arith, new-start))
 
     older-tables : (ws : List ℕ) → tables ws (opened t top .base) (t .depth) top ≡ tablesOf ws t top
     older-tables ws =
@@ -186,18 +178,16 @@ module _ (t : Tables) (top : ℕ) (is : Open t top) where
             )
 
     pub entered-below : (n : ℕ) → Below ws top n → s < n → Below entered (top + 1) n
-    entered-below n below lt k l =
-        let le : k ≤ top = omega arith in
-        ⊎-elim (λ e. omega (arith, ap (entrySymbol entered) e ∙ new-symbol))
-        (λ r. rw (others-kept (ENTRIES .first + k) (omega arith) (omega arith)) (below k r)) (eq-or-lt-of-le le)
+    entered-below n below lt =
+        below-more (λ k. entrySymbol entered k < n) top
+        (λ k r. rw (others-kept (ENTRIES .first + k) (omega arith) (omega arith)) (below k r)) (omega (arith, new-symbol))
 
     -- with its own hint, where the other entries have theirs
     pub entered-hinted : (bs : List ℕ) (used n : ℕ) → AllSound bs ws used n → used ≤ SLOTS .size → n ≤ 512 →
         Below ws top n → s < n → Hinted bs ws top → m ≡ hintOf bs ws s → Hinted bs entered (top + 1)
-    entered-hinted bs used n sound slots few below lt hinted e k l =
-        let le : k ≤ top = omega arith in
-        ⊎-elim (λ p. rw p newest)
-        (λ r. hinted-agree bs ws entered used n top sound below own kids others-kept hinted k r) (eq-or-lt-of-le le)
+    entered-hinted bs used n sound slots few below lt hinted e =
+        below-more (λ k. entryHint entered k ≡ hintOf bs entered (entrySymbol entered k)) top
+        (hinted-agree bs ws entered used n top sound below own kids others-kept hinted) newest
       where
         own : Agree ws entered 0 (5 * n)
         own = agree-store ws (ENTRIES .first + top) (s + 512 * m) 0 (5 * n) (omega arith)
@@ -216,7 +206,6 @@ pub entries-sound : (bs ws : List ℕ) (used n top : ℕ) → AllSound bs ws use
 entries-sound bs ws used n top sound slots few tops below hinted = record {
   few = tops;
   below = λ k lt. let b : entrySymbol ws k < n = below k lt in omega arith;
-  sound = λ k lt. let s = sound (entrySymbol ws k) (below k lt) in
-      record { from = s .from; slots = let z = s .slots in omega (arith, z); lower = s .lower };
+  sound = λ k lt. sounds-more slots sound (entrySymbol ws k) (below k lt);
   hinted = hinted;
 }
