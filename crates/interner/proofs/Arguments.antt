@@ -2,7 +2,7 @@
 -- may be made; the loop.
 -- Assumes nothing.
 use Prim.Native.Nat.{ℕ, zero, suc, _+_, _-_, _<_, _≤_}
-use mathlib.Core.Path.{_≡_, refl, sym, ap, _∙_, subst}
+use mathlib.Core.Path.{_≡_, refl, sym, ap, _∙_}
 use mathlib.Core.Bool.{Bool, false, _||_, or-false}
 use mathlib.Core.Option.{some}
 use mathlib.Core.List.{List, [], _∷_}
@@ -40,7 +40,7 @@ use Rattle.interner.specs.declared.State.{State}
 use Rattle.interner.specs.declared.Step.{Step}
 use Rattle.interner.specs.Levels.{AtLevel}
 use Rattle.interner.specs.State.{absOf, Rep}
-use Rattle.interner.specs.Step.{Fresh, Levels, Leaves, Pushed, given, overFull, outsOf, Bindings}
+use Rattle.interner.specs.Step.{Fresh, Levels, Leaves, Pushed, given, overFull, outsOf, Binds, Bindings}
 use Rattle.interner.proofs.Levels.{anyHas-one}
 use Rattle.interner.proofs.Pushing.{pushed-symbols}
 use Rattle.interner.proofs.Sharing.{leaves-none, leaves-then}
@@ -163,9 +163,9 @@ pub record SoFar (bs ws₀ : List ℕ) (st₀ : State) (cur at count k : ℕ) (w
       ≡ pushArgs cur (rowAt bs at .rec) count (absOf bs ws₀ t st₀)
   pub args : (i : ℕ) → i < k → AtLevel ws (s .symbols) (levelOf (scopeWord ws₀ cur) + 1) (st₀ .symbols + i)
 
-module _ (bs ws₀ : List ℕ) (st₀ : State) (cur at count : ℕ) where
-  pub so-far-none : Rep bs ws₀ st₀ → SoFar bs ws₀ st₀ cur at count 0 ws₀ st₀
-  so-far-none rep = record {
+module _ {bs ws₀ : List ℕ} {st₀ : State} {cur at count : ℕ} (rep : Rep bs ws₀ st₀) (b : Binds bs ws₀ st₀ cur at count) where
+  pub so-far-none : SoFar bs ws₀ st₀ cur at count 0 ws₀ st₀
+  so-far-none = record {
     few = omega arith;
     rep = rep;
     leaves = leaves-none ws₀ st₀;
@@ -174,103 +174,91 @@ module _ (bs ws₀ : List ℕ) (st₀ : State) (cur at count : ℕ) where
     args = λ i lt. absurd (omega arith);
   }
 
-  -- the scope is as it was
-  cur-level : (k : ℕ) (ws : List ℕ) (s : State) → Rep bs ws₀ st₀ → cur < st₀ .scopes →
-      SoFar bs ws₀ st₀ cur at count k ws s → scopeWord ws cur ≡ scopeWord ws₀ cur
-  cur-level k ws s rep lt f = f .leaves .scope-words (SCOPES .first + cur) (omega arith) (omega (arith, rep .arena .scoped .few-scopes))
+  module _ {levels : ℕ} (are : (j : ℕ) → has levels j ≡ eqb j (levelOf (scopeWord ws₀ cur) + 1)) {k : ℕ} {ws : List ℕ}
+      {s : State} (f : SoFar bs ws₀ st₀ cur at count k ws s) where
+    pub next-levels : Fresh bs ws s cur (arg at) 0 0 × Levels ws s cur (s .symbols ∷ []) levels
+    next-levels =
+        let e : scopeWord ws cur ≡ scopeWord ws₀ cur =
+        f .leaves .scope-words (SCOPES .first + cur) (omega arith)
+        (omega (arith, b .current, rep .arena .scoped .few-scopes)) in
+        let l : cur < s .scopes = omega (arith, b .current, f .leaves .scopes) in (
+          arg-fresh bs ws s cur at levels (f .rep) (b .from) l,
+          arg-levels bs ws s cur at levels (f .rep) (b .from) l (λ j. rw e (are j)),
+        )
 
-  pub next-levels : (k levels : ℕ) (ws : List ℕ) (s : State) → Rep bs ws₀ st₀ → at < recordCount bs →
-      cur < st₀ .scopes → ((j : ℕ) → has levels j ≡ eqb j (levelOf (scopeWord ws₀ cur) + 1)) →
-      SoFar bs ws₀ st₀ cur at count k ws s →
-      Fresh bs ws s cur (arg at) 0 0 × Levels ws s cur (s .symbols ∷ []) levels
-  next-levels k levels ws s rep from lt are f =
-      let e : scopeWord ws cur ≡ scopeWord ws₀ cur = cur-level k ws s rep lt f in
-      let l : cur < s .scopes = omega (arith, f .leaves .scopes) in (
-        arg-fresh bs ws s cur at levels (f .rep) from l,
-        arg-levels bs ws s cur at levels (f .rep) from l (λ j. rw e (are j)),
-      )
+    module _ {ws₁ : List ℕ} {s₁ : State} (lt : k < count) (done : Pushed bs ws s cur (arg at) 0 0 levels ws₁ s₁) where
+      one-is : (t : Tables) → Open t (st₀ .entries) →
+          absOf bs ws₁ t s₁ ≡ oneArg cur (rowAt bs at .rec) (absOf bs ws t s)
+      unfolding keyRec wordsFrom
+      one-is t opened =
+          done .is t (open-later t (st₀ .entries) opened (s .entries) (f .leaves .entries))
+          ∙ rw (syms-length bs ws (s .symbols))
 
-  module _ (k levels : ℕ) (ws ws₁ : List ℕ) (s s₁ : State) (lt : k < count)
-      (are : (j : ℕ) → has levels j ≡ eqb j (levelOf (scopeWord ws₀ cur) + 1))
-      (f : SoFar bs ws₀ st₀ cur at count k ws s) (done : Pushed bs ws s cur (arg at) 0 0 levels ws₁ s₁) where
-    one-is : (t : Tables) → Open t (st₀ .entries) →
-        absOf bs ws₁ t s₁ ≡ oneArg cur (rowAt bs at .rec) (absOf bs ws t s)
-    unfolding keyRec wordsFrom
-    one-is t opened =
-        done .is t (open-later t (st₀ .entries) opened (s .entries) (f .leaves .entries))
-        ∙ rw (syms-length bs ws (s .symbols))
+      left-more : (t : Tables) → Open t (st₀ .entries) →
+          pushArgs cur (rowAt bs at .rec) (count - (k + 1)) (absOf bs ws₁ t s₁)
+          ≡ pushArgs cur (rowAt bs at .rec) count (absOf bs ws₀ t st₀)
+      unfolding pushArgs
+      left-more t opened =
+          let e : count - k ≡ suc (count - (k + 1)) = omega (arith, lt) in
+          ap (pushArgs cur (rowAt bs at .rec) (count - (k + 1))) (one-is t opened)
+          ∙ (ap (λ (z : ℕ). pushArgs cur (rowAt bs at .rec) z (absOf bs ws t s)) (sym e) ∙ f .left t opened)
 
-    left-more : (t : Tables) → Open t (st₀ .entries) →
-        pushArgs cur (rowAt bs at .rec) (count - (k + 1)) (absOf bs ws₁ t s₁)
-        ≡ pushArgs cur (rowAt bs at .rec) count (absOf bs ws₀ t st₀)
-    unfolding pushArgs
-    left-more t opened =
-        let e : count - k ≡ suc (count - (k + 1)) = omega (arith, lt) in
-        ap (pushArgs cur (rowAt bs at .rec) (count - (k + 1))) (one-is t opened)
-        ∙ (ap (λ (z : ℕ). pushArgs cur (rowAt bs at .rec) z (absOf bs ws t s)) (sym e) ∙ f .left t opened)
+      new-level : AtLevel ws₁ (s₁ .symbols) (levelOf (scopeWord ws₀ cur) + 1) (s .symbols)
+      new-level = record {
+        low = omega (arith, pushed-symbols done);
+        one = λ j. ap (λ (z : ℕ). has z j) (done .stored .own) ∙ are j;
+      }
 
-    new-level : AtLevel ws₁ (s₁ .symbols) (levelOf (scopeWord ws₀ cur) + 1) (s .symbols)
-    new-level = record {
-      low = omega (arith, pushed-symbols done);
-      one = λ j. ap (λ (z : ℕ). has z j) (done .stored .own) ∙ are j;
-    }
+      args-more : (i : ℕ) → i < k + 1 → AtLevel ws₁ (s₁ .symbols) (levelOf (scopeWord ws₀ cur) + 1) (st₀ .symbols + i)
+      args-more =
+          let d : s .symbols ≡ st₀ .symbols + k = omega (arith, f .symbols) in
+          below-more (λ i. AtLevel ws₁ (s₁ .symbols) (levelOf (scopeWord ws₀ cur) + 1) (st₀ .symbols + i)) k
+          (λ i r. let h = f .args i r in record {
+            low = omega (arith, h .low, pushed-symbols done);
+            one = λ j. rw (done .stored .others (st₀ .symbols + i) (h .low)) (h .one j);
+          }) (rw d at new-level)
 
-    args-more : (i : ℕ) → i < k + 1 → AtLevel ws₁ (s₁ .symbols) (levelOf (scopeWord ws₀ cur) + 1) (st₀ .symbols + i)
-    args-more =
-        let d : s .symbols ≡ st₀ .symbols + k = omega (arith, f .symbols) in
-        below-more (λ i. AtLevel ws₁ (s₁ .symbols) (levelOf (scopeWord ws₀ cur) + 1) (st₀ .symbols + i)) k
-        (λ i r. let h = f .args i r in record {
-          low = omega (arith, h .low, pushed-symbols done);
-          one = λ j. rw (done .stored .others (st₀ .symbols + i) (h .low)) (h .one j);
-        }) (rw d at new-level)
+      pub so-far-more : SoFar bs ws₀ st₀ cur at count (k + 1) ws₁ s₁
+      so-far-more = record {
+        few = omega (arith, lt);
+        rep = done .rep;
+        leaves = leaves-then (f .leaves) (done .leaves);
+        symbols = omega (arith, pushed-symbols done, f .symbols);
+        left = left-more;
+        args = args-more;
+      }
 
-    pub so-far-more : SoFar bs ws₀ st₀ cur at count (k + 1) ws₁ s₁
-    so-far-more = record {
-      few = omega (arith, lt);
-      rep = done .rep;
-      leaves = leaves-then (f .leaves) (done .leaves);
-      symbols = omega (arith, pushed-symbols done, f .symbols);
-      left = left-more;
-      args = args-more;
-    }
+  pub args-done : {k : ℕ} {ws : List ℕ} {s : State} {r : Step} → st₀ .symbols + count ≤ 512 →
+      SoFar bs ws₀ st₀ cur at count k ws s → count ≤ k → r ≡ given s (st₀ .symbols) →
+      Bindings bs ws₀ st₀ cur at count ws r
+  unfolding outsOf pushArgs
+  args-done {k} {ws} {s} le f all e = rw e (record {
+    rep = f .rep;
+    leaves = f .leaves;
+    is = λ t opened xs l. sym (good-args t opened xs l);
+    first = λ z. (refl, omega (arith, f .symbols, f .few));
+    args = λ z x i. let w = range-in (st₀ .symbols) count x i in rw (w .2) (f .args (w .0) (omega (arith, w .1)));
+  })
+    where
+      good-args : (t : Tables) → Open t (st₀ .entries) → (xs : List (ℕ × List ℕ)) → length xs ≡ count →
+          allocArgs at cur (rowAt bs at .rec) xs (absOf bs ws₀ t st₀)
+          ≡ outsOf bs ws t count (given s (st₀ .symbols))
+      good-args t opened xs l =
+          let n = syms-length bs ws₀ (st₀ .symbols) in
+          let z : count - k ≡ 0 = omega arith in
+          args-good at cur (rowAt bs at .rec) xs (absOf bs ws₀ t st₀) (omega (arith, n))
+          ∙ rw (n, l, ← f .left t opened, z)
 
-  module _ (rep : Rep bs ws₀ st₀) where
-    pub args-done : (ws : List ℕ) (s : State) (r : Step) → st₀ .symbols + count ≤ 512 →
-        SoFar bs ws₀ st₀ cur at count count ws s → r ≡ given s (st₀ .symbols) →
-        Bindings bs ws₀ st₀ cur at count ws r
-    unfolding outsOf pushArgs
-    args-done ws s r le f e = subst (Bindings bs ws₀ st₀ cur at count ws) (sym e) (record {
-      rep = f .rep;
-      leaves = f .leaves;
-      is = λ t opened xs l. sym (good-args t opened xs l);
-      first = λ z. (refl, f .symbols);
-      args = λ z x i. let w = range-in (st₀ .symbols) count x i in rw (w .2) (f .args (w .0) (w .1));
-    })
-      where
-        good-args : (t : Tables) → Open t (st₀ .entries) → (xs : List (ℕ × List ℕ)) → length xs ≡ count →
-            allocArgs at cur (rowAt bs at .rec) xs (absOf bs ws₀ t st₀)
-            ≡ outsOf bs ws t count (given s (st₀ .symbols))
-        good-args t opened xs l =
-            let n = syms-length bs ws₀ (st₀ .symbols) in
-            let z : count - count ≡ 0 = omega arith in
-            args-good at cur (rowAt bs at .rec) xs (absOf bs ws₀ t st₀) (omega (arith, n))
-            ∙ rw (n, l, ← f .left t opened, z)
-
-    pub args-refused : (r : Step) → 512 < st₀ .symbols + count → r ≡ overFull st₀ (arg at) →
-        Bindings bs ws₀ st₀ cur at count ws₀ r
-    unfolding outsOf
-    args-refused r lt e = subst (Bindings bs ws₀ st₀ cur at count ws₀) (sym e) (record {
-      rep = rep;
-      leaves = leaves-none ws₀ st₀;
-      is = λ t opened xs l. sym (full-args t xs l);
-      first = λ z. absurd (omega arith);
-      args = λ z. absurd (omega arith);
-    })
-      where
-        full-args : (t : Tables) (xs : List (ℕ × List ℕ)) → length xs ≡ count →
-            allocArgs at cur (rowAt bs at .rec) xs (absOf bs ws₀ t st₀)
-            ≡ outsOf bs ws₀ t count (overFull st₀ (arg at))
-        full-args t xs l =
-            let n = syms-length bs ws₀ (st₀ .symbols) in
-            args-full at cur (rowAt bs at .rec) xs (absOf bs ws₀ t st₀) (omega (arith, n, rep .arena .scoped .few))
-            (omega (arith, n))
+  pub args-refused : {r : Step} → 512 < st₀ .symbols + count → r ≡ overFull st₀ (arg at) →
+      Bindings bs ws₀ st₀ cur at count ws₀ r
+  unfolding outsOf
+  args-refused lt e = rw e (record {
+    rep = rep;
+    leaves = leaves-none ws₀ st₀;
+    is = λ t opened xs l.
+        let n = syms-length bs ws₀ (st₀ .symbols) in
+        sym (args-full at cur (rowAt bs at .rec) xs (absOf bs ws₀ t st₀) (omega (arith, n, rep .arena .scoped .few))
+        (omega (arith, n)));
+    first = λ z. absurd (omega arith);
+    args = λ z. absurd (omega arith);
+  })

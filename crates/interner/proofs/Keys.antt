@@ -1,5 +1,5 @@
 -- The symbol of a key, found or made, as model's `finish` has it. In order: a symbol that is found is one of those that
--- stand; `finish` by what is found.
+-- stand; `finish` by what is found; what functions ask.
 -- Assumes nothing.
 use Prim.Native.Nat.{ℕ, zero, suc, _+_, _-_, _<_, _≤_}
 use mathlib.Core.Path.{_≡_, refl, sym, ap, _∙_}
@@ -8,10 +8,10 @@ use mathlib.Core.Bool.{Bool, true, false}
 use mathlib.Core.Option.{Option, none, some}
 use mathlib.Core.List.{List, [], _∷_}
 use native.Mathlib.Omega.{arith}
-use lib.ListN.{getD}
+use lib.ListN.{length, getD}
+use Rattle.regions.specs.Regions.{PENDING, WORDS}
 use Rattle.model.specs.Answer.{good}
 use Rattle.model.specs.Tree.{Rec}
-use Rattle.model.specs.Forest.{recordCount}
 use Rattle.model.specs.Lists.{without}
 use Rattle.model.specs.Intern.{Sym, isKey, lookupIn, lookup, unionDeps, alloc, finish}
 use Rattle.model.specs.Intern as intern
@@ -32,7 +32,7 @@ use Rattle.interner.specs.declared.State.{State}
 use Rattle.interner.specs.declared.Step.{Step}
 use Rattle.interner.proofs.Same.{used-sound}
 use Rattle.interner.specs.State.{absOf, Rep}
-use Rattle.interner.specs.Step.{stepTo, Answers, allocOf, finishOf, newDeps, Keyed}
+use Rattle.interner.specs.Step.{stepTo, Answers, allocOf, finishOf, newDeps, Fresh, Keyed, Ready}
 use Rattle.interner.proofs.Sharing.{step-found, answers-as, given-answers}
 
 -- ---- what is found is below what all entries are
@@ -91,8 +91,8 @@ finish-none : (at cur : ℕ) (r : Rec) (ks own : List ℕ) (nd : intern.Node) (s
 unfolding finish
 finish-none at cur r ks own nd s e = rw (e, finish)
 
-module _ (bs ws : List ℕ) (t : Tables) (st : State) (cur : ℕ) (node : Node) (held count : ℕ) (rep : Rep bs ws st)
-    (opened : Open t (st .entries)) where
+module _ {bs ws : List ℕ} {t : Tables} {st : State} {cur : ℕ} {node : Node} {held count : ℕ} (rep : Rep bs ws st)
+    (opened : Open t (st .entries)) (ready : Ready bs ws st cur node held count) where
   abbrev sought : Option ℕ
   sought = lookup (symsOf bs ws (st .symbols)) (recOf bs node) (pendingFrom ws held count)
       (tablesOf ws t (st .entries))
@@ -122,33 +122,37 @@ module _ (bs ws : List ℕ) (t : Tables) (st : State) (cur : ℕ) (node : Node) 
   key-deps (Lambda f) k = refl
   key-deps (Op o) k = refl
 
-  pub made-answers : (ws′ : List ℕ) (r : Step) → Keyed bs ws (st .scopes) cur node → none ≡ sought →
+  pub made-answers : {ws′ : List ℕ} {r : Step} → none ≡ sought →
       Answers bs ws t st (allocOf bs ws t st cur node held count true) ws′ r →
       Answers bs ws t st (finishOf bs ws t st cur node held count) ws′ r
-  made-answers ws′ r keyed f a =
+  made-answers f a =
       answers-as a
       (ap (λ (z : List ℕ). alloc (partsOf node .source) cur (recOf bs node) (pendingFrom ws held count) z true
-      (modelNode bs node) (absOf bs ws t st)) (key-deps node keyed)
+      (modelNode bs node) (absOf bs ws t st)) (key-deps node (ready .keyed))
       ∙ sym (finish-none (partsOf node .source) cur (recOf bs node) (pendingFrom ws held count) (ownOf bs node)
       (modelNode bs node) (absOf bs ws t st) (sym f)))
 
-  -- what `find` answers, and what it may be asked
+  -- what `find` answers
 
-  module _ (p : Parts) (is : p ≡ partsOf node) where
-    pub found-is : (f : Found) (o : Option ℕ) → ((n : ℕ) → Below ws (st .entries) n →
-        foundOf f ≡ lookup (symsOf bs ws n) (keyRec bs (p .source) (p .field)) (pendingFrom ws held count)
-        (tablesOf ws t (st .entries))) →
-        foundOf f ≡ o → o ≡ sought
-    found-is f o h e =
-        sym e ∙ (h (st .symbols) (rep .entries .below)
-        ∙ ap (λ (z : Parts). lookup (symsOf bs ws (st .symbols)) (keyRec bs (z .source) (z .field))
-        (pendingFrom ws held count) (tablesOf ws t (st .entries))) is)
+  pub found-is : (p : Parts) → p ≡ partsOf node → (f : Found) (o : Option ℕ) → ((n : ℕ) → Below ws (st .entries) n →
+      foundOf f ≡ lookup (symsOf bs ws n) (keyRec bs (p .source) (p .field)) (pendingFrom ws held count)
+      (tablesOf ws t (st .entries))) →
+      foundOf f ≡ o → o ≡ sought
+  found-is p is f o h e = sym e ∙ (h (st .symbols) (rep .entries .below) ∙ rw is)
 
-module _ (bs ws : List ℕ) (st : State) (cur : ℕ) (node : Node) (held count : ℕ) (rep : Rep bs ws st) where
-  pub sought-from : (p : Parts) → p ≡ partsOf node → partsOf node .source < recordCount bs → p .source < recordCount bs
-  sought-from p is h = rw is h
+-- ---- what functions ask
 
-  pub sought-entries : Entries bs ws (st .entries)
-  sought-entries =
-      entries-sound bs ws (st .slots) (st .symbols) (st .entries) (used-sound bs ws st rep) (rep .slots .few) (rep .arena .scoped .few)
-      (omega (arith, rep .entries .few, rep .arena .scoped .few)) (rep .entries .below) (rep .entries .hinted)
+pub sought-entries : {bs ws : List ℕ} {st : State} → Rep bs ws st → Entries bs ws (st .entries)
+sought-entries {bs} {ws} {st} rep =
+    let h = rep .arena .scoped in
+    entries-sound bs ws (st .slots) (st .symbols) (st .entries) (used-sound bs ws st rep) (rep .slots .few) (h .few)
+    (omega (arith, rep .entries .few, h .few)) (rep .entries .below) (rep .entries .hinted)
+
+-- the words of the pending children, and that they are symbols
+pub pending-read : {bs ws : List ℕ} {st : State} {cur : ℕ} {node : Node} {held count : ℕ} → Rep bs ws st →
+    Fresh bs ws st cur node held count →
+    ((held + count ≤ PENDING .size) × (WORDS ≤ length ws))
+    × ((k : ℕ) → k < count → getD ws (PENDING .first + held + k) 0 < 512)
+pending-read rep fresh =
+    let h = rep .arena .scoped in
+    ((fresh .pending, h .words), λ k lt. omega (arith, fresh .lower k lt, h .few))

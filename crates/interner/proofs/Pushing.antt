@@ -51,7 +51,7 @@ abbrev pub newSymbol : State → Node → ℕ → ℕ → ℕ → Symbol
 newSymbol st node count levels scope =
     record { node = node; kids = st .slots; count = count; scope = scope; levels = levels }
 
-module _ (bs ws : List ℕ) (st : State) (cur : ℕ) (node : Node) (held count levels scope : ℕ) (rep : Rep bs ws st)
+module _ {bs ws : List ℕ} {st : State} {cur : ℕ} {node : Node} {held count levels : ℕ} (scope : ℕ) (rep : Rep bs ws st)
     (fresh : Fresh bs ws st cur node held count)
     (lv : Levels ws st cur (newDeps bs ws st node held count) levels)
     (place : Placed ws cur levels scope) where
@@ -226,8 +226,8 @@ module _ (bs ws : List ℕ) (st : State) (cur : ℕ) (node : Node) (held count l
 
     -- ---- the whole
 
-    pub pushed : Pushed bs ws st cur node held count levels ws₁ st₁
-    pushed = record {
+    pub pushed-by : {ws′ : List ℕ} → ws′ ≡ ws₁ → Pushed bs ws st cur node held count levels ws′ st₁
+    pushed-by e = rw e (record {
       state = refl;
       rep = rep-pushed;
       leaves = record {
@@ -242,10 +242,7 @@ module _ (bs ws : List ℕ) (st : State) (cur : ℕ) (node : Node) (held count l
       stored = stored;
       hinted = hinted-new;
       is = abs-pushed;
-    }
-
-    pub pushed-by : (ws′ : List ℕ) → ws′ ≡ ws₁ → Pushed bs ws st cur node held count levels ws′ st₁
-    pushed-by ws′ e = rw e pushed
+    })
 
 module _ {bs ws : List ℕ} {st : State} {cur : ℕ} {node : Node} {held count levels : ℕ} {ws′ : List ℕ} {r : State}
     (done : Pushed bs ws st cur node held count levels ws′ r) where

@@ -3,7 +3,7 @@
 -- Assumes nothing.
 use Prim.Native.Nat.{ℕ, _+_, _*_, _<_, _≤_}
 use mathlib.Core.Path.{_≡_, refl, sym, ap, _∙_, subst}
-use mathlib.Core.Bool.{Bool, true}
+use mathlib.Core.Bool.{true}
 use mathlib.Core.List.{List}
 use native.Mathlib.Omega.{arith}
 use borrow.Author.Tests.{lt-ltb, le-ltb, eq-eqb, ne-eqb}
@@ -30,7 +30,7 @@ use Rattle.interner.specs.declared.State.{State}
 use Rattle.interner.specs.declared.Step.{Step}
 use Rattle.interner.specs.State.{absOf, Rep}
 use Rattle.interner.specs.Step.{outOf, given, overFull, withSymbol, entered, stepTo, Leaves, newDeps}
-use Rattle.interner.specs.Step.{Pushed, allocOf, Answers}
+use Rattle.interner.specs.Step.{Fresh, Pushed, allocOf, Answers}
 use Rattle.interner.proofs.Same.{used-sound, Same, abs-same, rep-same, rep-with}
 use Rattle.interner.proofs.Pushing.{pushed-entries, pushed-symbols}
 
@@ -104,34 +104,34 @@ module _ {bs ws : List ℕ} {t : Tables} {st : State} where
   given-answers {s} rep low e =
       rw e (record { rep = rep; leaves = leaves-none ws st; low = low; is = out-given bs ws t st s })
 
-module _ (bs ws : List ℕ) (t : Tables) (st : State) (cur : ℕ) (node : Node) (held count : ℕ) where
-  abbrev pushOf : Bool → intern.State
-  pushOf shared =
-      push cur (recOf bs node) (pendingFrom ws held count) (newDeps bs ws st node held count) shared (modelNode bs node)
+module _ {bs ws : List ℕ} {st : State} {cur : ℕ} {node : Node} {held count : ℕ} (t : Tables) (rep : Rep bs ws st)
+    (fresh : Fresh bs ws st cur node held count) where
+  abbrev allocated : Out
+  allocated = allocOf bs ws t st cur node held count true
+
+  abbrev sharedPush : intern.State
+  sharedPush =
+      push cur (recOf bs node) (pendingFrom ws held count) (newDeps bs ws st node held count) true (modelNode bs node)
       (absOf bs ws t st)
 
-  alloc-good : (shared : Bool) → st .symbols < 512 →
-      allocOf bs ws t st cur node held count shared ≡ good (st .symbols, pushOf shared)
+  alloc-good : st .symbols < 512 → allocated ≡ good (st .symbols, sharedPush)
   unfolding alloc guard
-  alloc-good shared few =
-      rw (syms-length bs ws (st .symbols), lt-ltb (st .symbols) 512 few)
+  alloc-good few = rw (syms-length bs ws (st .symbols), lt-ltb (st .symbols) 512 few)
 
-  alloc-full : (shared : Bool) → 512 ≤ st .symbols →
-      allocOf bs ws t st cur node held count shared ≡ refused 12 (partsOf node .source)
+  alloc-full : 512 ≤ st .symbols → allocated ≡ refused 12 (partsOf node .source)
   unfolding alloc guard
-  alloc-full shared full = rw (syms-length bs ws (st .symbols), le-ltb (st .symbols) 512 full)
+  alloc-full full = rw (syms-length bs ws (st .symbols), le-ltb (st .symbols) 512 full)
 
-  pub full-answers : (shared : Bool) → Rep bs ws st → 512 ≤ st .symbols →
-      Answers bs ws t st (allocOf bs ws t st cur node held count shared) ws (stepTo st node count 512)
-  full-answers shared rep full = rw (step-full st node count 512 (rep .arena .scoped .few) (omega arith)) (record {
+  pub full-answers : 512 ≤ st .symbols → Answers bs ws t st allocated ws (stepTo st node count 512)
+  full-answers full = rw (step-full st node count 512 (rep .arena .scoped .few) (omega arith)) (record {
     rep = rep;
     leaves = leaves-none ws st;
     low = omega arith;
-    is = out-full bs ws t st node ∙ sym (alloc-full shared full);
+    is = out-full bs ws t st node ∙ sym (alloc-full full);
   })
 
-  module _ (ws₁ : List ℕ) (st₁ : State) (levels m : ℕ) (few : st .symbols < 512) (rep : Rep bs ws st)
-      (opened : Open t (st .entries)) (done : Pushed bs ws st cur node held count levels ws₁ st₁) where
+  module _ {ws₁ : List ℕ} {st₁ : State} {levels : ℕ} (m : ℕ) (few : st .symbols < 512) (opened : Open t (st .entries))
+      (done : Pushed bs ws st cur node held count levels ws₁ st₁) where
     abbrev ws₂ : List ℕ
     ws₂ = set ws₁ (ENTRIES .first + st₁ .entries) (st .symbols + 512 * m)
 
@@ -155,7 +155,7 @@ module _ (bs ws : List ℕ) (t : Tables) (st : State) (cur : ℕ) (node : Node) 
     room : ENTRIES .first + st₁ .entries < length ws₁
     room = omega (arith, pushed-entries done, rep .entries .few, done .rep .arena .scoped .words)
 
-    abs-shared : absOf bs ws₂ t (entered st₁) ≡ pushOf true
+    abs-shared : absOf bs ws₂ t (entered st₁) ≡ sharedPush
     unfolding push
     abs-shared =
         let made = done .is t opened in
@@ -204,15 +204,14 @@ module _ (bs ws : List ℕ) (t : Tables) (st : State) (cur : ℕ) (node : Node) 
         step-new st node count (st .symbols) (omega arith) few
         ∙ ap (λ (z : State). given (entered z) (st .symbols)) (sym (done .state))
 
-    pub shared-answers : (p : Parts) → p ≡ partsOf node →
-        m ≡ hint (rowAt bs (p .source) .rec .opcode) (pendingFrom ws held count) →
-        (ws′ : List ℕ) → ws′ ≡ ws₂ →
-        Answers bs ws t st (allocOf bs ws t st cur node held count true) ws′ (stepTo st node count (st .symbols))
-    shared-answers p is h ws′ d = rw (d, step-shared) (record {
+    pub shared-answers : {p : Parts} {ws′ : List ℕ} → p ≡ partsOf node →
+        m ≡ hint (rowAt bs (p .source) .rec .opcode) (pendingFrom ws held count) → ws′ ≡ ws₂ →
+        Answers bs ws t st allocated ws′ (stepTo st node count (st .symbols))
+    shared-answers {p} is h d = rw (d, step-shared) (record {
       rep = rep-shared (own-hint p is h);
       leaves = leaves-then (done .leaves) leaves-entered;
       low = omega (arith, pushed-symbols done);
       is = out-given bs ws₂ t (entered st₁) (st .symbols)
           ∙ ap (λ (z : intern.State). good (st .symbols, z)) abs-shared
-          ∙ sym (alloc-good true few);
+          ∙ sym (alloc-good few);
     })

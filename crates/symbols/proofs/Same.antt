@@ -1,9 +1,9 @@
 -- Laws of the comparisons `same` (lists) and `sameRec` (records), and of records as keys have them. In order: `same`;
--- `sameRec`; `keyRec`; what `same_literal` and `same_rec` read.
+-- `keyRec`; what `same_literal` and `same_rec` read.
 -- Assumes nothing.
 use Prim.Native.Nat.{ℕ, _<_}
 use mathlib.Core.Path.{_≡_, refl, sym, ap, _∙_}
-use mathlib.Core.Bool.{Bool, true, false, and-true}
+use mathlib.Core.Bool.{Bool, true, false, _&&_, and-true}
 use mathlib.Core.List.{List, [], _∷_}
 use native.Mathlib.Omega.{arith}
 use borrow.Author.Tests.{eq-eqb, ne-eqb}
@@ -43,29 +43,6 @@ same-sym a b = go (same a b) refl
     go : (t : Bool) → same a b ≡ t → t ≡ same b a
     go true e = let f : a ≡ b = same-true a b e in rw f (sym (same-refl b))
     go false e = same-differ b a (λ f. true-false (sym (same-refl a) ∙ ap (same a) (sym f) ∙ e))
-
--- ---- records
-
-pub shapes-differ : (a b : Rec) → (a .shape ≡ b .shape → ⊥) → false ≡ sameRec a b
-unfolding sameRec
-shapes-differ a b h = rw (ne-eqb (a .shape) (b .shape) h)
-
-pub opcodes-differ : (a b : Rec) → a .shape ≡ b .shape → (a .opcode ≡ b .opcode → ⊥) → false ≡ sameRec a b
-unfolding sameRec
-opcodes-differ a b s h = rw (eq-eqb (a .shape) (b .shape) s, ne-eqb (a .opcode) (b .opcode) h)
-
-pub auxes-differ : (a b : Rec) → a .shape ≡ b .shape → a .opcode ≡ b .opcode → (a .aux ≡ b .aux → ⊥) →
-    false ≡ sameRec a b
-unfolding sameRec
-auxes-differ a b s o h =
-    rw (eq-eqb (a .shape) (b .shape) s, eq-eqb (a .opcode) (b .opcode) o, ne-eqb (a .aux) (b .aux) h)
-
--- all but the literals agree
-pub literals-decide : (a b : Rec) → a .shape ≡ b .shape → a .opcode ≡ b .opcode → a .aux ≡ b .aux →
-    same (a .lit) (b .lit) ≡ sameRec a b
-unfolding sameRec
-literals-decide a b s o x =
-    rw (eq-eqb (a .shape) (b .shape) s, eq-eqb (a .opcode) (b .opcode) o, eq-eqb (a .aux) (b .aux) x)
 
 -- ---- records as keys have them
 
@@ -109,15 +86,29 @@ module _ (bs : List ℕ) (i : ℕ) where
 pub same-of : (t : Bool) (a b a′ b′ : List ℕ) → t ≡ same a b → a ≡ a′ → b ≡ b′ → t ≡ same a′ b′
 same-of t a b a′ b′ e p q = cc
 
--- what `same_rec` reads of two records, and what it says of them as keys
-told : {s t x y a b : ℕ} → s ≡ x → t ≡ y → a ≡ x → b ≡ y → (s ≡ t → a ≡ b) × (a ≡ b → s ≡ t)
-told p q k l = (λ e. k ∙ (sym p ∙ (e ∙ (q ∙ sym l))), λ e. p ∙ (sym k ∙ (e ∙ (l ∙ sym q))))
+-- ---- what `same_rec` says of two records as keys, by what it reads of them
 
-module _ (bs : List ℕ) (i f j g : ℕ) (s t : ℕ) where
-  pub shapes-read : s ≡ rowAt bs i .rec .shape → t ≡ rowAt bs j .rec .shape →
-      (s ≡ t → keyRec bs i f .shape ≡ keyRec bs j g .shape) × (keyRec bs i f .shape ≡ keyRec bs j g .shape → s ≡ t)
-  shapes-read p q = told p q (key-shape bs i f) (key-shape bs j g)
+module _ (bs : List ℕ) (i f j g : ℕ) {s t : ℕ} (p : s ≡ rowAt bs i .rec .shape) (q : t ≡ rowAt bs j .rec .shape) where
+  abbrev answer : Bool
+  answer = sameRec (keyRec bs i f) (keyRec bs j g)
 
-  pub opcodes-read : s ≡ rowAt bs i .rec .opcode → t ≡ rowAt bs j .rec .opcode →
-      (s ≡ t → keyRec bs i f .opcode ≡ keyRec bs j g .opcode) × (keyRec bs i f .opcode ≡ keyRec bs j g .opcode → s ≡ t)
-  opcodes-read p q = told p q (key-opcode bs i f) (key-opcode bs j g)
+  pub shapes-differ : (s ≡ t → ⊥) → false ≡ answer
+  unfolding sameRec
+  shapes-differ n = rw (key-shape bs i f, key-shape bs j g, ← p, ← q, ne-eqb s t n)
+
+  module _ {o u : ℕ} (d : s ≡ t) (po : o ≡ rowAt bs i .rec .opcode) (qo : u ≡ rowAt bs j .rec .opcode) where
+    heads-decide : answer
+        ≡ (eqb o u && eqb (keyRec bs i f .aux) (keyRec bs j g .aux) && same (keyRec bs i f .lit) (keyRec bs j g .lit))
+    unfolding sameRec
+    heads-decide =
+        rw (key-shape bs i f, key-shape bs j g, ← p, ← q, eq-eqb s t d, key-opcode bs i f, key-opcode bs j g, ← po, ← qo)
+
+    pub opcodes-differ : (o ≡ u → ⊥) → false ≡ answer
+    opcodes-differ n = sym (heads-decide ∙ rw (ne-eqb o u n))
+
+    module _ {a b : ℕ} (e : o ≡ u) (pa : a ≡ keyRec bs i f .aux) (qa : b ≡ keyRec bs j g .aux) where
+      pub auxes-differ : (a ≡ b → ⊥) → false ≡ answer
+      auxes-differ n = sym (heads-decide ∙ rw (eq-eqb o u e, ← pa, ← qa, ne-eqb a b n))
+
+      pub literals-decide : {r : Bool} → a ≡ b → r ≡ same (keyRec bs i f .lit) (keyRec bs j g .lit) → r ≡ answer
+      literals-decide x h = h ∙ sym (heads-decide ∙ rw (eq-eqb o u e, ← pa, ← qa, eq-eqb a b x))

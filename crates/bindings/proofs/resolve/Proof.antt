@@ -14,9 +14,6 @@ Inv-loop work n id k₀ k = (k ≤ n) × (resolve (envOf work k) id ≡ resolve 
 abbrev μ-loop : tie.MeasureT-loop
 μ-loop work n id k₀ k = k
 
-loop-holds : tie.Need-loop-holds Inv-loop μ-loop
-loop-holds c = (omega arith, refl)
-
 returns : tie.Need-returns Inv-loop μ-loop
 returns c =
     let l = c .before .before .before .before .loop in
@@ -27,11 +24,9 @@ loop-again c =
     let l = c .before .before .before .loop in
     (omega arith, resolve-miss _ _ (l .k) (c .before .before .loop-test .taken) (c .if1 .left) ∙ l .inv .1)
 
-returns-2 : tie.Need-returns-2 Inv-loop μ-loop
-returns-2 c = resolve-none _ _ _ (c .loop-test .left) ∙ c .before .loop .inv .1
-
 pub resolve-spec : {M : Type 1} → statement M
 resolve-spec =
-    tie.close (tie.spec Inv-loop μ-loop loop-holds (λ c. omega arith) (λ c. omega arith) (λ c. omega arith)
+    tie.close (tie.spec Inv-loop μ-loop (λ c. (omega arith, refl)) (λ c. omega arith) (λ c. omega arith) (λ c. omega arith)
     (λ c. omega arith) (λ c. omega arith) (λ c. omega arith) (λ c. omega arith) (λ c. omega arith)
-    (λ c. omega arith) (λ c. omega arith) returns (λ c. omega arith) loop-again returns-2)
+    (λ c. omega arith) (λ c. omega arith) returns (λ c. omega arith) loop-again
+    (λ c. resolve-none _ _ _ (c .loop-test .left) ∙ c .before .loop .inv .1))

@@ -1,9 +1,7 @@
 -- `interner::alloc` meets its contract. Assumes nothing.
-use mathlib.Core.Bool.{true}
 use native.Mathlib.Omega.{arith}
 use borrow.Author.Needs.{needs}
-use denote.Ref.{now}
-use Rattle.interner.proofs.Keys.{sought-from}
+use Rattle.interner.proofs.Keys.{pending-read}
 use Rattle.interner.proofs.Pushing.{pushed-entries}
 use Rattle.interner.proofs.Sharing.{shared-answers, full-answers}
 use Rattle.interner.proofs.alloc.Statement.{statement}
@@ -13,19 +11,8 @@ hint-of-requires : tie.Need-hint-of-requires
 hint-of-requires c κs =
     let q = c .before .before in
     let s = q .before .before .before .before in
-    let a = s .args in
-    let rep = s .pre .1 .0 in
-    let fresh = s .pre .1 .1 .0 in (
-      s .pre .0,
-      (
-        sought-from (now (a .forest)) (now (a .work)) (a .st) (a .cur) (a .node) (a .held) (a .count) rep
-            (q .parts-of .result) (q .parts-of .ensures) (fresh .from),
-        (
-          (fresh .pending, omega (arith, rep .arena .scoped .words)),
-          λ k lt. let l = fresh .lower k lt in omega (arith, l, rep .arena .scoped .few),
-        ),
-      ),
-    )
+    let fresh = s .pre .1 .1 .0 in
+    (s .pre .0, (rw (q .parts-of .ensures) (fresh .from), pending-read (s .pre .1 .0) fresh))
 
 push-requires : tie.Need-push-requires
 push-requires c κs =
@@ -51,18 +38,13 @@ returns c =
     let q = e .before .before .before .before .before in
     let m = q .before .before in
     let p = m .before .before .before in
-    let s = p .before .before .before .before in
-    let a = s .args in
-    λ t opened. shared-answers (now (a .forest)) (now (a .work)) t (a .st) (a .cur) (a .node) (a .held) (a .count) _
-    (q .push .result) (a .levels) (m .hint-of .result) (p .before .if1 .taken) (s .pre .1 .0) opened (q .push .ensures)
-    (p .parts-of .result) (p .parts-of .ensures) (m .hint-of .ensures .0) _ (e .enter .ensures)
+    let g = p .before .before .before .before .pre .1 in
+    λ t opened. shared-answers t (g .0) (g .1 .0) (m .hint-of .result) (p .before .if1 .taken) opened (q .push .ensures)
+    (p .parts-of .ensures) (m .hint-of .ensures .0) (e .enter .ensures)
 
 returns-2 : tie.Need-returns-2
 returns-2 c =
-    let s = c .before .before .before in
-    let a = s .args in
-    λ t opened. full-answers (now (a .forest)) (now (a .work)) t (a .st) (a .cur) (a .node) (a .held) (a .count) true
-    (s .pre .1 .0) (c .if1 .left)
+    let g = c .before .before .before .pre .1 in λ t opened. full-answers t (g .0) (g .1 .0) (c .if1 .left)
 
 pub alloc-spec : {M : Type 1} → statement M
 alloc-spec =

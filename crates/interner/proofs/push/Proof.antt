@@ -2,7 +2,6 @@
 use Prim.Native.Nat.{_+_}
 use native.Mathlib.Omega.{arith}
 use borrow.Author.Needs.{needs}
-use denote.Ref.{now}
 use Rattle.scopes.proofs.Open.{nested-less}
 use Rattle.interner.proofs.Pushing.{records-few, scope-low, room, pushed-by}
 use Rattle.interner.proofs.push.Statement.{statement}
@@ -19,20 +18,20 @@ placement-requires c κs =
 
 cast-scope : tie.Need-cast-t16
 cast-scope c =
-    let s = c .before .before .before .before in
-    let p = s .pre .1 in
-    let low = scope-low (now (s .args .forest)) (now (s .args .work)) (s .args .st) (s .args .cur) (s .args .node)
-    (s .args .held) (s .args .count) (s .args .levels) (c .placement .result) (p .0) (p .1 .1 .0) (p .1 .1 .1)
-    (c .placement .ensures) in
-    omega (arith, low, p .0 .arena .scoped .few-scopes)
+    let p = c .before .before .before .before .pre .1 in
+    omega (
+      arith,
+      scope-low (c .placement .result) (p .0) (p .1 .1 .0) (p .1 .1 .1) (c .placement .ensures),
+      p .0 .arena .scoped .few-scopes,
+    )
 
 make-requires : tie.Need-make-requires
 make-requires c κs =
-    let s = c .before .before .before .before .before in
+    let q = c .before in
+    let s = q .before .before .before .before in
     let p = s .pre .1 in
-    room (now (s .args .forest)) (now (s .args .work)) (s .args .st) (s .args .cur) (s .args .node) (s .args .held)
-    (s .args .count) (s .args .levels) (c .before .placement .result) (p .0) (p .1 .1 .0) (p .1 .1 .1)
-    (c .before .placement .ensures) (records-few _ (s .pre .0)) (p .1 .0)
+    room (q .placement .result) (p .0) (p .1 .1 .0) (p .1 .1 .1) (q .placement .ensures) (records-few _ (s .pre .0))
+    (p .1 .0)
 
 returns : tie.Need-returns
 returns c =
@@ -40,9 +39,8 @@ returns c =
     let q = m .before .before in
     let s = q .before .before .before .before in
     let p = s .pre .1 in
-    pushed-by (now (s .args .forest)) (now (s .args .work)) (s .args .st) (s .args .cur) (s .args .node) (s .args .held)
-    (s .args .count) (s .args .levels) (q .placement .result) (p .0) (p .1 .1 .0) (p .1 .1 .1) (q .placement .ensures)
-    (records-few _ (s .pre .0)) (p .1 .0) _ (m .make .ensures)
+    pushed-by (q .placement .result) (p .0) (p .1 .1 .0) (p .1 .1 .1) (q .placement .ensures)
+    (records-few _ (s .pre .0)) (p .1 .0) (m .make .ensures)
 
 pub push-spec : {M : Type 1} → statement M
 push-spec =

@@ -19,9 +19,6 @@ abbrev μ-loop : tie.MeasureT-loop
 returns : tie.Need-returns Inv-loop μ-loop
 returns c = let a = c .before .args in same-differ (now (a .a)) (now (a .b)) (λ e. c .if1 .taken (ap length e))
 
-loop-holds : tie.Need-loop-holds Inv-loop μ-loop
-loop-holds c = (omega arith, c .if1 .left, below-none _)
-
 returns-2 : tie.Need-returns-2 Inv-loop μ-loop
 returns-2 c =
     let l = c .before .before .before .before .loop in
@@ -41,5 +38,5 @@ returns-3 c =
 
 pub same-bytes-spec : {M : Type 1} → statement M
 same-bytes-spec =
-    tie.close (tie.spec Inv-loop μ-loop returns loop-holds (λ c. omega arith) (λ c. omega arith) returns-2
+    tie.close (tie.spec Inv-loop μ-loop returns (λ c. (omega arith, c .if1 .left, below-none _)) (λ c. omega arith) (λ c. omega arith) returns-2
     (λ c. omega arith) (λ c. omega arith) loop-again returns-3)

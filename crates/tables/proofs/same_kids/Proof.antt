@@ -22,9 +22,6 @@ returns c =
     let a = c .before .args in
     runs-length (now (a .work)) (SLOTS .first + a .kids) (PENDING .first + a .held) (a .n) (a .count) (c .if1 .taken)
 
-loop-holds : tie.Need-loop-holds Inv-loop μ-loop
-loop-holds c = (omega arith, c .if1 .left, below-none _)
-
 returns-2 : tie.Need-returns-2 Inv-loop μ-loop
 returns-2 c =
     let l = c .before .before .before .before .loop in
@@ -46,6 +43,6 @@ returns-3 c =
 
 pub same-kids-spec : {M : Type 1} → statement M
 same-kids-spec =
-    tie.close (tie.spec Inv-loop μ-loop returns loop-holds (λ c. omega arith) (λ c. omega arith) (λ c. omega arith)
+    tie.close (tie.spec Inv-loop μ-loop returns (λ c. (omega arith, c .if1 .left, below-none _)) (λ c. omega arith) (λ c. omega arith) (λ c. omega arith)
     (λ c. omega arith) (λ c. omega arith) (λ c. omega arith) (λ c. omega arith) (λ c. omega arith) returns-2
     (λ c. omega arith) (λ c. omega arith) loop-again returns-3)
