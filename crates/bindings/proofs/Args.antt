@@ -12,12 +12,12 @@ use Rattle.laws.proofs.ArgLists.{args-length}
 use Rattle.laws.proofs.Ranges.{range-length}
 use Rattle.shape.specs.Args.{Left, nextArg}
 use Rattle.shape.proofs.Args.{args-none, down-next, down-args}
-use Rattle.bindings.specs.Bindings.{bound, pairsOf, boundAll}
+use Rattle.bindings.specs.Bindings.{bound, argBindings, boundAll}
 use Rattle.bindings.proofs.Laws.{pairs-length}
 
 -- n arguments of a literal, with the symbols from `first` on
 abbrev pub argPairs : ℕ → List ℕ → ℕ → List (ℕ × ℕ)
-argPairs n lit first = pairsOf (argsOf n lit) (range first n)
+argPairs n lit first = argBindings (argsOf n lit) (range first n)
 
 pub arg-pairs-length : (n : ℕ) (lit : List ℕ) (first : ℕ) → length (argPairs n lit first) ≡ n
 arg-pairs-length n lit first =
@@ -53,7 +53,7 @@ module _ (lit : List ℕ) (n top first : ℕ) (ws₀ : List ℕ) where
         step =
             let z : k ≡ suc (k - 1) = omega arith in
             let rest = argPairs (k - 1) (drop next lit) (suc symbol) in
-            ap₂ (λ (xs : List (ℕ × List ℕ)) (m : ℕ). boundAll ws top (pairsOf xs (range symbol m)))
+            ap₂ (λ (xs : List (ℕ × List ℕ)) (m : ℕ). boundAll ws top (argBindings xs (range symbol m)))
             (down-args lt (h .left) e) z
             ∙ ap (λ (j : ℕ). boundAll (bound ws (top + j) (u32 (drop at lit)) symbol) top rest)
             (arg-pairs-length (k - 1) (drop next lit) (suc symbol))

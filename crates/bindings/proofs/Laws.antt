@@ -14,7 +14,7 @@ use Rattle.laws.specs.Stack.{stackOf}
 use Rattle.laws.proofs.Frame.{frame-none, frame-then, frame-wider, frame-below, frame-store}
 use Rattle.laws.proofs.Stack.{stack-kept, search-none, search-hit, search-miss}
 use Rattle.regions.specs.Regions.{BINDINGS}
-use Rattle.bindings.specs.Bindings.{entryAt, bound, envOf, pairsOf, boundAll}
+use Rattle.bindings.specs.Bindings.{entryAt, bound, envOf, argBindings, boundAll}
 
 -- ---- the search, from the newest entry of k downwards
 
@@ -112,12 +112,12 @@ env-all ws n (b ∷ bs) le =
     (ap (λ (x : ℕ × ℕ). x ∷ envOf (boundAll us n bs) k) new
     ∙ ap (λ (x : Env). b ∷ x) (env-all us n bs room ∙ ap (λ (x : Env). bs ++ x) old))
 
-bindArgs-pairs : (xs : List (ℕ × List ℕ)) (ss : List ℕ) (env : Env) → bindArgs xs ss env ≡ pairsOf xs ss ++ env
+bindArgs-pairs : (xs : List (ℕ × List ℕ)) (ss : List ℕ) (env : Env) → bindArgs xs ss env ≡ argBindings xs ss ++ env
 bindArgs-pairs [] ss env = refl
 bindArgs-pairs (a ∷ xs) [] env = refl
 bindArgs-pairs (a ∷ xs) (s ∷ ss) env = ap (λ (x : Env). (a .0, s) ∷ x) (bindArgs-pairs xs ss env)
 
-pub pairs-length : (xs : List (ℕ × List ℕ)) (ss : List ℕ) → length ss ≡ length xs → length (pairsOf xs ss) ≡ length xs
+pub pairs-length : (xs : List (ℕ × List ℕ)) (ss : List ℕ) → length ss ≡ length xs → length (argBindings xs ss) ≡ length xs
 pairs-length [] ss e = refl
 pairs-length (a ∷ xs) [] e = absurd (omega arith)
 pairs-length (a ∷ xs) (s ∷ ss) e = ap suc (pairs-length xs ss (omega arith))
@@ -125,9 +125,9 @@ pairs-length (a ∷ xs) (s ∷ ss) e = ap suc (pairs-length xs ss (omega arith))
 -- the environment of a lambda's body
 pub env-args : (ws : List ℕ) (n : ℕ) (xs : List (ℕ × List ℕ)) (ss : List ℕ) → length ss ≡ length xs
     → BINDINGS .first + 2 * (n + length xs) ≤ length ws
-    → envOf (boundAll ws n (pairsOf xs ss)) (n + length xs) ≡ bindArgs xs ss (envOf ws n)
+    → envOf (boundAll ws n (argBindings xs ss)) (n + length xs) ≡ bindArgs xs ss (envOf ws n)
 env-args ws n xs ss e le =
     let p = pairs-length xs ss e in
-    ap (λ (m : ℕ). envOf (boundAll ws n (pairsOf xs ss)) (n + m)) (sym p)
-    ∙ env-all ws n (pairsOf xs ss) (omega arith)
+    ap (λ (m : ℕ). envOf (boundAll ws n (argBindings xs ss)) (n + m)) (sym p)
+    ∙ env-all ws n (argBindings xs ss) (omega arith)
     ∙ sym (bindArgs-pairs xs ss (envOf ws n))

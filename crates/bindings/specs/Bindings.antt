@@ -19,10 +19,10 @@ unfoldable pub envOf : List ℕ → ℕ → Env
 envOf ws n = stackOf (entryAt ws) n
 
 -- a lambda's arguments as bindings, the first argument first
-abbrev pub pairsOf : List (ℕ × List ℕ) → List ℕ → Env
-pairsOf [] ss = []
-pairsOf (a ∷ xs) [] = []
-pairsOf (a ∷ xs) (s ∷ ss) = (a .0, s) ∷ pairsOf xs ss
+abbrev pub argBindings : List (ℕ × List ℕ) → List ℕ → Env
+argBindings [] ss = []
+argBindings (a ∷ xs) [] = []
+argBindings (a ∷ xs) (s ∷ ss) = (a .0, s) ∷ argBindings xs ss
 
 -- bindings put above n entries, the first of them last: of m, binding j becomes entry n + m - 1 - j
 unfoldable pub boundAll : List ℕ → ℕ → Env → List ℕ

@@ -13,7 +13,7 @@ ghost use Rattle.laws.specs.Range.{range};
 ghost use Rattle.shape.specs.Args.{Left};
 ghost use Rattle.walk.specs.Walk.{recAt, WellFormed};
 ghost use Rattle.regions.specs.Regions.{WORDS, BINDINGS};
-ghost use Rattle.bindings.specs.Bindings.{envOf, bound, pairsOf, boundAll};
+ghost use Rattle.bindings.specs.Bindings.{envOf, bound, argBindings, boundAll};
 ghost use Rattle.bindings.specs.Made.{ArgsBound, DefBound};
 
 // The symbol of an id among the first n entries, by the newest that has it. Rules out: by the oldest; the id itself.
@@ -48,7 +48,7 @@ fn bind_all(lit: &[u8], work: &mut [u32], n: usize, top: usize, first: u32)
     requires { ⌜ Left n (now lit) 0 ⌝ }
     requires { ⌜ (n ≤ 15) × (top + n ≤ 1200) × (WORDS ≤ length (now work)) × (first ≤ 512) ⌝ }
     ensures { λ _. ⌜ now (work .exit)
-        ≡ boundAll (now (work .entry)) top (pairsOf (argsOf n (now (lit .entry))) (range first n)) ⌝ }
+        ≡ boundAll (now (work .entry)) top (argBindings (argsOf n (now (lit .entry))) (range first n)) ⌝ }
 {
     let mut at = 0;
     let mut k = n;

@@ -26,7 +26,7 @@ use Rattle.symbols.specs.Words.{pendingFrom}
 use Rattle.symbols.specs.Symbols.{symsOf, keyRec, recOf, ownOf, modelNode}
 use Rattle.tables.specs.declared.Found.{Found}
 use Rattle.tables.specs.declared.Tables.{Tables}
-use Rattle.tables.specs.Tables.{foundOf, entries, tables, tablesOf, Open, Entries, Below}
+use Rattle.tables.specs.Tables.{foundOf, entries, tables, tablesOf, Open, Entries, EntriesBelow}
 use Rattle.tables.proofs.Stack.{entries-sound}
 use Rattle.interner.specs.declared.State.{State}
 use Rattle.interner.specs.declared.Step.{Step}
@@ -62,7 +62,7 @@ module _ (ss : List Sym) (r : Rec) (ks : List ℕ) (n : ℕ) where
       go (some j) f rest e = in-low t i (b .0) (f ∙ e)
       go none f rest e = rest e
 
-module _ (ws : List ℕ) (top n : ℕ) (below : Below ws top n) where
+module _ (ws : List ℕ) (top n : ℕ) (below : EntriesBelow ws top n) where
   entries-low : (start k : ℕ) → k ≤ top - start → Under n (entries ws start k)
   unfolding entries stackOf
   entries-low start zero le a h = absurd h
@@ -134,7 +134,7 @@ module _ {bs ws : List ℕ} {t : Tables} {st : State} {cur : ℕ} {node : Node} 
 
   -- what `find` answers
 
-  pub found-is : (p : Parts) → p ≡ partsOf node → (f : Found) (o : Option ℕ) → ((n : ℕ) → Below ws (st .entries) n →
+  pub found-is : (p : Parts) → p ≡ partsOf node → (f : Found) (o : Option ℕ) → ((n : ℕ) → EntriesBelow ws (st .entries) n →
       foundOf f ≡ lookup (symsOf bs ws n) (keyRec bs (p .source) (p .field)) (pendingFrom ws held count)
       (tablesOf ws t (st .entries))) →
       foundOf f ≡ o → o ≡ sought

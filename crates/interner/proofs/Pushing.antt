@@ -23,7 +23,7 @@ use Rattle.key.specs.declared.Node.{Node}
 use Rattle.key.specs.declared.Symbol.{Symbol}
 use Rattle.key.specs.Key.{symbolAt}
 use Rattle.symbols.specs.Words.{pendingFrom}
-use Rattle.symbols.specs.Symbols.{symsOf, symOf, recOf, modelNode, made, Room, AllSound}
+use Rattle.symbols.specs.Symbols.{symsOf, symOf, recOf, modelNode, made, RoomFor, AllSound}
 use Rattle.symbols.specs.Sourced.{Sourced}
 use Rattle.symbols.proofs.Laws.{syms-length, made-length, made-before, made-between, made-after, made-symbol, syms-made}
 use Rattle.symbols.proofs.Laws.{made-kids, sound-made, sounds-more}
@@ -37,7 +37,7 @@ use Rattle.memo.specs.Memo.{memoOf}
 use Rattle.memo.proofs.Below.{memo-more}
 use Rattle.graph.specs.Graph.{Arena}
 use Rattle.interner.specs.declared.State.{State}
-use Rattle.interner.specs.Levels.{depsAt, Levelled, ArgLevels}
+use Rattle.interner.specs.Levels.{storedDeps, Levelled, ArgLevels}
 use Rattle.interner.specs.State.{absOf, Rep}
 use Rattle.interner.specs.Step.{Fresh, Stored, Levels, Pushed, newDeps, withSymbol}
 use Rattle.interner.proofs.Tracks.{climb-low}
@@ -79,7 +79,7 @@ module _ {bs ws : List ℕ} {st : State} {cur : ℕ} {node : Node} {held count l
     abbrev ws₁ : List ℕ
     ws₁ = made ws (st .symbols) held y
 
-    pub room : Room ws (st .symbols) held y
+    pub room : RoomFor ws (st .symbols) held y
     room = record {
       few = few;
       slots = fresh .slots;
@@ -156,7 +156,7 @@ module _ {bs ws : List ℕ} {st : State} {cur : ℕ} {node : Node} {held count l
     hinted-new =
         rw (made-kids ws (st .symbols) held y room, made-symbol ws (st .symbols) held y room)
 
-    deps-new : depsAt bs ws₁ (st .symbols) ≡ deps
+    deps-new : storedDeps bs ws₁ (st .symbols) ≡ deps
     unfolding symOf
     deps-new =
         ap (λ (l : List Sym). symAt l (st .symbols) .deps) syms-new

@@ -28,7 +28,7 @@ use Rattle.scopes.specs.Levels.{has}
 use Rattle.scopes.specs.Scopes.{scopeWord, levelOf, argsIn, scopesOf, outward}
 use Rattle.scopes.proofs.Laws.{scope-around}
 use Rattle.interner.specs.declared.State.{State}
-use Rattle.interner.specs.Levels.{anyHas, depsAt, Bound, InForce}
+use Rattle.interner.specs.Levels.{anyHas, storedDeps, Bound, InForce}
 use Rattle.interner.specs.State.{Rep}
 use Rattle.interner.specs.Step.{Levels, newDeps, BodyOf, Ready, keyLevels}
 use Rattle.interner.proofs.Levels.{anyHas-same, anyHas-deps, anyHas-without, levels-without, unionDeps-from}
@@ -47,7 +47,7 @@ module _ (bs ws : List ℕ) (st : State) (rep : Rep bs ws st) (held count : ℕ)
   kid-low : (k : ℕ) → In k kids → k < st .symbols
   kid-low = words-under ws (PENDING .first + held) count (st .symbols) lower
 
-  kid-deps : (k : ℕ) → k < st .symbols → symAt syms k .deps ≡ depsAt bs ws k
+  kid-deps : (k : ℕ) → k < st .symbols → symAt syms k .deps ≡ storedDeps bs ws k
   kid-deps k lt = ap (λ (z : Sym). z .deps) (sym-kept bs ws (st .symbols) (suc k) k lt (omega arith))
 
   pub deps-low : (a : ℕ) → In a (unionDeps syms kids) → a < st .symbols

@@ -22,7 +22,7 @@ use Rattle.memo.specs.Memo.{memoOf}
 use Rattle.memo.proofs.Laws.{memo-agree}
 use Rattle.graph.proofs.Laws.{within-sound, Still, still-above, node-agree, arena-agree}
 use Rattle.interner.specs.declared.State.{State}
-use Rattle.interner.specs.Levels.{depsAt, Levelled, AtLevel, ArgLevels, AllLevelled}
+use Rattle.interner.specs.Levels.{storedDeps, Levelled, AtLevel, ArgLevels, AllLevelled}
 use Rattle.interner.specs.State.{absOf, Slotted, Entered, Remembered, Rep}
 use Rattle.interner.proofs.Levels.{anyHas-same}
 
@@ -57,7 +57,7 @@ module _ (bs ws ws′ : List ℕ) (st : State) (rep : Rep bs ws st) (same : Same
   sourced-same : AllSourced bs ws′ (st .symbols)
   sourced-same s lt = rw (symbol-same s lt) (rep .sourced s lt)
 
-  deps-same : (s : ℕ) → s < st .symbols → depsAt bs ws′ s ≡ depsAt bs ws s
+  deps-same : (s : ℕ) → s < st .symbols → storedDeps bs ws′ s ≡ storedDeps bs ws s
   deps-same s lt =
       ap (λ (l : List Sym). symAt l s .deps)
       (syms-agree bs ws ws′ (st .slots) (same .still .slots) (suc s) (λ k l r. same .still .own k l (omega arith))
@@ -66,11 +66,11 @@ module _ (bs ws ws′ : List ℕ) (st : State) (rep : Rep bs ws st) (same : Same
   levelled-same : (s : ℕ) → s < st .symbols → Levelled bs ws′ s
   levelled-same s lt =
       let h = rep .levels .each s lt in
-      let low : (a : ℕ) → In a (depsAt bs ws s) → symbolAt ws′ a ≡ symbolAt ws a =
+      let low : (a : ℕ) → In a (storedDeps bs ws s) → symbolAt ws′ a ≡ symbolAt ws a =
       λ a i. let l : a < suc s = h .low a i in symbol-same a (omega arith) in
       record {
         low = rw (deps-same s lt) (h .low);
-        is = λ j. rw (deps-same s lt, symbol-same s lt) (h .is j ∙ sym (anyHas-same ws ws′ j (depsAt bs ws s) low));
+        is = λ j. rw (deps-same s lt, symbol-same s lt) (h .is j ∙ sym (anyHas-same ws ws′ j (storedDeps bs ws s) low));
       }
 
   args-same : ArgLevels ws′ (st .symbols) (st .scopes)

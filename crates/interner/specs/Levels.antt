@@ -24,13 +24,13 @@ anyHas ws j [] = false
 anyHas ws j (a ∷ more) = has (symbolAt ws a .levels) j || anyHas ws j more
 
 -- what symbol s depends on
-abbrev pub depsAt : List ℕ → List ℕ → ℕ → List ℕ
-depsAt bs ws s = symAt (symsOf bs ws (suc s)) s .deps
+abbrev pub storedDeps : List ℕ → List ℕ → ℕ → List ℕ
+storedDeps bs ws s = symAt (symsOf bs ws (suc s)) s .deps
 
 -- symbol s depends on no higher symbols, and its levels are theirs
 pub record Levelled (bs ws : List ℕ) (s : ℕ) : Type 0 where
-  pub low : Every (λ a. a < suc s) (depsAt bs ws s)
-  pub is : (j : ℕ) → has (symbolAt ws s .levels) j ≡ anyHas ws j (depsAt bs ws s)
+  pub low : Every (λ a. a < suc s) (storedDeps bs ws s)
+  pub is : (j : ℕ) → has (symbolAt ws s .levels) j ≡ anyHas ws j (storedDeps bs ws s)
 
 -- symbol x is one of the first n, and k is its one level
 pub record AtLevel (ws : List ℕ) (n k x : ℕ) : Type 0 where

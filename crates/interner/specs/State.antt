@@ -12,7 +12,7 @@ use Rattle.laws.specs.Members.{Once}
 use Rattle.symbols.specs.Symbols.{symsOf}
 use Rattle.symbols.specs.Sourced.{AllSourced}
 use Rattle.tables.specs.declared.Tables.{Tables}
-use Rattle.tables.specs.Tables.{tablesOf, first, Open, Below, Hinted}
+use Rattle.tables.specs.Tables.{tablesOf, first, Open, EntriesBelow, Hinted}
 use Rattle.scopes.specs.Scopes.{scopesOf}
 use Rattle.memo.specs.Memo.{memoOf, keysIn, MemoBelow}
 use Rattle.interner.specs.declared.State.{State}
@@ -39,7 +39,7 @@ pub record Slotted (bs ws : List ℕ) (used n : ℕ) : Type 0 where
 -- the tables' entries are symbols below n, with the hints of their keys
 pub record Entered (bs ws : List ℕ) (top n : ℕ) : Type 0 where
   pub few : top ≤ n
-  pub below : Below ws top n
+  pub below : EntriesBelow ws top n
   pub hinted : Hinted bs ws top
 
 -- k pairs of projections are remembered, of symbols below n, of each once

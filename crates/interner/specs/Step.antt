@@ -79,12 +79,12 @@ abbrev pub newStep : State → Node → ℕ → ℕ → Bool → Step
 newStep st node count s true = given (entered (withSymbol st count)) s
 newStep st node count s false = overFull st node
 
-abbrev pub stepOf : State → Node → ℕ → ℕ → Bool → Step
-stepOf st node count s true = given st s
-stepOf st node count s false = newStep st node count s (ltb s 512)
+abbrev pub oldOrNew : State → Node → ℕ → ℕ → Bool → Step
+oldOrNew st node count s true = given st s
+oldOrNew st node count s false = newStep st node count s (ltb s 512)
 
 unfoldable pub stepTo : State → Node → ℕ → ℕ → Step
-stepTo st node count s = stepOf st node count s (ltb s (st .symbols))
+stepTo st node count s = oldOrNew st node count s (ltb s (st .symbols))
 
 -- what a step from words ws and state st to words ws′ leaves: pending symbols and bindings, and all words after them;
 -- scopes and readings; entries are only added

@@ -15,7 +15,7 @@ use Rattle.key.specs.declared.Parts.{Parts}
 use Rattle.key.specs.declared.Symbol.{Symbol}
 use Rattle.key.specs.declared.Node.{Node}
 use Rattle.key.specs.declared.Node.the-variants.{Const, Unparsed, Arg, Lambda, Op}
-use Rattle.key.specs.Key.{Fits, partsOf, choose, nodeFrom, head, middle, tail, put5, storeSymbol}
+use Rattle.key.specs.Key.{FitsWords, partsOf, choose, nodeFrom, head, middle, tail, put5, storeSymbol}
 use Rattle.key.specs.Key.{partsIn, symbolOf, symbolAt}
 use Rattle.laws.specs.Frame.{Agree}
 use Rattle.laws.proofs.Runs.{sets-run, sets-before, sets-after}
@@ -30,7 +30,7 @@ tag-small (Lambda f) = omega arith
 tag-small (Op o) = omega arith
 
 -- what `store` shows of the parts that it packs
-module _ (p : Parts) (y : Symbol) (is : p ≡ partsOf (y .node)) (fits : Fits y) where
+module _ (p : Parts) (y : Symbol) (is : p ≡ partsOf (y .node)) (fits : FitsWords y) where
   pub head-fits : (p .tag < 8) × (p .source < 256) × (p .field < 4) × (y .count < 512)
   head-fits = rw is (tag-small (y .node), fits .from, fits .field, fits .count)
 
@@ -157,7 +157,7 @@ module _ (ws : List ℕ) (at a b c d e : ℕ) where
   put5-after k h = ap (λ (x : List ℕ). getD x k 0) put5-sets ∙ sets-after five ws at k h
 
 -- load after store
-pub load-store : (ws : List ℕ) (s : ℕ) (y : Symbol) → Fits y → 5 * s + 5 ≤ length ws →
+pub load-store : (ws : List ℕ) (s : ℕ) (y : Symbol) → FitsWords y → 5 * s + 5 ≤ length ws →
     symbolAt (storeSymbol ws s y) s ≡ y
 unfolding storeSymbol symbolAt
 load-store ws s y fits h =

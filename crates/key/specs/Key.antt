@@ -107,7 +107,7 @@ symbolAt ws s =
 
 -- ---- which symbols fit their words
 
-pub record Fits (y : Symbol) : Type 0 where
+pub record FitsWords (y : Symbol) : Type 0 where
   pub from : partsOf (y .node) .source < 256
   pub field : partsOf (y .node) .field < 4
   pub branches : partsOf (y .node) .branches < 4

@@ -4,7 +4,7 @@
 ghost use mathlib.Core.Path.{_≡_};
 ghost use Prim.Native.Nat.{_+_, _*_, _<_, _≤_, _/_, _%_};
 ghost use lib.ListN.{length};
-ghost use Rattle.key.specs.Key.{Fits, leafParts, partsOf, nodeFrom, head, middle, tail};
+ghost use Rattle.key.specs.Key.{FitsWords, leafParts, partsOf, nodeFrom, head, middle, tail};
 ghost use Rattle.key.specs.Key.{partsIn, put5, storeSymbol, symbolAt};
 
 // A constant, an unparsed node or an argument: the record that it was made for.
@@ -173,7 +173,7 @@ fn put(work: &mut [u32], at: usize, a: u32, b: u32, c: u32, d: u32, e: u32)
 // y as symbol s. Rules out: another symbol's words; one part packed over another, as the count over the field.
 pub fn store(work: &mut [u32], s: usize, y: Symbol)
     requires { ⌜ 5 * s + 5 ≤ length (now work) ⌝ }
-    requires { ⌜ Fits y ⌝ }
+    requires { ⌜ FitsWords y ⌝ }
     ensures { λ _. ⌜ now (work .exit) ≡ storeSymbol (now (work .entry)) s y ⌝ }
 {
     let node = y.node;

@@ -20,7 +20,7 @@ use Rattle.regions.specs.Regions.{SLOTS, PENDING}
 use Rattle.key.proofs.Laws.{symbol-agree, load-store, store-length, store-before, store-after}
 use Rattle.symbols.specs.Words.{wordsFrom, slotsFrom, pendingFrom}
 use Rattle.symbols.specs.Symbols.{recOf, symOf, symFrom, symsOf, kidsAt}
-use Rattle.symbols.specs.Symbols.{made, Room, Sound, AllSound}
+use Rattle.symbols.specs.Symbols.{made, RoomFor, Sound, AllSound}
 use Rattle.symbols.proofs.Words.{words-length, words-at, words-agree, words-stored}
 
 -- ---- how many
@@ -141,7 +141,7 @@ module _ (ws : List ℕ) (n held : ℕ) (y : Symbol) where
 
 -- ---- one more symbol
 
-module _ (ws : List ℕ) (n held : ℕ) (y : Symbol) (room : Room ws n held y) where
+module _ (ws : List ℕ) (n held : ℕ) (y : Symbol) (room : RoomFor ws n held y) where
   pub made-symbol : symbolAt (made ws n held y) n ≡ y
   unfolding made
   made-symbol =

@@ -17,7 +17,7 @@ use Rattle.record.specs.Record.{rowAt}
 use Rattle.key.specs.declared.Symbol.{Symbol}
 use Rattle.key.specs.declared.Node.{Node}
 use Rattle.key.specs.declared.Node.the-variants.{Const, Unparsed, Arg, Lambda, Op}
-use Rattle.key.specs.Key.{Fits, partsOf, symbolAt, storeSymbol}
+use Rattle.key.specs.Key.{FitsWords, partsOf, symbolAt, storeSymbol}
 use Rattle.symbols.specs.Words.{slotsFrom, pendingFrom}
 use Rattle.laws.specs.Range.{range}
 use Rattle.regions.specs.Regions.{WORDS, SLOTS}
@@ -87,12 +87,12 @@ unfoldable pub made : List ℕ → ℕ → ℕ → Symbol → List ℕ
 made ws n held y = storeSymbol (sets ws (SLOTS .first + y .kids) (pendingFrom ws held (y .count))) n y
 
 -- there is room for it: a symbol's five words, its slots, and its pending children
-pub record Room (ws : List ℕ) (n held : ℕ) (y : Symbol) : Type 0 where
+pub record RoomFor (ws : List ℕ) (n held : ℕ) (y : Symbol) : Type 0 where
   pub few : n < 512
   pub slots : y .kids + y .count ≤ SLOTS .size
   pub pending : held + y .count ≤ 256
   pub words : WORDS ≤ length ws
-  pub fits : Fits y
+  pub fits : FitsWords y
 
 -- ---- what holds of the words of symbols
 

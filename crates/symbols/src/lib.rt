@@ -13,7 +13,7 @@ ghost use Rattle.model.specs.Tree.{sameRec};
 ghost use Rattle.model.specs.Forest.{recordCount};
 ghost use Rattle.record.specs.Record.{Laid};
 ghost use Rattle.symbols.specs.Words.{wordsFrom};
-ghost use Rattle.symbols.specs.Symbols.{keyRec, made, Room};
+ghost use Rattle.symbols.specs.Symbols.{keyRec, made, RoomFor};
 
 // A byte as a number. Rules out: its low bits alone; one more.
 pub fn wide(x: u8) -> u32
@@ -111,7 +111,7 @@ fn copy(work: &mut [u32], from: usize, to: usize, count: usize)
 // y as symbol n: its children are the pending symbols from `held` on, copied to its slots.
 // Rules out: another symbol's words; the slots left as they were.
 pub fn make(work: &mut [u32], n: usize, held: usize, y: Symbol)
-    requires { ⌜ Room (now work) n held y ⌝ }
+    requires { ⌜ RoomFor (now work) n held y ⌝ }
     ensures { λ _. ⌜ now (work .exit) ≡ made (now (work .entry)) n held y ⌝ }
 {
     let kids = y.kids as usize;

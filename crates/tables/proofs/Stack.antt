@@ -21,7 +21,7 @@ use Rattle.symbols.specs.Symbols.{AllSound}
 use Rattle.symbols.proofs.Laws.{kids-agree, sounds-more}
 use Rattle.tables.specs.declared.Tables.{Tables}
 use Rattle.tables.specs.Tables.{entrySymbol, entryHint, hintOf, entries, tables, tablesOf, first, opened}
-use Rattle.tables.specs.Tables.{Open, Entries, Below, Hinted}
+use Rattle.tables.specs.Tables.{Open, Entries, EntriesBelow, Hinted}
 
 -- ---- the words that tables hang on: their entries; and the starts below d
 
@@ -60,7 +60,7 @@ module _ (bs ws ws′ : List ℕ) (used n : ℕ) where
       symbol-agree ws ws′ s (λ k l r. own k (omega arith) (omega arith)) in
       rw (e, kids-agree bs ws ws′ used slots s (sound s lt))
 
-  pub hinted-agree : (top : ℕ) → AllSound bs ws used n → Below ws top n → Agree ws ws′ 0 (5 * n) →
+  pub hinted-agree : (top : ℕ) → AllSound bs ws used n → EntriesBelow ws top n → Agree ws ws′ 0 (5 * n) →
       Agree ws ws′ (SLOTS .first) (SLOTS .first + used) → Agree ws ws′ (ENTRIES .first) (ENTRIES .first + top) → Hinted bs ws top → Hinted bs ws′ top
   hinted-agree top sound below own slots entries hinted k lt =
       rw (entries (ENTRIES .first + k) (omega arith) (omega arith))
@@ -177,14 +177,14 @@ module _ (t : Tables) (top : ℕ) (is : Open t top) where
                   (λ k l. starts k (omega arith)) h,
             )
 
-    pub entered-below : (n : ℕ) → Below ws top n → s < n → Below entered (top + 1) n
+    pub entered-below : (n : ℕ) → EntriesBelow ws top n → s < n → EntriesBelow entered (top + 1) n
     entered-below n below lt =
         below-more (λ k. entrySymbol entered k < n) top
         (λ k r. rw (others-kept (ENTRIES .first + k) (omega arith) (omega arith)) (below k r)) (omega (arith, new-symbol))
 
     -- with its own hint, where the other entries have theirs
     pub entered-hinted : (bs : List ℕ) (used n : ℕ) → AllSound bs ws used n → used ≤ SLOTS .size → n ≤ 512 →
-        Below ws top n → s < n → Hinted bs ws top → m ≡ hintOf bs ws s → Hinted bs entered (top + 1)
+        EntriesBelow ws top n → s < n → Hinted bs ws top → m ≡ hintOf bs ws s → Hinted bs entered (top + 1)
     entered-hinted bs used n sound slots few below lt hinted e =
         below-more (λ k. entryHint entered k ≡ hintOf bs entered (entrySymbol entered k)) top
         (hinted-agree bs ws entered used n top sound below own kids others-kept hinted) newest
@@ -202,7 +202,7 @@ module _ (t : Tables) (top : ℕ) (is : Open t top) where
 -- ---- entries that are sound
 
 pub entries-sound : (bs ws : List ℕ) (used n top : ℕ) → AllSound bs ws used n → used ≤ SLOTS .size → n ≤ 512 → top ≤ 512 →
-    Below ws top n → Hinted bs ws top → Entries bs ws top
+    EntriesBelow ws top n → Hinted bs ws top → Entries bs ws top
 entries-sound bs ws used n top sound slots few tops below hinted = record {
   few = tops;
   below = λ k lt. let b : entrySymbol ws k < n = below k lt in omega arith;

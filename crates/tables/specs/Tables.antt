@@ -75,8 +75,8 @@ pub record Open (t : Tables) (top : ℕ) : Type 0 where
   pub starts : (d : ℕ) → d < t .depth → getD (t .base) d 0 ≤ top
 
 -- the entries are symbols below n
-abbrev pub Below : List ℕ → ℕ → ℕ → Type 0
-Below ws top n = (k : ℕ) → k < top → entrySymbol ws k < n
+abbrev pub EntriesBelow : List ℕ → ℕ → ℕ → Type 0
+EntriesBelow ws top n = (k : ℕ) → k < top → entrySymbol ws k < n
 
 -- the entries' hints are those of their symbols
 abbrev pub Hinted : List ℕ → List ℕ → ℕ → Type 0
@@ -85,7 +85,7 @@ Hinted bs ws top = (k : ℕ) → k < top → entryHint ws k ≡ hintOf bs ws (en
 -- `top` entries, which are symbols that stand, with their hints
 pub record Entries (bs ws : List ℕ) (top : ℕ) : Type 0 where
   pub few : top ≤ 512
-  pub below : Below ws top 512
+  pub below : EntriesBelow ws top 512
   pub sound : (k : ℕ) → k < top → Sound bs ws (SLOTS .size) (entrySymbol ws k)
   pub hinted : Hinted bs ws top
 

@@ -15,7 +15,7 @@ ghost use Rattle.regions.specs.Regions.{WORDS, SLOTS, ENTRIES, PENDING};
 ghost use Rattle.symbols.specs.Words.{slotsFrom, pendingFrom};
 ghost use Rattle.symbols.specs.Symbols.{keyRec, symsOf, Sound};
 ghost use Rattle.tables.specs.Tables.{foundOf, tablesOf, first, opened};
-ghost use Rattle.tables.specs.Tables.{hint, Open, Entries, Below, sameKey};
+ghost use Rattle.tables.specs.Tables.{hint, Open, Entries, EntriesBelow, sameKey};
 
 // Where each open table's entries start, the oldest first; the newest table ends where the entries do.
 pub struct Tables {
@@ -143,7 +143,7 @@ pub fn find(
     requires { ⌜ (held + count ≤ 256) × (WORDS ≤ length (now work)) ⌝ }
     requires { ⌜ ((k : ℕ) → k < count → getD (now work) (PENDING .first + held + k) 0 < 512) ⌝ }
     ensures { λ r.
-        ⌜ ((n : ℕ) → Below (now (work .entry)) top n →
+        ⌜ ((n : ℕ) → EntriesBelow (now (work .entry)) top n →
         foundOf r ≡ lookup (symsOf (now (forest .entry)) (now (work .entry)) n)
         (keyRec (now (forest .entry)) i field) (pendingFrom (now (work .entry)) held count)
         (tablesOf (now (work .entry)) t top)) ⌝ }

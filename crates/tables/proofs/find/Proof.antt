@@ -10,7 +10,7 @@ use Rattle.model.specs.Intern.{lookupIn, lookup}
 use Rattle.symbols.specs.Words.{pendingFrom}
 use Rattle.symbols.specs.Symbols.{keyRec, symsOf}
 use Rattle.tables.specs.declared.Found.the-variants.{Nothing}
-use Rattle.tables.specs.Tables.{foundOf, entries, tables, Below}
+use Rattle.tables.specs.Tables.{foundOf, entries, tables, EntriesBelow}
 use Rattle.tables.proofs.Keys.{key-is, hints-differ}
 use Rattle.tables.proofs.Search.{entries-end, entries-hit, entries-miss, tables-end, tables-hit, tables-miss}
 use Rattle.tables.proofs.find.Statement.{statement}
@@ -25,7 +25,7 @@ inTables bs ws i field held count n = lookup (symsOf bs ws n) (keyRec bs i field
 
 abbrev Inv-loop : tie.InvT-loop
 Inv-loop forest work top i field held count hint base found₀ end d start k₀ found k =
-    (k ≤ end) × (found ≡ Nothing) × ((n : ℕ) → Below work top n →
+    (k ≤ end) × (found ≡ Nothing) × ((n : ℕ) → EntriesBelow work top n →
     inTable forest work i field held count n (entries work start (end - start))
     ≡ inTable forest work i field held count n (entries work start (k - start)))
 
@@ -34,7 +34,7 @@ abbrev μ-loop : tie.MeasureT-loop
 
 abbrev Inv-tables : tie.InvT-tables
 Inv-tables forest work top i field held count hint base found₀ end₀ d₀ found end d =
-    (d ≤ d₀) × (end ≤ end₀) × (found ≡ Nothing) × ((n : ℕ) → Below work top n →
+    (d ≤ d₀) × (end ≤ end₀) × (found ≡ Nothing) × ((n : ℕ) → EntriesBelow work top n →
     inTables forest work i field held count n (tables work base d₀ end₀)
     ≡ inTables forest work i field held count n (tables work base d end))
 
