@@ -1,5 +1,5 @@
 -- A symbol that is there already: the last of some pending children, or what an id stands for. In order: the last; that
--- it is a symbol; an id; such a symbol as an answer. The second and the last are for callers.
+-- it is a symbol; an id; such a symbol as an answer; an answer, seen otherwise. The second and the fourth are for callers.
 -- Assumes nothing.
 use Prim.Native.Nat.{ℕ, zero, suc, _+_, _-_, _<_}
 use mathlib.Core.Path.{_≡_, ap, _∙_, subst, sym}
@@ -12,6 +12,7 @@ use Rattle.model.specs.Lists.{last}
 use Rattle.model.specs.Tree.{Rec}
 use Rattle.model.specs.Binding.{idOf}
 use Rattle.model.specs.Answer.{good}
+use Rattle.model.specs.Intern.{Out}
 use Rattle.symbols.specs.Words.{wordsFrom, pendingFrom}
 use Rattle.tables.specs.declared.Tables.{Tables}
 use Rattle.interner.specs.declared.State.{State}
@@ -53,3 +54,8 @@ pub given-answers : (bs ws : List ℕ) (t : Tables) (st : State) (s : ℕ) (r : 
 given-answers bs ws t st s r rep low e =
     subst (Answers bs ws t st (good (s, absOf bs ws t st)) ws) (sym e)
     (record { rep = rep; leaves = leaves-none ws st; low = low; is = out-given bs ws t st s })
+
+-- an answer, seen otherwise
+pub answers-as : {bs ws : List ℕ} {t : Tables} {st : State} {o o′ : Out} {ws′ : List ℕ} {r : Step} →
+    o ≡ o′ → Answers bs ws t st o ws′ r → Answers bs ws t st o′ ws′ r
+answers-as {bs} {ws} {t} {st} {ws′ = ws′} {r} e = subst (λ (z : Out). Answers bs ws t st z ws′ r) e

@@ -10,8 +10,7 @@ use borrow.Author.Tests.{eq-eqb, ne-eqb, eqb-true, eqb-false}
 use lib.Dec.{eqb}
 use Rattle.model.specs.Tree.{Row}
 use Rattle.model.specs.Shape.{shapes, fits}
-use Rattle.model.specs.Binding.{argsOf}
-use Rattle.model.specs.Intern.{Out, finish, nodeOf, func, withOpts}
+use Rattle.model.specs.Intern.{Out, finish, nodeOf}
 use Rattle.laws.specs.Range.{range}
 use Rattle.record.specs.Record.{rowAt}
 use Rattle.shape.proofs.Fitting.{fitting}
@@ -30,6 +29,7 @@ use Rattle.interner.specs.State.{absOf, Rep}
 use Rattle.interner.specs.Step.{Answers, BodyOf, Fresh, Ready, finishOf}
 use Rattle.concluding.specs.declared.Branches.{Branches}
 use Rattle.concluding.specs.Concluding.{branchesOf, generalNode, Concludes, Branched}
+use Rattle.concluding.proofs.Children.{answers-as}
 
 -- ---- a record's node, by its shape
 
@@ -75,8 +75,7 @@ module _ (r : Row) (h : fits r ≡ true) where
 
 -- ---- room
 
-module _ (bs ws : List ℕ) (st : State) (i cur inner held count : ℕ)
-    (h : Concludes bs ws st i cur inner held count) where
+module _ {bs ws : List ℕ} {st : State} {i cur inner held count : ℕ} (h : Concludes bs ws st i cur inner held count) where
   fresh-from : (node : Node) → partsOf node .source ≡ i → partsOf node .field ≡ 0 → partsOf node .branches < 4 →
       partsOf node .first < 4096 → partsOf node .second < 4096 → Sourced bs node count →
       Fresh bs ws st cur node held count
@@ -95,81 +94,61 @@ module _ (bs ws : List ℕ) (st : State) (i cur inner held count : ℕ)
 
 -- ---- a node that is no lambda
 
-module _ (bs ws : List ℕ) (t : Tables) (st : State) (i cur held count : ℕ) (b : Branches) where
-  abbrev shapeOf : ℕ
-  shapeOf = rowAt bs i .rec .shape
+abbrev shapeOf : List ℕ → ℕ → ℕ
+shapeOf bs i = rowAt bs i .rec .shape
 
+pub general-ready : {bs ws : List ℕ} {st : State} {i cur held count : ℕ} {b : Branches} {node : Node} →
+    node ≡ generalNode (shapeOf bs i) i b → WellFormed bs → Concludes bs ws st i cur cur held count → Branched b →
+    Ready bs ws st cur node held count
+general-ready {bs} {ws} {st} {i} {cur} {held} {count} {b} is sound h br =
+    let fit = row-fits bs i (sound .fit) (h .from) in
+    subst (λ (n : Node). Ready bs ws st cur n held count) (sym is)
+    (node-cases (shapeOf bs i) i b (λ n. Ready bs ws st cur n held count)
+    (λ e. let k = const-kids (rowAt bs i) fit e in record {
+      fresh = fresh-from h (constNode i) refl refl (omega arith) (omega arith) (omega arith) (k, sym (h .children) ∙ k);
+      keyed = tt;
+      forced = h .forced;
+    })
+    (λ n e. let k = unparsed-kids (rowAt bs i) fit e in record {
+      fresh = fresh-from h (unparsedNode i) refl refl (omega arith) (omega arith) (omega arith)
+          (k, sym (h .children) ∙ k);
+      keyed = tt;
+      forced = h .forced;
+    })
+    (λ n m. record {
+      fresh = fresh-from h (opNode i b) refl refl (omega (arith, br .few)) (br .first) (br .second)
+          (record { plain = λ e. h .children; made = λ z. absurd (z refl) });
+      keyed = tt;
+      forced = h .forced;
+    }))
+
+module _ (bs ws : List ℕ) (t : Tables) (st : State) (i cur held count : ℕ) (b : Branches) where
   abbrev generalOf : Out
   generalOf =
       finish i cur (rowAt bs i .rec) (pendingFrom ws held count) [] (nodeOf (rowAt bs i .rec) (branchesOf b))
       (absOf bs ws t st)
 
-  pub general-ready : (node : Node) → node ≡ generalNode shapeOf i b → WellFormed bs →
-      Concludes bs ws st i cur cur held count → Branched b → Ready bs ws st cur node held count
-  general-ready node is sound h br =
-      let fit = row-fits bs i (sound .fit) (h .from) in
-      subst (λ (n : Node). Ready bs ws st cur n held count) (sym is)
-      (node-cases shapeOf i b (λ n. Ready bs ws st cur n held count)
-      (λ e. let k = const-kids (rowAt bs i) fit e in record {
-        fresh = fresh-from bs ws st i cur cur held count h (constNode i) refl refl (omega arith) (omega arith)
-            (omega arith) (k, sym (h .children) ∙ k);
-        keyed = tt;
-        forced = h .forced;
-      })
-      (λ n e. let k = unparsed-kids (rowAt bs i) fit e in record {
-        fresh = fresh-from bs ws st i cur cur held count h (unparsedNode i) refl refl (omega arith) (omega arith)
-            (omega arith) (k, sym (h .children) ∙ k);
-        keyed = tt;
-        forced = h .forced;
-      })
-      (λ n m. record {
-        fresh = fresh-from bs ws st i cur cur held count h (opNode i b) refl refl (omega (arith, br .few)) (br .first)
-            (br .second) (record { plain = λ e. h .children; made = λ z. absurd (z refl) });
-        keyed = tt;
-        forced = h .forced;
-      }))
-
-  general-is : finishOf bs ws t st cur (generalNode shapeOf i b) held count ≡ generalOf
+  general-is : finishOf bs ws t st cur (generalNode (shapeOf bs i) i b) held count ≡ generalOf
   unfolding keyRec nodeOf
   general-is =
-      node-cases shapeOf i b (λ n. finishOf bs ws t st cur n held count ≡ generalOf)
-      (λ e. rw (eq-eqb shapeOf 0 e, nodeOf))
-      (λ n e. rw (ne-eqb shapeOf 0 n, eq-eqb shapeOf 1 e, nodeOf))
-      (λ n m. rw (ne-eqb shapeOf 0 n, ne-eqb shapeOf 1 m, nodeOf))
+      node-cases (shapeOf bs i) i b (λ n. finishOf bs ws t st cur n held count ≡ generalOf)
+      (λ e. rw (eq-eqb (shapeOf bs i) 0 e, nodeOf))
+      (λ n e. rw (ne-eqb (shapeOf bs i) 0 n, eq-eqb (shapeOf bs i) 1 e, nodeOf))
+      (λ n m. rw (ne-eqb (shapeOf bs i) 0 n, ne-eqb (shapeOf bs i) 1 m, nodeOf))
 
-  pub general-answers : (node : Node) (ws′ : List ℕ) (r : Step) → node ≡ generalNode shapeOf i b →
+  pub general-answers : {node : Node} → node ≡ generalNode (shapeOf bs i) i b → {ws′ : List ℕ} {r : Step} →
       Answers bs ws t st (finishOf bs ws t st cur node held count) ws′ r → Answers bs ws t st generalOf ws′ r
-  general-answers node ws′ r e a = record {
-    rep = a .rep;
-    leaves = a .leaves;
-    low = a .low;
-    is = a .is ∙ (ap (λ (n : Node). finishOf bs ws t st cur n held count) e ∙ general-is);
-  }
+  general-answers e = answers-as (ap (λ (n : Node). finishOf bs ws t st cur n held count) e ∙ general-is)
 
 -- ---- a lambda
 
-module _ (bs ws : List ℕ) (t : Tables) (st : State) (i cur held first body : ℕ) where
-  abbrev lambdaNode : Node
-  lambdaNode = Lambda (record { source = i; first = first; body = body })
-
-  abbrev ownArgs : List ℕ
-  ownArgs = range first (rowAt bs i .rec .aux)
-
-  abbrev lambdaOf : Out
-  lambdaOf =
-      finish i cur (rowAt bs i .rec) (pendingFrom ws held 1) ownArgs
-      (func (withOpts (argsOf (rowAt bs i .rec .aux) (rowAt bs i .rec .lit)) ownArgs) body) (absOf bs ws t st)
-
-  pub lambda-ready : Rep bs ws st → Concludes bs ws st i cur body held 1 → rowAt bs i .rec .shape ≡ 12 →
-      first < 4096 → BodyOf ws (st .scopes) cur body ownArgs → Ready bs ws st cur lambdaNode held 1
-  lambda-ready rep h shape low b = record {
-    fresh = fresh-from bs ws st i cur body held 1 h lambdaNode refl refl (omega arith) low
-        (omega (arith, b .low, rep .arena .scoped .few-scopes)) (shape, refl);
-    keyed = b;
-    forced = h .forced;
-  }
-
-  pub lambda-answers : (ws′ : List ℕ) (r : Step) →
-      Answers bs ws t st (finishOf bs ws t st cur lambdaNode held 1) ws′ r → Answers bs ws t st lambdaOf ws′ r
-  unfolding keyRec
-  lambda-answers ws′ r a = record { rep = a .rep; leaves = a .leaves; low = a .low; is = a .is }
+pub lambda-ready : {bs ws : List ℕ} {st : State} {i cur held first body : ℕ} → Rep bs ws st →
+    Concludes bs ws st i cur body held 1 → (shapeOf bs i ≡ 12) × (first < 4096) →
+    BodyOf ws (st .scopes) cur body (range first (rowAt bs i .rec .aux)) →
+    Ready bs ws st cur (Lambda (record { source = i; first = first; body = body })) held 1
+lambda-ready {i = i} {first = first} {body = body} rep h p b = record {
+  fresh = fresh-from h (Lambda (record { source = i; first = first; body = body })) refl refl (omega arith) (p .1)
+      (omega (arith, b .low, rep .arena .scoped .few-scopes)) (p .0, refl);
+  keyed = b;
+  forced = h .forced;
+}

@@ -32,6 +32,7 @@ use Rattle.interner.specs.declared.Step.{Step}
 use Rattle.interner.specs.State.{absOf, Rep}
 use Rattle.interner.specs.Step.{Answers, Projects}
 use Rattle.concluding.specs.Concluding.{fieldAt, readsAgain, Branched, Selects, HasSymbol, Input}
+use Rattle.concluding.proofs.Children.{answers-as}
 
 -- ---- its input
 
@@ -40,7 +41,7 @@ pub field-literal : (bs : List ℕ) (i : ℕ) → WellFormed bs → i < recordCo
     length (rowAt bs i .rec .lit) ≡ 1
 field-literal bs i sound l e = fits-field (rowAt bs i) (row-fits bs i (sound .fit) l) e .1
 
-module _ (bs ws : List ℕ) (st : State) (i cur held : ℕ) (rep : Rep bs ws st) (h : Selects bs ws st i cur held) where
+module _ {bs ws : List ℕ} {st : State} {i cur held : ℕ} (rep : Rep bs ws st) (h : Selects bs ws st i cur held) where
   abbrev pend : ℕ
   pend = getD ws (PENDING .first + held) 0
 
@@ -75,15 +76,15 @@ module _ (bs ws : List ℕ) (st : State) (i cur held : ℕ) (rep : Rep bs ws st)
 
 -- ---- whether it is read again
 
-pub symbol-from : (bs ws : List ℕ) (s : ℕ) (y : Symbol) (p : Parts) → HasSymbol bs ws s → y ≡ symbolAt ws s →
+pub symbol-from : {bs ws : List ℕ} {s : ℕ} {y : Symbol} {p : Parts} → HasSymbol bs ws s → y ≡ symbolAt ws s →
     p ≡ partsOf (y .node) → p .source < recordCount bs
-symbol-from bs ws s y p h e f =
+symbol-from {ws = ws} {s} {p = p} h e f =
     let g : p .source ≡ partsOf (symbolAt ws s .node) .source = rw (f, e) in omega (arith, g, h .from)
 
 -- the shape of a symbol is that of the record that it was made for
-pub symbol-shape : (bs ws : List ℕ) (s n : ℕ) (y : Symbol) (p : Parts) → s < n → y ≡ symbolAt ws s →
+pub symbol-shape : (bs ws : List ℕ) (s n : ℕ) {y : Symbol} {p : Parts} → s < n → y ≡ symbolAt ws s →
     p ≡ partsOf (y .node) → symAt (symsOf bs ws n) s .rec .shape ≡ rowAt bs (p .source) .rec .shape
-symbol-shape bs ws s n y p lt e f =
+symbol-shape bs ws s n lt e f =
     ap (λ r. r .shape) (rec-at bs ws n s lt)
     ∙ key-shape bs (partsOf (symbolAt ws s .node) .source) (partsOf (symbolAt ws s .node) .field)
     ∙ rw (f, e)
@@ -98,7 +99,7 @@ pair-first f e = rw (eq-eqb f 1 e)
 pub pair-second : (f : ℕ) → (f ≡ 1 → ⊥) → eqb f 2 ≡ ofPair f
 pair-second f n = rw (ne-eqb f 1 n)
 
-module _ (bs ws : List ℕ) (n i held f : ℕ) (is : f ≡ fieldAt bs i) (t : Bool) (told : t ≡ ofPair f) where
+module _ (bs ws : List ℕ) (n i held : ℕ) {f : ℕ} (is : f ≡ fieldAt bs i) {t : Bool} (told : t ≡ ofPair f) where
   abbrev tupled : Bool
   tupled = eqb (symAt (symsOf bs ws n) (getD ws (PENDING .first + held) 0) .rec .shape) 16
 
@@ -106,8 +107,8 @@ module _ (bs ws : List ℕ) (n i held f : ℕ) (is : f ≡ fieldAt bs i) (t : Bo
   unfolding readsAgain
   again-is = rw (told, is)
 
-  pub again-pair : t ≡ true → (r : Bool) → r ≡ tupled → r ≡ readsAgain bs ws n i held
-  again-pair e r g = g ∙ sym (again-is ∙ rw e)
+  pub again-pair : t ≡ true → {r : Bool} → r ≡ tupled → r ≡ readsAgain bs ws n i held
+  again-pair e g = g ∙ sym (again-is ∙ rw e)
 
   pub again-other : t ≡ false → false ≡ readsAgain bs ws n i held
   again-other e = sym (again-is ∙ rw e)
@@ -153,40 +154,31 @@ module _ (bs ws : List ℕ) (t : Tables) (st : State) (i cur held : ℕ) where
         go true false h = let z : _≡_ {A = ℕ} 0 1 = cc in absurd (omega arith)
         go false u h = let z : _≡_ {A = ℕ} 0 1 = cc in absurd (omega arith)
 
-    answers-by : (o : Out) → fieldOf ≡ o → (ws′ : List ℕ) (r : Step) → Answers bs ws t st o ws′ r →
-        Answers bs ws t st fieldOf ws′ r
-    answers-by o e ws′ r a = record { rep = a .rep; leaves = a .leaves; low = a .low; is = a .is ∙ sym e }
-
-    module _ (f : ℕ) (is : f ≡ fieldAt bs i) (pair : Bool) (told : pair ≡ ofPair f) where
+    module _ {f : ℕ} (is : f ≡ fieldAt bs i) {pair : Bool} (told : pair ≡ ofPair f) where
       told-here : ofPair (fieldAt bs i) ≡ pair
       told-here = ap ofPair (sym is) ∙ sym told
 
-      pub pair-answers : readsAgain bs ws (st .symbols) i held ≡ false → pair ≡ true → (ws′ : List ℕ) (r : Step) →
+      pub pair-answers : readsAgain bs ws (st .symbols) i held ≡ false → pair ≡ true → {ws′ : List ℕ} {r : Step} →
           Answers bs ws t st (pairProjection i cur (rowAt bs i .rec) f input (absOf bs ws t st)) ws′ r →
           Answers bs ws t st fieldOf ws′ r
       unfolding readsAgain
       pair-answers once e =
-          answers-by (pairProjection i cur (rowAt bs i .rec) f input (absOf bs ws t st))
-          (field-tests
-          ∙ go (ofPair (fieldAt bs i)) isTuple once (told-here ∙ e)
-          ∙ ap (λ (z : ℕ). pairProjection i cur (rowAt bs i .rec) z input (absOf bs ws t st)) (sym is))
+          answers-as (ap (λ (z : ℕ). pairProjection i cur (rowAt bs i .rec) z input (absOf bs ws t st)) is
+          ∙ sym (field-tests ∙ go (ofPair (fieldAt bs i)) isTuple once (told-here ∙ e)))
         where
           go : (u v : Bool) → u && v ≡ false → u ≡ true → byTests u v ≡ byTests true false
           go true false h g = refl
           go true true h g = let z : _≡_ {A = ℕ} 0 1 = cc in absurd (omega arith)
           go false v h g = let z : _≡_ {A = ℕ} 0 1 = cc in absurd (omega arith)
 
-      pub other-answers : rowAt bs i .rec .shape ≡ 17 → pair ≡ false → (ws′ : List ℕ) (r : Step) →
+      pub other-answers : rowAt bs i .rec .shape ≡ 17 → pair ≡ false → {ws′ : List ℕ} {r : Step} →
           Answers bs ws t st
           (finish i cur (rowAt bs i .rec) (pendingFrom ws held 1) [] (nodeOf (rowAt bs i .rec) []) (absOf bs ws t st))
           ws′ r → Answers bs ws t st fieldOf ws′ r
       other-answers shape e =
-          answers-by
-          (finish i cur (rowAt bs i .rec) (pendingFrom ws held 1) [] (nodeOf (rowAt bs i .rec) []) (absOf bs ws t st))
-          (field-tests
-          ∙ ap (λ (u : Bool). byTests u isTuple) (told-here ∙ e)
-          ∙ ap (λ n. finish i cur (rowAt bs i .rec) (pendingFrom ws held 1) [] n (absOf bs ws t st))
-          (sym (node-field (rowAt bs i .rec) shape)))
+          answers-as (ap (λ n. finish i cur (rowAt bs i .rec) (pendingFrom ws held 1) [] n (absOf bs ws t st))
+          (node-field (rowAt bs i .rec) shape)
+          ∙ sym (field-tests ∙ ap (λ (u : Bool). byTests u isTuple) (told-here ∙ e)))
 
 pub no-branches : Branched (record { count = 0; first = 0; second = 0 })
 no-branches = record { few = omega arith; first = omega arith; second = omega arith }

@@ -41,7 +41,7 @@ use Rattle.standing.proofs.Enter.{lambda-well}
 use Rattle.intern.specs.declared.Here.{Here}
 use Rattle.intern.specs.declared.Entered.{Entered}
 use Rattle.intern.specs.Words.{Words, Kept}
-use Rattle.intern.specs.Intern.{Stands, Counted, argsMade, Body, Enters}
+use Rattle.intern.specs.Intern.{StandsAt, CountedAt, argsMade, Body, Enters}
 use Rattle.intern.proofs.Kept.{words-then, scope-words, leaves-kept, later-rep, later-abs, beside-words}
 
 -- ---- no arguments, from whatever symbol on
@@ -85,9 +85,20 @@ module _ (bs ws : List ℕ) (t : Tables) (count : ℕ) (r : Step) where
 
 -- ---- before
 
-module _ (bs ws : List ℕ) (t : Tables) (st : State) (i : ℕ) (at : Here) (sound : WellFormed bs) (lt : i < recordCount bs)
-    (twelve : recAt bs i .shape ≡ 12) (stands : Stands bs ws t st i (depth (treeAt bs i)) at)
-    (counted : Counted (treeAt bs i) (at .scope) (envOf ws (at .top)) (absOf bs ws t st)) where
+-- a lambda that may be entered
+pub record Lambda (bs ws : List ℕ) (t : Tables) (st : State) (i : ℕ) (at : Here) : Type 0 where
+  pub sound : WellFormed bs
+  pub there : i < recordCount bs
+  pub shape : recAt bs i .shape ≡ 12
+  pub stands : StandsAt bs ws t st i at
+  pub counted : CountedAt bs ws t st i at
+
+pub lambda-given : {bs ws : List ℕ} {t : Tables} {st : State} {i : ℕ} {at : Here} →
+    WellFormed bs × (((i < recordCount bs) × (recAt bs i .shape ≡ 12)) × (StandsAt bs ws t st i at × CountedAt bs ws t st i at)) →
+    Lambda bs ws t st i at
+lambda-given p = record { sound = p .0; there = p .1 .0 .0; shape = p .1 .0 .1; stands = p .1 .1 .0; counted = p .1 .1 .1 }
+
+module _ {bs ws : List ℕ} {t : Tables} {st : State} {i : ℕ} {at : Here} (h : Lambda bs ws t st i at) where
   abbrev aux : ℕ
   aux = recAt bs i .aux
 
@@ -96,30 +107,30 @@ module _ (bs ws : List ℕ) (t : Tables) (st : State) (i : ℕ) (at : Here) (sou
 
   fitting : (rowAt bs i .kids ≡ 1) × (aux ≤ 15)
   fitting =
-      let f = fits-func (rowAt bs i) (row-fits bs i (sound .fit) lt) twelve in (f .0, f .1)
+      let f = fits-func (rowAt bs i) (row-fits bs i (h .sound .fit) (h .there)) (h .shape) in (f .0, f .1)
 
   deep : 2 ≤ depth (treeAt bs i)
-  deep = parent-depth bs i sound lt (omega (arith, fitting .0))
+  deep = parent-depth bs i (h .sound) (h .there) (omega (arith, fitting .0))
 
-  pub lambda-binds : (n : ℕ) → n ≡ aux → Binds bs ws st (at .scope) i n
-  lambda-binds n e = record {
-    from = lt;
-    current = stands .scope;
-    level = omega (arith, stands .level, deep);
+  pub lambda-binds : {n : ℕ} → n ≡ aux → Binds bs ws st (at .scope) i n
+  lambda-binds e = record {
+    from = h .there;
+    current = h .stands .scope;
+    level = omega (arith, h .stands .level, deep);
     few = omega (arith, e, fitting .1);
   }
 
   -- ---- the arguments made
 
-  module _ (ws₁ : List ℕ) (made : Step) (n : ℕ) (en : n ≡ aux) (b : Bindings bs ws st (at .scope) i n ws₁ made) where
+  module _ {ws₁ : List ℕ} {made : Step} {n : ℕ} (en : n ≡ aux) (b : Bindings bs ws st (at .scope) i n ws₁ made) where
     first-kept : Kept at ws ws₁ st (made .st)
-    first-kept = leaves-kept at (stands .rep .arena .scoped .few-scopes) (b .leaves)
+    first-kept = leaves-kept at (h .stands .rep .arena .scoped .few-scopes) (b .leaves)
 
     made-opened : Open t (made .st .entries)
-    made-opened = open-later t (st .entries) (stands .opened) (made .st .entries) (b .leaves .entries)
+    made-opened = open-later t (st .entries) (h .stands .opened) (made .st .entries) (b .leaves .entries)
 
     made-is : outsOf bs ws₁ t n made ≡ argsMade bs i (at .scope) (absOf bs ws t st)
-    made-is = b .is t (stands .opened) xs (args-length aux (recAt bs i .lit) ∙ sym en)
+    made-is = b .is t (h .stands .opened) xs (args-length aux (recAt bs i .lit) ∙ sym en)
 
     pub enter-refused : (made .number ≡ 0 → ⊥) → Enters bs ws t st i at ws₁
         (record { st = made .st; number = made .number; place = made .place; at = at; first = 0 })
@@ -139,55 +150,57 @@ module _ (bs ws : List ℕ) (t : Tables) (st : State) (i : ℕ) (at : Here) (sou
       pub enter-few : made .symbol + n ≤ 512
       enter-few = let f = b .first ok in omega (arith, f .0, f .1, b .rep .arena .scoped .few)
 
+      args-few : n ≤ 15
+      args-few = omega (arith, en, fitting .1)
+
       scopes-few : made .st .scopes ≤ 2048
       scopes-few =
-          let e = lambda-well (counted .legible .well) (lambda-kind _ twelve) (counted .few) i _
-          (ap (argsMade bs i (at .scope)) (sym (counted .is)) ∙ gives) in
+          let e = lambda-well (h .counted .legible .well) (lambda-kind _ (h .shape)) (h .counted .few) i _
+          (ap (argsMade bs i (at .scope)) (sym (h .counted .is)) ∙ gives) in
           omega (arith, e .0, scopes-count bs ws₁ t (made .st))
 
       scope-word : scopeWord ws₁ (at .scope) ≡ scopeWord ws (at .scope)
-      scope-word = first-kept .words .scopes (SCOPES .first + at .scope) (omega arith) (omega (arith, stands .scope))
+      scope-word = first-kept .words .scopes (SCOPES .first + at .scope) (omega arith) (omega (arith, h .stands .scope))
 
       scope-low : at .scope < made .st .scopes
-      scope-low = omega (arith, stands .scope, b .leaves .scopes)
+      scope-low = omega (arith, h .stands .scope, b .leaves .scopes)
 
       level-low : levelOf (scopeWord ws₁ (at .scope)) < 63
-      level-low = omega (arith, ap levelOf scope-word, stands .level, deep)
+      level-low = omega (arith, ap levelOf scope-word, h .stands .level, deep)
 
       pub enter-room : (WORDS ≤ length ws₁) × (at .scope < made .st .scopes) × (made .st .scopes ≤ 2048) × (n ≤ 15)
           × (levelOf (scopeWord ws₁ (at .scope)) < 63)
-      enter-room = (b .rep .arena .scoped .words, scope-low, scopes-few, omega (arith, en, fitting .1), level-low)
+      enter-room = (b .rep .arena .scoped .words, scope-low, scopes-few, args-few, level-low)
 
       -- ---- the body opened
 
-      module _ (first : ℕ) (same : range first n ≡ range (made .symbol) n) (low : first < 512) (ws₂ : List ℕ)
+      module _ {first : ℕ} (same : (range first n ≡ range (made .symbol) n) × (first < 512)) {ws₂ : List ℕ}
           (opened : ws₂ ≡ withLambda ws₁ (made .st .scopes) (at .scope) first n) where
         abbrev m : ℕ
         m = made .st .scopes
 
         opens : Frame (SCOPES .first + m) (end SCOPES) ws₁ ws₂
-        opens = rw opened (scope-frame bs ws₁ (made .st) (b .rep) scopes-few (lambdaWord ws₁ (at .scope) first n))
+        opens = rw opened (scope-frame (b .rep) scopes-few (lambdaWord ws₁ (at .scope) first n))
 
         pub enter-bind : (at .top + 15 ≤ 1200) × (WORDS ≤ length ws₂) × (first ≤ 512)
         enter-bind = (
-          omega (arith, stands .top, deep, lt, records-few bs sound),
+          omega (arith, h .stands .top, deep, h .there, records-few bs (h .sound)),
           omega (arith, opens .long, b .rep .arena .scoped .words),
           omega arith,
         )
 
         own : Every (AtLevel ws₁ (made .st .symbols) (levelOf (scopeWord ws₁ (at .scope)) + 1)) (range first n)
-        own = rw (same, scope-word) (b .args ok)
+        own = rw (same .0, scope-word) (b .args ok)
 
         rep₂ : Rep bs ws₂ (withScope (made .st))
         rep₂ =
-            rw opened (body-rep bs ws₁ (made .st) (at .scope) first n (b .rep) scopes-few scope-low low
-            (omega (arith, en, fitting .1)) own)
+            rw opened (body-rep (b .rep) scopes-few scope-low (same .1) args-few own)
 
         words₂ : Words (st .scopes) (at .held) (at .top) ws₁ ws₂
         words₂ =
             scope-words (st .scopes) (at .held) (at .top) m ws₁ ws₂ (omega (arith, b .leaves .scopes)) opens
 
-        module _ (inside : State) (is : inside ≡ withScope (made .st)) (ws₃ : List ℕ) (top′ : ℕ)
+        module _ {inside : State} (is : inside ≡ withScope (made .st)) {ws₃ : List ℕ} {top′ : ℕ}
             (bound : ArgsBound bs i (at .top) first ws₂ ws₃ top′) where
           abbrev e : Entered
           e = record {
@@ -203,8 +216,8 @@ module _ (bs ws : List ℕ) (t : Tables) (st : State) (i : ℕ) (at : Here) (sou
 
           words₃ : Words (st .scopes) (at .held) (at .top) ws₂ ws₃
           words₃ =
-              beside-words (st .scopes) (at .held) (stands .rep .arena .scoped .few-scopes)
-              (omega (arith, stands .held, lt, records-few bs sound))
+              beside-words (st .scopes) (at .held) (h .stands .rep .arena .scoped .few-scopes)
+              (omega (arith, h .stands .held, h .there, records-few bs (h .sound)))
               (omega (arith, enter-bind .0, bound .most)) binds
 
           scope₃ : (k : ℕ) → k < SCOPES .size → scopeWord ws₃ k ≡ scopeWord ws₂ k
@@ -212,8 +225,7 @@ module _ (bs ws : List ℕ) (t : Tables) (st : State) (i : ℕ) (at : Here) (sou
 
           body₂ : BodyOf ws₂ (m + 1) (at .scope) m (range first n)
           body₂ =
-              rw opened (body-of bs ws₁ (made .st) (at .scope) first n (b .rep) scopes-few scope-low low
-              (omega (arith, en, fitting .1)))
+              rw opened (body-of (b .rep) scopes-few scope-low (same .1) args-few)
 
           env₃ : envOf ws₃ top′ ≡ bindArgs xs (range first aux) (envOf ws (at .top))
           env₃ =
@@ -224,14 +236,13 @@ module _ (bs ws : List ℕ) (t : Tables) (st : State) (i : ℕ) (at : Here) (sou
           body : Body bs ws t st i at ws₃ e
           body = record {
             made = absOf bs ws₁ t (made .st);
-            is = gives ∙ rw (← same, en);
+            is = gives ∙ rw (← same .0, en);
             scope = sym (scopes-count bs ws₁ t (made .st));
             abs =
                 later-abs bs ws₂ ws₃ (withScope (made .st)) rep₂ (BINDINGS .first + 2 * at .top) (BINDINGS .first + 2 * top′)
                 (omega arith) binds t made-opened
                 ∙ ap (λ (z : List ℕ). absOf bs z t (withScope (made .st))) opened
-                ∙ body-abs bs ws₁ (made .st) (at .scope) first n (b .rep) scopes-few scope-low low
-                (omega (arith, en, fitting .1)) t made-opened
+                ∙ body-abs (b .rep) scopes-few scope-low (same .1) args-few t made-opened
                 ∙ rw en;
             env = env₃;
             body = record {
@@ -243,13 +254,12 @@ module _ (bs ws : List ℕ) (t : Tables) (st : State) (i : ℕ) (at : Here) (sou
             level =
                 ap levelOf (scope₃ m (omega (arith, scopes-few)))
                 ∙ ap (λ (z : List ℕ). levelOf (scopeWord z m)) opened
-                ∙ body-level bs ws₁ (made .st) (at .scope) first n (b .rep) scopes-few scope-low low
-                (omega (arith, en, fitting .1))
+                ∙ body-level (b .rep) scopes-few scope-low (same .1) args-few
                 ∙ ap (λ (z : ℕ). levelOf z + 1) scope-word;
             held = refl;
             more = omega (arith, bound .is);
             most = bound .most;
-            low = low;
+            low = (same .1);
           }
 
           done : Enters bs ws t st i at ws₃ e

@@ -5,6 +5,7 @@
 use Prim.Native.Nat.{ℕ, _+_, _<_, _≤_}
 use mathlib.Core.Path.{_≡_, refl, sym, ap, _∙_, subst}
 use mathlib.Core.Bool.{Bool, true, false, _&&_, _||_}
+use mathlib.Core.Logic.{inl, inr}
 use mathlib.Core.Option.{some}
 use mathlib.Core.List.{List}
 use native.Mathlib.Omega.{arith}
@@ -37,7 +38,6 @@ use Rattle.opening.specs.Opening.{withReading}
 use Rattle.opening.proofs.Counts.{reading-abs, reading-rep}
 use Rattle.concluding.specs.Concluding.{Uses}
 use Rattle.theory.proofs.Acceptance.Records.{kind-shape, op-field}
-use Rattle.standing.specs.Standing.{WellAll}
 use Rattle.standing.proofs.Enter.{no-args, kids-well}
 use Rattle.intern.specs.declared.Here.{Here}
 use Rattle.intern.specs.declared.Read.{Read}
@@ -46,12 +46,12 @@ use Rattle.intern.specs.declared.Selected.{Selected}
 use Rattle.intern.specs.declared.Selected.the-variants.{Done, Children}
 use Rattle.intern.specs.Steps.{refusedRead}
 use Rattle.intern.specs.Words.{Kept}
-use Rattle.intern.specs.Intern.{Stands, Past, Reads, Legible, Counted, kidsRead, concluded, WellKids}
-use Rattle.intern.specs.Intern.{Incomplete, ReadsOn, Plain}
+use Rattle.intern.specs.Intern.{StandsAt, Past, Reads, LegibleAt, CountedAt, kidsRead, concluded, RecordRead}
+use Rattle.intern.specs.Intern.{LambdaRead, Incomplete, ReadsOn, SelectedRead, Plain}
 use Rattle.intern.proofs.Kept.{kept-none}
 use Rattle.intern.proofs.After.{thunked-first}
 use Rattle.intern.proofs.Bodies.{lambda-kind}
-use Rattle.intern.proofs.Records.{reads-refused, concluded-10, concluded-11, concluded-other}
+use Rattle.intern.proofs.Records.{reads-refused, concluded-last, concluded-other, Parent}
 
 -- ---- the definitions unfolded
 
@@ -69,11 +69,11 @@ module _ (at cur : ℕ) (r : Rec) (env : Env) (kids : intern.Kids) (st : intern.
       go true v e f =
           let s : r .shape ≡ 10 = eqb-true (r .shape) 10 e in
           let k : kind (r .shape) ≡ valDef = rw s in
-          rw k (sym (concluded-10 at cur r m s))
+          rw k (sym (concluded-last at cur r m (inl s)))
       go false true e f =
           let s : r .shape ≡ 11 = eqb-true (r .shape) 11 f in
           let k : kind (r .shape) ≡ block = rw s in
-          rw k (sym (concluded-11 at cur r m s))
+          rw k (sym (concluded-last at cur r m (inr s)))
       go false false e f =
           let k : kind (r .shape) ≡ other =
           rw (ne-eqb (r .shape) 7 a, e, f, ne-eqb (r .shape) 12 b, ne-eqb (r .shape) 17 c, kind) in
@@ -177,157 +177,164 @@ block-plain r h j e = go (isBlock r) refl
 
 -- ---- a record of any kind
 
-module _ (bs ws : List ℕ) (t : Tables) (st : State) (i : ℕ) (at : Here) (sound : WellFormed bs) (lt : i < recordCount bs)
-    (stands : Stands bs ws t st i (depth (treeAt bs i)) at)
-    (legible : Legible (treeAt bs i) (at .scope) (envOf ws (at .top)) (absOf bs ws t st)) where
+-- no reading is left
+pub record-full : {bs ws : List ℕ} {t : Tables} {st : State} {i : ℕ} {at : Here} → StandsAt bs ws t st i at →
+    {r : Read} → st .readings ≡ 2048 → r ≡ refusedRead st 11 i i → RecordRead bs ws t st i at ws r
+record-full {bs} {ws} {t} {st} {i} {at} stands e f =
+    rw f (reads-refused (kept-none at ws st) (stands .rep) (stands .opened) (λ z. omega arith)
+    (intern-full bs i (at .scope) (envOf ws (at .top)) (absOf bs ws t st) (omega arith)))
+
+-- a record that may be read, and is counted
+pub record Counts (bs ws : List ℕ) (t : Tables) (st : State) (i : ℕ) (at : Here) (counted : State) : Type 0 where
+  pub sound : WellFormed bs
+  pub there : i < recordCount bs
+  pub stands : StandsAt bs ws t st i at
+  pub legible : LegibleAt bs ws t st i at
+  pub few : st .readings < 2048
+  pub is : counted ≡ withReading st
+
+module _ {bs ws : List ℕ} {t : Tables} {st : State} {i : ℕ} {at : Here}
+    (p : WellFormed bs × ((i < recordCount bs) × (StandsAt bs ws t st i at × LegibleAt bs ws t st i at)))
+    (unread : st .readings ≡ 2048 → ⊥) where
+  pub record-left : st .readings < 2048
+  record-left = let few = p .1 .1 .0 .rep .few-readings in omega (arith, few, unread)
+
+  pub counted-given : {counted : State} → counted ≡ withReading st → Counts bs ws t st i at counted
+  counted-given e = record {
+    sound = p .0;
+    there = p .1 .0;
+    stands = p .1 .1 .0;
+    legible = p .1 .1 .1;
+    few = record-left;
+    is = e;
+  }
+
+module _ {bs ws : List ℕ} {t : Tables} {st : State} {i : ℕ} {at : Here} {counted : State}
+    (h : Counts bs ws t st i at counted) where
   abbrev env₀ : Env
   env₀ = envOf ws (at .top)
 
   abbrev whole : Out
   whole = intern (treeAt bs i) i (at .scope) env₀ (absOf bs ws t st)
 
-  -- no reading is left
-  pub record-full : (r : Read) → st .readings ≡ 2048 → r ≡ refusedRead st 11 i i → Reads bs ws t st i at whole ws r
-  record-full r e f =
-      subst (Reads bs ws t st i at whole ws) (sym f)
-      (reads-refused i at whole (kept-none at ws st) (stands .rep) (stands .opened) 11 i i (λ z. omega arith)
-      (intern-full bs i (at .scope) env₀ (absOf bs ws t st) (omega arith)))
+  pub counted-stands : StandsAt bs ws t counted i at
+  counted-stands = rw (h .is) (record {
+    rep = reading-rep bs ws st (h .stands .rep) (h .few);
+    opened = h .stands .opened;
+    scope = h .stands .scope;
+    held = h .stands .held;
+    top = h .stands .top;
+    level = h .stands .level;
+    tables = h .stands .tables;
+  })
 
-  module _ (unread : st .readings ≡ 2048 → ⊥) where
-    left : st .readings < 2048
-    left = let few = stands .rep .few-readings in omega (arith, few, unread)
+  counted-abs : absOf bs ws t counted ≡ read (absOf bs ws t st)
+  counted-abs = ap (absOf bs ws t) (h .is) ∙ reading-abs bs ws t st
 
-    pub record-left : st .readings < 2048
-    record-left = left
+  pub counted-well : CountedAt bs ws t counted i at
+  counted-well = record { before = absOf bs ws t st; legible = h .legible; few = h .few; is = counted-abs }
 
-    module _ (counted : State) (is : counted ≡ withReading st) where
-      pub counted-stands : Stands bs ws t counted i (depth (treeAt bs i)) at
-      counted-stands = rw is (record {
-        rep = reading-rep bs ws st (stands .rep) left;
-        opened = stands .opened;
-        scope = stands .scope;
-        held = stands .held;
-        top = stands .top;
-        level = stands .level;
-        tables = stands .tables;
+  pub counted-parent : (recAt bs i .shape ≡ 12 → ⊥) → Parent bs ws t counted i at
+  counted-parent n = record {
+    sound = h .sound;
+    there = h .there;
+    stands = counted-stands;
+    well =
+        rw counted-abs
+        (kids-well (h .legible .well) (no-args (recAt bs i) (λ e. n (kind-shape _ lambda e .shape))) (h .few));
+  }
+
+  pub counted-opcode : recAt bs i .shape ≡ 17 → recAt bs i .opcode ≡ 0x8C
+  counted-opcode e = op-field (recAt bs i) e (h .legible .well .checked .fine .1)
+
+  pub counted-plain : Plain (recAt bs i .opcode) (isBlock (recAt bs i))
+  counted-plain = block-plain (recAt bs i) (h .legible .well .checked .fine .1)
+
+  -- the answer of its kind is the record's
+  counted-kept : {ws′ : List ℕ} {last : State} → Kept at ws ws′ counted last → Kept at ws ws′ st last
+  counted-kept {ws′} {last} =
+      subst (λ (z : State). Kept at ws ws′ z last → Kept at ws ws′ st last) (sym (h .is))
+      (λ k. record { words = k .words; scopes = k .scopes })
+
+  counted-reads : {o : Out} {ws′ : List ℕ} {r : Read} → whole ≡ o → Reads bs ws t counted i at o ws′ r →
+      RecordRead bs ws t st i at ws′ r
+  counted-reads e v = record {
+    rep = v .rep;
+    opened = v .opened;
+    is = v .is ∙ sym e;
+    past = v .past;
+    kept = counted-kept (v .kept);
+  }
+
+  pub record-lambda : recAt bs i .shape ≡ 12 → {ws′ : List ℕ} {r : Read} → LambdaRead bs ws t counted i at ws′ r →
+      RecordRead bs ws t st i at ws′ r
+  record-lambda e =
+      counted-reads
+      (intern-lambda bs i (at .scope) env₀ (absOf bs ws t st) (h .few) e
+      ∙ ap (internFunc i (at .scope) (recAt bs i) env₀ (kidsRead bs i)) (sym counted-abs))
+
+  counted-incomplete : {o : Out} {ws′ : List ℕ} {k : Kids} → whole ≡ o → Incomplete bs ws t counted i at o ws′ k →
+      Incomplete bs ws t st i at whole ws′ k
+  counted-incomplete e u = record { ready = u .ready; is = u .is ∙ sym e; kept = counted-kept (u .kept) }
+
+  -- a SelectField, and any other record: it is done, or still to be completed
+  pub record-field : recAt bs i .shape ≡ 17 → (ws′ : List ℕ) (s : Selected) → SelectedRead bs ws t counted i at ws′ s →
+      ReadsOn bs ws t st i at whole ws′ s
+  record-field e ws′ s = go s
+    where
+      is-field : whole ≡ internKind field i (at .scope) (recAt bs i) env₀ (kidsRead bs i) (absOf bs ws t counted)
+      is-field =
+          intern-field bs i (at .scope) env₀ (absOf bs ws t st) (h .few) e
+          ∙ ap (internKind field i (at .scope) (recAt bs i) env₀ (kidsRead bs i)) (sym counted-abs)
+
+      go : (s : Selected) → SelectedRead bs ws t counted i at ws′ s → ReadsOn bs ws t st i at whole ws′ s
+      go (Done r) v = counted-reads is-field v
+      go (Children k) v = counted-incomplete is-field v
+
+  pub record-other : (recAt bs i .shape ≡ 7 → ⊥) → (recAt bs i .shape ≡ 12 → ⊥) →
+      (recAt bs i .shape ≡ 17 → ⊥) → (ws′ : List ℕ) (k : Kids) →
+      Incomplete bs ws t counted i at
+      (concluded i (at .scope) (recAt bs i) (kidsRead bs i (at .scope) env₀ (absOf bs ws t counted))) ws′ k →
+      Incomplete bs ws t st i at whole ws′ k
+  record-other a b c ws′ k =
+      counted-incomplete
+      (intern-other bs i (at .scope) env₀ (absOf bs ws t st) (h .few) a b c
+      ∙ ap (λ (z : intern.State). concluded i (at .scope) (recAt bs i) (kidsRead bs i (at .scope) env₀ z))
+      (sym counted-abs))
+
+  -- a use
+  pub record-uses : recAt bs i .shape ≡ 7 → Uses bs ws i (at .top)
+  unfolding depth
+  record-uses e = record {
+    from = h .there;
+    shape = e;
+    few = omega (arith, h .stands .top, h .there, records-few bs (h .sound));
+    words = h .stands .rep .arena .scoped .words;
+  }
+
+  use-kids : recAt bs i .shape ≡ 7 → rowAt bs i .kids ≡ 0
+  unfolding shapes
+  use-kids e =
+      let f = fitting (rowAt bs i) (row-fits bs i (h .sound .fit) (h .there)) in
+      let m = rw e at (f .many) in omega (arith, m)
+
+  use-past : recAt bs i .shape ≡ 7 → Past bs i (size (treeAt bs i)) (restAt bs i) (i + 1)
+  unfolding size kidTreesAt restAt takeT dropT
+  use-past e =
+      let z : takeT (rowAt bs i .kids) (treesFrom bs (i + 1)) ≡ nil = rw (use-kids e) in
+      (omega (arith, ap sizes z), rw (use-kids e))
+
+  pub record-use : recAt bs i .shape ≡ 7 → {r : Step} → r ≡ given counted (resolve env₀ (idOf (recAt bs i))) →
+      RecordRead bs ws t st i at ws (record { step = r; next = i + 1 })
+  record-use e f =
+      counted-reads refl (record {
+        rep = rw f (counted-stands .rep);
+        opened = rw f (counted-stands .opened);
+        is =
+            ap (outOf bs ws t) f
+            ∙ out-good bs ws t (given counted (resolve env₀ (idOf (recAt bs i)))) refl
+            ∙ ap (λ (z : intern.State). good (resolve env₀ (idOf (recAt bs i)), z)) counted-abs
+            ∙ sym (intern-use bs i (at .scope) env₀ (absOf bs ws t st) (h .few) e);
+        past = λ z. use-past e;
+        kept = rw f (kept-none at ws counted);
       })
-
-      counted-abs : absOf bs ws t counted ≡ read (absOf bs ws t st)
-      counted-abs = ap (absOf bs ws t) is ∙ reading-abs bs ws t st
-
-      pub counted-well : Counted (treeAt bs i) (at .scope) env₀ (absOf bs ws t counted)
-      counted-well = record { before = absOf bs ws t st; legible = legible; few = left; is = counted-abs }
-
-      pub counted-kids : (recAt bs i .shape ≡ 12 → ⊥) → WellKids bs ws t counted i at
-      counted-kids n =
-          subst (λ (z : intern.State). WellAll (kidTreesAt bs i) (isBlock (recAt bs i)) (recAt bs i .opcode) 0 (at .scope)
-          env₀ z 1) (sym counted-abs)
-          (kids-well (legible .well) (no-args (recAt bs i) (λ e. n (kind-shape _ lambda e .shape))) left)
-
-      pub counted-opcode : recAt bs i .shape ≡ 17 → recAt bs i .opcode ≡ 0x8C
-      counted-opcode e = op-field (recAt bs i) e (legible .well .checked .fine .1)
-
-      pub counted-plain : Plain (recAt bs i .opcode) (isBlock (recAt bs i))
-      counted-plain = block-plain (recAt bs i) (legible .well .checked .fine .1)
-
-      -- the answer of its kind is the record's
-      counted-kept : (ws′ : List ℕ) (last : State) → Kept at ws ws′ counted last → Kept at ws ws′ st last
-      counted-kept ws′ last =
-          subst (λ (z : State). Kept at ws ws′ z last → Kept at ws ws′ st last) (sym is)
-          (λ k. record { words = k .words; scopes = k .scopes })
-
-      counted-reads : (o o′ : Out) (ws′ : List ℕ) (r : Read) → o′ ≡ o → Reads bs ws t counted i at o ws′ r →
-          Reads bs ws t st i at o′ ws′ r
-      counted-reads o o′ ws′ r e v = record {
-        rep = v .rep;
-        opened = v .opened;
-        is = v .is ∙ sym e;
-        past = v .past;
-        kept = counted-kept ws′ (r .step .st) (v .kept);
-      }
-
-      module _ (ws′ : List ℕ) (r : Read) where
-        pub record-lambda : recAt bs i .shape ≡ 12 →
-            Reads bs ws t counted i at
-            (internFunc i (at .scope) (recAt bs i) env₀ (kidsRead bs i) (absOf bs ws t counted)) ws′ r →
-            Reads bs ws t st i at whole ws′ r
-        record-lambda e v =
-            counted-reads _ whole ws′ r
-            (intern-lambda bs i (at .scope) env₀ (absOf bs ws t st) left e
-            ∙ ap (internFunc i (at .scope) (recAt bs i) env₀ (kidsRead bs i)) (sym counted-abs)) v
-
-      counted-incomplete : (o o′ : Out) (ws′ : List ℕ) (k : Kids) → o′ ≡ o →
-          Incomplete bs ws t counted i at o ws′ k → Incomplete bs ws t st i at o′ ws′ k
-      counted-incomplete o o′ ws′ k e u = record {
-        ready = u .ready;
-        is = u .is ∙ sym e;
-        kept = counted-kept ws′ (k .st) (u .kept);
-      }
-
-      -- a SelectField, and any other record: it is done, or still to be completed
-      pub record-field : recAt bs i .shape ≡ 17 → (ws′ : List ℕ) (s : Selected) →
-          ReadsOn bs ws t counted i at
-          (internKind field i (at .scope) (recAt bs i) env₀ (kidsRead bs i) (absOf bs ws t counted)) ws′ s →
-          ReadsOn bs ws t st i at whole ws′ s
-      record-field e ws′ s = go s
-        where
-          is-field : whole ≡ internKind field i (at .scope) (recAt bs i) env₀ (kidsRead bs i) (absOf bs ws t counted)
-          is-field =
-              intern-field bs i (at .scope) env₀ (absOf bs ws t st) left e
-              ∙ ap (internKind field i (at .scope) (recAt bs i) env₀ (kidsRead bs i)) (sym counted-abs)
-
-          go : (s : Selected) →
-              ReadsOn bs ws t counted i at
-              (internKind field i (at .scope) (recAt bs i) env₀ (kidsRead bs i) (absOf bs ws t counted)) ws′ s →
-              ReadsOn bs ws t st i at whole ws′ s
-          go (Done r) v = counted-reads _ whole ws′ r is-field v
-          go (Children k) v = counted-incomplete _ whole ws′ k is-field v
-
-      pub record-other : (recAt bs i .shape ≡ 7 → ⊥) → (recAt bs i .shape ≡ 12 → ⊥) →
-          (recAt bs i .shape ≡ 17 → ⊥) → (ws′ : List ℕ) (k : Kids) →
-          Incomplete bs ws t counted i at
-          (concluded i (at .scope) (recAt bs i) (kidsRead bs i (at .scope) env₀ (absOf bs ws t counted))) ws′ k →
-          Incomplete bs ws t st i at whole ws′ k
-      record-other a b c ws′ k u =
-          counted-incomplete _ whole ws′ k
-          (intern-other bs i (at .scope) env₀ (absOf bs ws t st) left a b c
-          ∙ ap (λ (z : intern.State). concluded i (at .scope) (recAt bs i) (kidsRead bs i (at .scope) env₀ z))
-          (sym counted-abs)) u
-
-      -- a use
-      pub record-uses : recAt bs i .shape ≡ 7 → Uses bs ws i (at .top)
-      unfolding depth
-      record-uses e = record {
-        from = lt;
-        shape = e;
-        few = omega (arith, stands .top, lt, records-few bs sound);
-        words = stands .rep .arena .scoped .words;
-      }
-
-      use-kids : recAt bs i .shape ≡ 7 → rowAt bs i .kids ≡ 0
-      unfolding shapes
-      use-kids e =
-          let f = fitting (rowAt bs i) (row-fits bs i (sound .fit) lt) in
-          let m = rw e at (f .many) in omega (arith, m)
-
-      use-past : recAt bs i .shape ≡ 7 → Past bs i (size (treeAt bs i)) (restAt bs i) (i + 1)
-      unfolding size kidTreesAt restAt takeT dropT
-      use-past e =
-          let z : takeT (rowAt bs i .kids) (treesFrom bs (i + 1)) ≡ nil = rw (use-kids e) in
-          (omega (arith, ap sizes z), rw (use-kids e))
-
-      pub record-use : (r : Step) → recAt bs i .shape ≡ 7 →
-          r ≡ given counted (resolve env₀ (idOf (recAt bs i))) →
-          Reads bs ws t st i at whole ws (record { step = r; next = i + 1 })
-      record-use r e f =
-          counted-reads _ whole ws (record { step = r; next = i + 1 }) refl (record {
-            rep = rw f (counted-stands .rep);
-            opened = rw f (counted-stands .opened);
-            is =
-                ap (outOf bs ws t) f
-                ∙ out-good bs ws t (given counted (resolve env₀ (idOf (recAt bs i)))) refl
-                ∙ ap (λ (z : intern.State). good (resolve env₀ (idOf (recAt bs i)), z)) counted-abs
-                ∙ sym (intern-use bs i (at .scope) env₀ (absOf bs ws t st) left e);
-            past = λ z. use-past e;
-            kept = rw f (kept-none at ws counted);
-          })

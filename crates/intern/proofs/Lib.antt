@@ -3,7 +3,6 @@ pub mod Kept
 pub mod After
 pub mod Remains
 pub mod Reading
-pub mod Loop
 pub mod Bodies
 pub mod Records
 pub mod Repeats

@@ -1,5 +1,5 @@
 -- The loop over operands: what is read and what is left give the whole.
--- In order: the start; the next child; a child that is refused; a child read; the end.
+-- In order: the start; the end; the next child; a child that is refused; a child read; from its first state.
 -- Assumes nothing.
 use Prim.Native.Nat.{ℕ, zero, suc, _+_, _-_, _<_, _≤_, max}
 use mathlib.Core.Path.{_≡_, refl, sym, ap, _∙_, subst}
@@ -15,8 +15,8 @@ use Rattle.model.specs.Forest.{recordCount}
 use Rattle.model.specs.Intern.{bindDef, thunked, internScoped, branch, intern, internAll}
 use Rattle.model.specs.Intern as intern
 use Rattle.laws.proofs.Trees.{size-some}
-use Rattle.walk.specs.Walk.{treesFrom, restAt, treeAt}
-use Rattle.walk.proofs.Bridge.{trees-at, trees-left}
+use Rattle.walk.specs.Walk.{treesFrom, restAt, treeAt, WellFormed}
+use Rattle.walk.proofs.Bridge.{trees-at, trees-left, records-few}
 use Rattle.symbols.specs.Words.{wordsFrom, pendingFrom}
 use Rattle.symbols.proofs.Words.{words-agree}
 use Rattle.scopes.specs.Scopes.{scopeWord, levelOf}
@@ -30,7 +30,7 @@ use Rattle.interner.specs.Step.{outOf}
 use Rattle.interner.proofs.Sharing.{out-good, out-number}
 use Rattle.opening.proofs.Counts.{scopes-count}
 use Rattle.concluding.specs.Concluding.{branchesOf}
-use Rattle.standing.specs.Standing.{Well, WellAll}
+use Rattle.standing.specs.Standing.{WellAll}
 use Rattle.standing.proofs.Enter.{child-plain, child-thunk}
 use Rattle.standing.proofs.Next.{next-well}
 use Rattle.intern.specs.declared.Here.{Here}
@@ -38,343 +38,330 @@ use Rattle.intern.specs.declared.Read.{Read}
 use Rattle.intern.specs.declared.Kids.{Kids}
 use Rattle.intern.specs.Steps.{childAt, noted, unread, withChild, failed}
 use Rattle.intern.specs.Words.{Kept}
-use Rattle.intern.specs.Intern.{Stands, StandsAt, Reads, LegibleAt, Legible, InThunk, trees, Operands}
+use Rattle.intern.specs.Intern.{Stands, StandsAt, Reads, LegibleAt, InThunk, trees, Operands}
 use Rattle.intern.specs.Intern.{kidsAnswer, ReadsAll}
-use Rattle.intern.proofs.Remains.{well-moved, Remains, Reading}
+use Rattle.intern.proofs.Remains.{Remains, Reading}
 use Rattle.intern.proofs.Kept.{kept-none, kept-then, ChildStored, stored}
 use Rattle.intern.proofs.After.{kids-good, kids-refused, after, after-none, after-end}
-use Rattle.intern.proofs.After.{after-turn, after-refused, after-same, Thunks}
+use Rattle.intern.proofs.After.{after-turn, after-refused, after-same}
 use Rattle.intern.proofs.After.{noted-list, noted-branched, noted-thunks}
 use Rattle.intern.proofs.After.{thunk-few}
 
-module _ (bs : List ℕ) (t : Tables) (i count op : ℕ) (at : Here) (ws₀ : List ℕ) (st₀ : State)
-    (few-records : recordCount bs ≤ 256) (h₀ : Operands bs ws₀ t st₀ i count op at) where
+-- ---- the start: no child is read
+
+module _ {bs : List ℕ} {t : Tables} {i count op : ℕ} {at : Here} {ws₀ : List ℕ} {st : State} (sound : WellFormed bs)
+    (h : Operands bs ws₀ t st i count op at) {k₀ : Kids} (e : k₀ ≡ unread st i)
+  where
+    pub loop-start : Reading bs t i count op at ws₀ (k₀ .st) ws₀ k₀ (at .top) 0
+    unfolding wordsFrom
+    loop-start = rw e (record {
+      sound = sound;
+      first = h;
+      left = count;
+      remains = record {
+        sum = omega arith;
+        rep = h .stands .rep;
+        opened = h .stands .opened;
+        number = refl;
+        there = h .there;
+        is = after-none _;
+        place = refl;
+        rest = refl;
+        shallow = omega arith;
+        block = h .block;
+        plain = h .plain;
+        paid = h .paid;
+        well = h .well;
+        onward = omega arith;
+        held = omega (arith, h .stands .held);
+        pending = omega (arith, h .stands .held, h .within, records-few bs sound);
+        more = omega arith;
+        few = h .stands .top;
+        branched = record { few = omega arith; first = omega arith; second = omega arith };
+        thunks = record { none-first = λ l. refl; one-then = λ l. omega arith };
+        kept = kept-none at ws₀ st;
+      };
+    })
+
+-- ---- a loop that is under way
+
+module _ {bs : List ℕ} {t : Tables} {i count op : ℕ} {at : Here} {ws₀ : List ℕ} {st₀ : State} {ws : List ℕ} {k : Kids}
+    {top j : ℕ} (g : Reading bs t i count op at ws₀ st₀ ws k top j) where
+  abbrev h₀ : Operands bs ws₀ t st₀ i count op at
+  h₀ = g .first
+
   abbrev D : ℕ
   D = depths (trees bs i count)
 
-  -- ---- the start
+  -- ---- the end
 
-  pub reading-start : (k : Kids) → k ≡ unread st₀ i → Reading bs t i count op at ws₀ st₀ ws₀ k (at .top) 0
-  unfolding wordsFrom
-  reading-start k e = subst (λ (z : Kids). Reading bs t i count op at ws₀ st₀ ws₀ z (at .top) 0) (sym e) (record {
-    left = count;
-    remains = record {
-      sum = omega arith;
-      rep = h₀ .stands .rep;
-      opened = h₀ .stands .opened;
-      number = refl;
-      there = h₀ .there;
-      is = after-none _;
-      place = refl;
-      rest = refl;
-      shallow = omega arith;
-      block = h₀ .block;
-      plain = h₀ .plain;
-      paid = h₀ .paid;
-      well = h₀ .well;
-      onward = omega arith;
-      held = omega (arith, h₀ .stands .held);
-      pending = omega (arith, h₀ .stands .held, h₀ .within);
-      more = omega arith;
-      few = h₀ .stands .top;
-      branched = record { few = omega arith; first = omega arith; second = omega arith };
-      thunks = record { none-first = λ l. refl; one-then = λ l. omega arith };
-      kept = kept-none at ws₀ st₀;
-    };
-  })
-
-  module _ (ws : List ℕ) (k : Kids) (top j : ℕ) where
-    -- ---- the next child: what is left is not nothing
-
-    module _ (m : ℕ) (h : Remains bs t i count op at ws₀ st₀ ws k top j (suc m)) where
-      abbrev u : Tree
-      u = treeAt bs (k .next)
-
-      abbrev us : Trees
-      us = takeT m (restAt bs (k .next))
-
-      left-there : k .next < recordCount bs
-      left-there = trees-left bs (k .next) (omega (arith, h .there))
-
-      left-is : trees bs (k .next) (suc m) ≡ cons u us
-      unfolding takeT
-      left-is = ap (takeT (suc m)) (trees-at bs (k .next) left-there)
-
-      left-rest : dropT (suc m) (treesFrom bs (k .next)) ≡ dropT m (restAt bs (k .next))
-      unfolding dropT
-      left-rest = ap (dropT (suc m)) (trees-at bs (k .next) left-there)
-
-      left-many : m ≤ many (restAt bs (k .next))
-      unfolding many
-      left-many = omega (arith, h .there, ap many (trees-at bs (k .next) left-there))
-
-      left-sizes : sizes (trees bs (k .next) (suc m)) ≡ size u + sizes us
-      unfolding sizes
-      left-sizes = ap sizes left-is
-
-      left-depths : depths (trees bs (k .next) (suc m)) ≡ max (depth u) (depths us)
-      unfolding depths
-      left-depths = ap depths left-is
-
-      left-deep : depth u ≤ D
-      left-deep = omega (arith, left-depths, h .shallow)
-
-      left-well : WellAll (cons u us) (h .block) op j (at .scope) (envOf ws top) (absOf bs ws t (k .st)) (h .paid)
-      left-well = well-moved (sym left-is) refl refl refl (h .well)
-
-      scope-low : at .scope < k .st .scopes
-      scope-low = omega (arith, h₀ .stands .scope, h .kept .scopes)
-
-      scope-kept : scopeWord ws (at .scope) ≡ scopeWord ws₀ (at .scope)
-      scope-kept = h .kept .words .scopes (SCOPES .first + at .scope) (omega arith) (omega (arith, h₀ .stands .scope))
-
-      next-stands : Stands bs ws t (k .st) (k .next) (depth u) (childAt at j top)
-      next-stands = record {
+  at-end : Remains bs t i count op at ws₀ st₀ ws k top j zero → ReadsAll bs ws₀ t st₀ i count op at ws k
+  unfolding takeT dropT sizes
+  at-end h =
+      let e : j ≡ count = omega (arith, h .sum) in
+      record {
         rep = h .rep;
         opened = h .opened;
-        scope = scope-low;
-        held = h .held;
-        top = omega (arith, h .few, left-deep);
-        level = omega (arith, ap levelOf scope-kept, h₀ .stands .level, left-deep);
-        tables = omega (arith, h₀ .stands .tables, left-deep);
+        is =
+            kids-good bs ws t (at .held) count k (h .number)
+            ∙ ap (λ (z : ℕ). kidsAnswer bs ws t (at .held) z k) (sym e)
+            ∙ sym (after-end (pendingFrom ws (at .held) j) (branchesOf (k .branches)) op j (k .next) (at .scope)
+            (envOf ws top) (absOf bs ws t (k .st)))
+            ∙ h .is;
+        past = λ n. (omega (arith, h .place), h .rest);
+        pending = λ n. omega (arith, h .pending);
+        branched = h .branched;
+        kept = h .kept;
       }
 
-      next-legible : thunked op j ≡ false → Legible u (at .scope) (envOf ws top) (absOf bs ws t (k .st))
-      next-legible e = record { def = h .block && not (isNil us); well = child-plain left-well e }
+  pub reading-end : count ≤ j → ReadsAll bs ws₀ t st₀ i count op at ws k
+  reading-end l =
+      let e : g .left ≡ 0 = omega (arith, g .remains .sum) in
+      at-end (subst (λ (z : ℕ). Remains bs t i count op at ws₀ st₀ ws k top j z) e (g .remains))
 
-      next-thunk : thunked op j ≡ true → InThunk bs ws t (k .st) (k .next) (childAt at j top)
-      next-thunk e = record {
-        stands = next-stands;
-        room = omega (arith, h₀ .room j e, left-deep);
-        few = omega (arith, child-thunk left-well e .0, scopes-count bs ws t (k .st));
-        well =
-            subst (λ (b : Bool). Well u (b && not (isNil us)) (k .st .scopes) (envOf ws top)
-            (intern.openThunk (at .scope) (absOf bs ws t (k .st)))) (h .plain j e)
-            (subst (λ (z : ℕ). Well u (h .block && not (isNil us)) z (envOf ws top)
-            (intern.openThunk (at .scope) (absOf bs ws t (k .st)))) (scopes-count bs ws t (k .st))
-            (child-thunk left-well e .1));
-      }
+  -- ---- the next child
 
-      next-there : k .next < recordCount bs
-      next-there = left-there
+  module _ (lt : j < count) where
+    abbrev m : ℕ
+    m = g .left - 1
 
-      deep-some : 1 ≤ D
-      unfolding depth
-      deep-some = omega (arith, left-deep)
+    h : Remains bs t i count op at ws₀ st₀ ws k top j (suc m)
+    h =
+        let e : g .left ≡ suc m = omega (arith, g .remains .sum) in
+        subst (λ (z : ℕ). Remains bs t i count op at ws₀ st₀ ws k top j z) e (g .remains)
 
-      next-room : (at .held + j < 256) × (top < 1200)
-      next-room = (omega (arith, h .held, left-there), omega (arith, h .few, left-there, deep-some))
+    abbrev u : Tree
+    u = treeAt bs (k .next)
 
-      left-whole : after (pendingFrom ws (at .held) j) (branchesOf (k .branches))
-          (internAll (cons u us) op j (k .next) (at .scope) (envOf ws top) (absOf bs ws t (k .st)))
-          ≡ internAll (trees bs i count) op 0 i (at .scope) (envOf ws₀ (at .top)) (absOf bs ws₀ t st₀)
-      left-whole =
-          ap (λ (z : Trees). after (pendingFrom ws (at .held) j) (branchesOf (k .branches))
-          (internAll z op j (k .next) (at .scope) (envOf ws top) (absOf bs ws t (k .st)))) (sym left-is)
-          ∙ h .is
+    abbrev us : Trees
+    us = takeT m (restAt bs (k .next))
 
-      module _ (thunk : Bool) (et : thunk ≡ thunked op j) (ws₁ : List ℕ) (r : Read)
-          (v : Reads bs ws t (k .st) (k .next) (childAt at j top)
-          (internScoped thunk (at .scope) (λ c s. intern u (k .next) c (envOf ws top) s) (absOf bs ws t (k .st))) ws₁ r)
-        where
-          scoped-is : internScoped (thunked op j) (at .scope) (λ c s. intern u (k .next) c (envOf ws top) s)
-              (absOf bs ws t (k .st)) ≡ outOf bs ws₁ t (r .step)
-          scoped-is = sym (v .is ∙ rw et)
+    pub reading-there : k .next < recordCount bs
+    reading-there = trees-left bs (k .next) (omega (arith, h .there))
 
-          child-kept : Kept at ws₀ ws₁ st₀ (r .step .st)
-          child-kept = kept-then (omega arith) (h .more) (h .kept) (v .kept)
+    left-is : trees bs (k .next) (suc m) ≡ cons u us
+    unfolding takeT
+    left-is = ap (takeT (suc m)) (trees-at bs (k .next) reading-there)
 
-          -- ---- a child that is refused
+    left-rest : dropT (suc m) (treesFrom bs (k .next)) ≡ dropT m (restAt bs (k .next))
+    unfolding dropT
+    left-rest = ap (dropT (suc m)) (trees-at bs (k .next) reading-there)
 
-          next-refused : (r .step .number ≡ 0 → ⊥) → ReadsAll bs ws₀ t st₀ i count op at ws₁ (failed k r)
-          next-refused n = record {
-            rep = v .rep;
-            opened = v .opened;
-            is =
-                kids-refused bs ws₁ t (at .held) count (failed k r) n
-                ∙ sym (after-refused _ _ op j (k .next) (at .scope) (envOf ws top) (absOf bs ws t (k .st)) u us
-                (r .step .number) (r .step .place) (scoped-is ∙ out-number bs ws₁ t (r .step) n))
-                ∙ left-whole;
-            past = λ e. absurd (n e);
-            pending = λ e. absurd (n e);
-            branched = h .branched;
-            kept = child-kept;
-          }
+    left-many : m ≤ many (restAt bs (k .next))
+    unfolding many
+    left-many = omega (arith, h .there, ap many (trees-at bs (k .next) reading-there))
 
-          -- ---- a child read
+    left-sizes : sizes (trees bs (k .next) (suc m)) ≡ size u + sizes us
+    unfolding sizes
+    left-sizes = ap sizes left-is
 
-          module _ (ok : r .step .number ≡ 0) (ws₂ : List ℕ) (top′ : ℕ)
-              (d₀ : DefBound bs (k .next) top (r .step .symbol) (set ws₁ (PENDING .first + at .held + j) (r .step .symbol)) ws₂
-              top′)
-            where
-              abbrev s : ℕ
-              s = r .step .symbol
+    left-depths : depths (trees bs (k .next) (suc m)) ≡ max (depth u) (depths us)
+    unfolding depths
+    left-depths = ap depths left-is
 
-              d : DefBound bs (k .next) top s (set ws₁ (PENDING .first + (at .held + j)) s) ws₂ top′
-              d = let e : PENDING .first + (at .held + j) ≡ PENDING .first + at .held + j = omega arith in rw e d₀
+    left-deep : depth u ≤ D
+    left-deep = omega (arith, left-depths, h .shallow)
 
-              next-is : r .next ≡ k .next + size u
-              next-is = v .past ok .0
+    left-well : WellAll (cons u us) (h .block) op j (at .scope) (envOf ws top) (absOf bs ws t (k .st)) (h .paid)
+    left-well = rw left-is at (h .well)
 
-              rest-is : treesFrom bs (r .next) ≡ restAt bs (k .next)
-              rest-is = v .past ok .1
+    scope-low : at .scope < k .st .scopes
+    scope-low = omega (arith, h₀ .stands .scope, h .kept .scopes)
 
-              us-is : trees bs (r .next) m ≡ us
-              us-is = ap (takeT m) rest-is
+    scope-kept : scopeWord ws (at .scope) ≡ scopeWord ws₀ (at .scope)
+    scope-kept = h .kept .words .scopes (SCOPES .first + at .scope) (omega arith) (omega (arith, h₀ .stands .scope))
 
-              forward : k .next + 1 ≤ r .next
-              forward = omega (arith, next-is, size-some u)
+    next-stands : Stands bs ws t (k .st) (k .next) (depth u) (childAt at j top)
+    next-stands = record {
+      rep = h .rep;
+      opened = h .opened;
+      scope = scope-low;
+      held = h .held;
+      top = omega (arith, h .few, left-deep);
+      level = omega (arith, ap levelOf scope-kept, h₀ .stands .level, left-deep);
+      tables = omega (arith, h₀ .stands .tables, left-deep);
+    }
 
-              abbrev st₁ : State
-              st₁ = r .step .st
+    -- in the scope of its parent, or in a thunk
+    pub reading-plain : thunked op j ≡ false → {c : Here} → c ≡ childAt at j top →
+        StandsAt bs ws t (k .st) (k .next) c × LegibleAt bs ws t (k .st) (k .next) c
+    reading-plain e f =
+        rw f (next-stands, record { def = h .block && not (isNil us); well = child-plain left-well e })
 
-              gives : internScoped (thunked op j) (at .scope) (λ c s. intern u (k .next) c (envOf ws top) s)
-                  (absOf bs ws t (k .st)) ≡ good (s, absOf bs ws₁ t st₁)
-              gives = scoped-is ∙ out-good bs ws₁ t (r .step) ok
+    pub reading-thunk : thunked op j ≡ true → {c : Here} → c ≡ childAt at j top →
+        InThunk bs ws t (k .st) (k .next) c
+    reading-thunk e f = rw f (record {
+      stands = next-stands;
+      room = omega (arith, h₀ .room j e, left-deep);
+      few = omega (arith, child-thunk left-well e .0, scopes-count bs ws t (k .st));
+      well =
+          rw (h .plain j e, scopes-count bs ws t (k .st)) at (child-thunk left-well e .1);
+    })
 
-              after₁ : ChildStored bs ws₁ t st₁ (k .next) (at .held + j) top s ws₂ top′
-              after₁ =
-                  stored bs ws₁ t st₁ (k .next) (at .held + j) top s ws₂ top′ (v .rep) (v .opened) (next-room .0)
-                  (next-room .1) d
+    deep-some : 1 ≤ D
+    unfolding depth
+    deep-some = omega (arith, left-deep)
 
-              abs₂ : absOf bs ws₂ t st₁ ≡ absOf bs ws₁ t st₁
-              abs₂ = after₁ .abs
+    pub reading-room : (at .held + j < 256) × (top < 1200)
+    reading-room =
+        let few = records-few bs (g .sound) in
+        (omega (arith, h .held, reading-there), omega (arith, h .few, reading-there, deep-some))
 
-              env₂ : envOf ws₂ top′ ≡ bindDef u s (envOf ws top)
-              env₂ = after₁ .env ∙ ap (bindDef u s) (env-words ws₁ ws top (v .kept .words .bound))
+    left-whole : after (pendingFrom ws (at .held) j) (branchesOf (k .branches))
+        (internAll (cons u us) op j (k .next) (at .scope) (envOf ws top) (absOf bs ws t (k .st)))
+        ≡ internAll (trees bs i count) op 0 i (at .scope) (envOf ws₀ (at .top)) (absOf bs ws₀ t st₀)
+    left-whole = rw left-is at (h .is)
 
-              pending₂ : pendingFrom ws₂ (at .held) (suc j) ≡ pendingFrom ws (at .held) j ++ (s ∷ [])
-              pending₂ =
-                  after₁ .pending (at .held) j refl
-                  ∙ ap (λ (z : List ℕ). z ++ (s ∷ []))
-                  (words-agree ws ws₁ (PENDING .first + at .held) j
-                  (λ x l y. v .kept .words .pending x (omega arith) (omega arith)))
+    module _ {thunk : Bool} (et : thunk ≡ thunked op j) {ws₁ : List ℕ} {r : Read} {c : Here}
+        (ec : c ≡ childAt at j top)
+        (v₀ : Reads bs ws t (k .st) (k .next) c
+        (internScoped thunk (c .scope) (λ c′ s. intern u (k .next) c′ (envOf ws (c .top)) s) (absOf bs ws t (k .st)))
+        ws₁ r)
+      where
+        v : Reads bs ws t (k .st) (k .next) (childAt at j top)
+            (internScoped thunk (at .scope) (λ c s. intern u (k .next) c (envOf ws top) s) (absOf bs ws t (k .st))) ws₁
+            r
+        v = rw ec at v₀
 
-              branches₂ : branchesOf (noted thunk (k .branches) (k .st .scopes))
-                  ≡ branchesOf (k .branches) ++ branch (thunked op j) (length (absOf bs ws t (k .st) .scopes)) []
-              branches₂ =
-                  noted-list (k .branches) (k .st .scopes) thunk
-                  (thunk-few (k .branches) (k .st .scopes) op j thunk et (h .thunks))
-                  ∙ rw (et, scopes-count bs ws t (k .st))
+        scoped-is : internScoped (thunked op j) (at .scope) (λ c s. intern u (k .next) c (envOf ws top) s)
+            (absOf bs ws t (k .st)) ≡ outOf bs ws₁ t (r .step)
+        scoped-is = sym (v .is ∙ rw et)
 
-              is₂ : after (pendingFrom ws₂ (at .held) (j + 1)) (branchesOf (noted thunk (k .branches) (k .st .scopes)))
-                  (internAll (trees bs (r .next) m) op (j + 1) (r .next) (at .scope) (envOf ws₂ top′)
-                  (absOf bs ws₂ t st₁))
-                  ≡ internAll (trees bs i count) op 0 i (at .scope) (envOf ws₀ (at .top)) (absOf bs ws₀ t st₀)
-              is₂ =
-                  after-same op (at .scope) (ap (pendingFrom ws₂ (at .held)) (add-one j) ∙ pending₂) branches₂ us-is
-                  (add-one j) next-is env₂ abs₂
-                  ∙ sym (after-turn _ _ op j (k .next) (at .scope) (envOf ws top) (absOf bs ws t (k .st)) u us
-                  (s, absOf bs ws₁ t st₁) gives)
-                  ∙ left-whole
+        child-kept : Kept at ws₀ ws₁ st₀ (r .step .st)
+        child-kept = kept-then (omega arith) (h .more) (h .kept) (v .kept)
 
-              step₂ : Kept (childAt at j top) ws₁ ws₂ st₁ st₁
-              step₂ = record { words = after₁ .words (st₁ .scopes) (v .rep .arena .scoped .few-scopes); scopes = omega arith }
+        -- ---- a child that is refused
 
-              turned : Reading bs t i count op at ws₀ st₀ ws₂ (withChild k thunk r) top′ (j + 1)
-              turned = record {
-                left = m;
-                remains = record {
-                  sum = omega (arith, h .sum);
-                  rep = after₁ .rep;
-                  opened = v .opened;
-                  number = refl;
-                  there = rw rest-is left-many;
-                  is = is₂;
-                  place = omega (arith, ap sizes us-is, next-is, left-sizes, h .place);
-                  rest = ap (dropT m) rest-is ∙ sym left-rest ∙ h .rest;
-                  shallow = omega (arith, ap depths us-is, left-depths, h .shallow);
-                  block = h .block;
-                  plain = h .plain;
-                  paid = suc (h .paid);
-                  well =
-                      well-moved us-is (add-one j) env₂ abs₂
-                      (next-well left-well (k .next) (s, absOf bs ws₁ t st₁) gives);
-                  onward = omega (arith, forward, h .onward);
-                  held = omega (arith, forward, h .held);
-                  pending = omega (arith, next-room .0);
-                  more = omega (arith, h .more, d .least);
-                  few = omega (arith, forward, h .few, d .most);
-                  branched = noted-branched (k .branches) (k .st .scopes) thunk (h .branched) (h .rep .arena .scoped .few-scopes);
-                  thunks =
-                      subst (λ (z : ℕ). Thunks z (noted thunk (k .branches) (k .st .scopes) .count)) (sym (add-one j))
-                      (noted-thunks (k .branches) (k .st .scopes) op j thunk et (h .thunks));
-                  kept = kept-then (omega arith) (h .more) child-kept step₂;
-                };
-              }
-
-    -- ---- the end
-
-    at-end : Remains bs t i count op at ws₀ st₀ ws k top j zero → ReadsAll bs ws₀ t st₀ i count op at ws k
-    unfolding takeT dropT sizes
-    at-end h =
-        let e : j ≡ count = omega (arith, h .sum) in
-        record {
-          rep = h .rep;
-          opened = h .opened;
+        pub reading-refused : {z : Kids} → z ≡ failed k r → (r .step .number ≡ 0 → ⊥) →
+            ReadsAll bs ws₀ t st₀ i count op at ws₁ z
+        reading-refused e n = rw e (record {
+          rep = v .rep;
+          opened = v .opened;
           is =
-              kids-good bs ws t (at .held) count k (h .number)
-              ∙ ap (λ (z : ℕ). kidsAnswer bs ws t (at .held) z k) (sym e)
-              ∙ sym (after-end (pendingFrom ws (at .held) j) (branchesOf (k .branches)) op j (k .next) (at .scope)
-              (envOf ws top) (absOf bs ws t (k .st)))
-              ∙ h .is;
-          past = λ n. (omega (arith, h .place), h .rest);
-          pending = λ n. omega (arith, h .pending);
+              kids-refused bs ws₁ t (at .held) count (failed k r) n
+              ∙ sym (after-refused _ _ op j (k .next) (at .scope) (envOf ws top) (absOf bs ws t (k .st)) u us
+              (r .step .number) (r .step .place) (scoped-is ∙ out-number bs ws₁ t (r .step) n))
+              ∙ left-whole;
+          past = λ z. absurd (n z);
+          pending = λ z. absurd (n z);
           branched = h .branched;
-          kept = h .kept;
-        }
+          kept = child-kept;
+        })
 
-    module _ (g : Reading bs t i count op at ws₀ st₀ ws k top j) where
-      pub reading-end : count ≤ j → ReadsAll bs ws₀ t st₀ i count op at ws k
-      reading-end l =
-          let e : g .left ≡ 0 = omega (arith, g .remains .sum) in
-          at-end (subst (λ (z : ℕ). Remains bs t i count op at ws₀ st₀ ws k top j z) e (g .remains))
+        -- ---- a child read
 
-      module _ (lt : j < count) where
-        some : Remains bs t i count op at ws₀ st₀ ws k top j (suc (g .left - 1))
-        some =
-            let e : g .left ≡ suc (g .left - 1) = omega (arith, g .remains .sum) in
-            subst (λ (z : ℕ). Remains bs t i count op at ws₀ st₀ ws k top j z) e (g .remains)
+        module _ (ok : r .step .number ≡ 0) {ws₂ : List ℕ} {top′ : ℕ}
+            (d₀ : DefBound bs (k .next) top (r .step .symbol) (set ws₁ (PENDING .first + at .held + j) (r .step .symbol)) ws₂
+            top′)
+          where
+            abbrev s : ℕ
+            s = r .step .symbol
 
-        pub reading-there : k .next < recordCount bs
-        reading-there = next-there (g .left - 1) some
+            d : DefBound bs (k .next) top s (set ws₁ (PENDING .first + (at .held + j)) s) ws₂ top′
+            d = let e : PENDING .first + (at .held + j) ≡ PENDING .first + at .held + j = omega arith in rw e d₀
 
-        pub reading-room : (at .held + j < 256) × (top < 1200)
-        reading-room = next-room (g .left - 1) some
+            next-is : r .next ≡ k .next + size u
+            next-is = v .past ok .0
 
-        -- the next child, in the scope of its parent or in a thunk
-        pub reading-plain : thunked op j ≡ false → (c : Here) → c ≡ childAt at j top →
-            StandsAt bs ws t (k .st) (k .next) c × LegibleAt bs ws t (k .st) (k .next) c
-        reading-plain e c f =
-            subst (λ (z : Here). StandsAt bs ws t (k .st) (k .next) z × LegibleAt bs ws t (k .st) (k .next) z) (sym f)
-            (next-stands (g .left - 1) some, next-legible (g .left - 1) some e)
+            rest-is : treesFrom bs (r .next) ≡ restAt bs (k .next)
+            rest-is = v .past ok .1
 
-        pub reading-thunk : thunked op j ≡ true → (c : Here) → c ≡ childAt at j top →
-            InThunk bs ws t (k .st) (k .next) c
-        reading-thunk e c f =
-            subst (InThunk bs ws t (k .st) (k .next)) (sym f) (next-thunk (g .left - 1) some e)
+            us-is : trees bs (r .next) m ≡ us
+            us-is = ap (takeT m) rest-is
 
-        module _ (thunk : Bool) (et : thunk ≡ thunked op j) (ws₁ : List ℕ) (r : Read) (c : Here)
-            (ec : c ≡ childAt at j top)
-            (v₀ : Reads bs ws t (k .st) (k .next) c
-            (internScoped thunk (c .scope) (λ c′ s. intern (treeAt bs (k .next)) (k .next) c′ (envOf ws (c .top)) s)
-            (absOf bs ws t (k .st))) ws₁ r) where
-          v : Reads bs ws t (k .st) (k .next) (childAt at j top)
-              (internScoped thunk (at .scope) (λ c′ s. intern (treeAt bs (k .next)) (k .next) c′ (envOf ws top) s)
-              (absOf bs ws t (k .st))) ws₁ r
-          v = subst (λ (z : Here). Reads bs ws t (k .st) (k .next) z
-              (internScoped thunk (z .scope) (λ c′ s. intern (treeAt bs (k .next)) (k .next) c′ (envOf ws (z .top)) s)
-              (absOf bs ws t (k .st))) ws₁ r) ec v₀
+            forward : k .next + 1 ≤ r .next
+            forward = omega (arith, next-is, size-some u)
 
-          pub reading-refused : (z : Kids) → z ≡ failed k r → (r .step .number ≡ 0 → ⊥) →
-              ReadsAll bs ws₀ t st₀ i count op at ws₁ z
-          reading-refused z e n =
-              subst (λ (y : Kids). ReadsAll bs ws₀ t st₀ i count op at ws₁ y) (sym e)
-              (next-refused (g .left - 1) some thunk et ws₁ r v n)
+            abbrev st₁ : State
+            st₁ = r .step .st
 
-          pub reading-turn : r .step .number ≡ 0 → (ws₂ : List ℕ) (top′ : ℕ) →
-              DefBound bs (k .next) top (r .step .symbol) (set ws₁ (PENDING .first + at .held + j) (r .step .symbol)) ws₂ top′ →
-              (z : Kids) → z ≡ withChild k thunk r → Reading bs t i count op at ws₀ st₀ ws₂ z top′ (j + 1)
-          reading-turn ok ws₂ top′ d z e =
-              subst (λ (y : Kids). Reading bs t i count op at ws₀ st₀ ws₂ y top′ (j + 1)) (sym e)
-              (turned (g .left - 1) some thunk et ws₁ r v ok ws₂ top′ d)
+            gives : internScoped (thunked op j) (at .scope) (λ c s. intern u (k .next) c (envOf ws top) s)
+                (absOf bs ws t (k .st)) ≡ good (s, absOf bs ws₁ t st₁)
+            gives = scoped-is ∙ out-good bs ws₁ t (r .step) ok
+
+            after₁ : ChildStored bs ws₁ t st₁ (k .next) (at .held + j) top s ws₂ top′
+            after₁ =
+                stored bs ws₁ t st₁ (k .next) (at .held + j) top s ws₂ top′ (v .rep) (v .opened) (reading-room .0)
+                (reading-room .1) d
+
+            abs₂ : absOf bs ws₂ t st₁ ≡ absOf bs ws₁ t st₁
+            abs₂ = after₁ .abs
+
+            env₂ : envOf ws₂ top′ ≡ bindDef u s (envOf ws top)
+            env₂ = after₁ .env ∙ ap (bindDef u s) (env-words ws₁ ws top (v .kept .words .bound))
+
+            pending₂ : pendingFrom ws₂ (at .held) (suc j) ≡ pendingFrom ws (at .held) j ++ (s ∷ [])
+            pending₂ =
+                after₁ .pending (at .held) j refl
+                ∙ ap (λ (z : List ℕ). z ++ (s ∷ []))
+                (words-agree ws ws₁ (PENDING .first + at .held) j
+                (λ x l y. v .kept .words .pending x (omega arith) (omega arith)))
+
+            branches₂ : branchesOf (noted thunk (k .branches) (k .st .scopes))
+                ≡ branchesOf (k .branches) ++ branch (thunked op j) (length (absOf bs ws t (k .st) .scopes)) []
+            branches₂ =
+                noted-list (k .branches) (k .st .scopes) thunk
+                (thunk-few (k .branches) (k .st .scopes) op j thunk et (h .thunks))
+                ∙ rw (et, scopes-count bs ws t (k .st))
+
+            is₂ : after (pendingFrom ws₂ (at .held) (j + 1)) (branchesOf (noted thunk (k .branches) (k .st .scopes)))
+                (internAll (trees bs (r .next) m) op (j + 1) (r .next) (at .scope) (envOf ws₂ top′)
+                (absOf bs ws₂ t st₁))
+                ≡ internAll (trees bs i count) op 0 i (at .scope) (envOf ws₀ (at .top)) (absOf bs ws₀ t st₀)
+            is₂ =
+                after-same op (at .scope) (ap (pendingFrom ws₂ (at .held)) (add-one j) ∙ pending₂) branches₂ us-is
+                (add-one j) next-is env₂ abs₂
+                ∙ sym (after-turn _ _ op j (k .next) (at .scope) (envOf ws top) (absOf bs ws t (k .st)) u us
+                (s, absOf bs ws₁ t st₁) gives)
+                ∙ left-whole
+
+            step₂ : Kept (childAt at j top) ws₁ ws₂ st₁ st₁
+            step₂ = record { words = after₁ .words (st₁ .scopes) (v .rep .arena .scoped .few-scopes); scopes = omega arith }
+
+            pub reading-turn : {z : Kids} → z ≡ withChild k thunk r →
+                Reading bs t i count op at ws₀ st₀ ws₂ z top′ (j + 1)
+            reading-turn e = rw e (record {
+              sound = g .sound;
+              first = h₀;
+              left = m;
+              remains = record {
+                sum = omega (arith, h .sum);
+                rep = after₁ .rep;
+                opened = v .opened;
+                number = refl;
+                there = rw rest-is left-many;
+                is = is₂;
+                place = omega (arith, ap sizes us-is, next-is, left-sizes, h .place);
+                rest = ap (dropT m) rest-is ∙ sym left-rest ∙ h .rest;
+                shallow = omega (arith, ap depths us-is, left-depths, h .shallow);
+                block = h .block;
+                plain = h .plain;
+                paid = suc (h .paid);
+                well =
+                    rw (us-is, add-one j, env₂, abs₂)
+                    (next-well left-well (k .next) (s, absOf bs ws₁ t st₁) gives);
+                onward = omega (arith, forward, h .onward);
+                held = omega (arith, forward, h .held);
+                pending = omega (arith, reading-room .0);
+                more = omega (arith, h .more, d .least);
+                few = omega (arith, forward, h .few, d .most);
+                branched = noted-branched (k .branches) (k .st .scopes) thunk (h .branched) (h .rep .arena .scoped .few-scopes);
+                thunks =
+                    rw (add-one j)
+                    (noted-thunks (k .branches) (k .st .scopes) op j thunk et (h .thunks));
+                kept = kept-then (omega arith) (h .more) child-kept step₂;
+              };
+            })
+
+-- ---- from its first state
+
+module _ {bs : List ℕ} {t : Tables} {i count op : ℕ} {at : Here} {ws₀ : List ℕ} {st : State} (sound : WellFormed bs)
+    (h : Operands bs ws₀ t st i count op at) {k₀ : Kids} (e : k₀ ≡ unread st i)
+  where
+    pub loop-reads : {ws′ : List ℕ} {k : Kids} → ReadsAll bs ws₀ t (k₀ .st) i count op at ws′ k →
+        ReadsAll bs ws₀ t st i count op at ws′ k
+    loop-reads v = rw e at v
+
+    -- no child is to be read
+    pub loop-none : count ≡ 0 → ReadsAll bs ws₀ t st i count op at ws₀ k₀
+    loop-none z = loop-reads (reading-end (loop-start sound h e) (omega (arith, z)))

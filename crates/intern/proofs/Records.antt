@@ -2,17 +2,17 @@
 -- In order: a step's answer; definitions and blocks, and any other record; the children of a record: that they may be
 -- read, and what is known once they are.
 -- Assumes nothing.
-use Prim.Native.Nat.{ℕ, zero, suc, _+_, _-_, _*_, _<_, _≤_}
-use mathlib.Core.Path.{_≡_, refl, sym, ap, _∙_, subst}
-use mathlib.Core.Logic.{inl, inr}
+use Prim.Native.Nat.{ℕ, zero, suc, _+_, _<_, _≤_}
+use mathlib.Core.Path.{_≡_, refl, sym, ap, _∙_}
+use mathlib.Core.Logic.{_⊎_, inl, inr}
 use mathlib.Core.Bool.{Bool, true, false}
 use mathlib.Core.List.{List, []}
 use native.Mathlib.Omega.{arith}
 use native.Mathlib.Numerals.{add-one}
 use borrow.Author.Tests.{eq-eqb, ne-eqb}
 use lib.Dec.{eqb}
-use lib.ListN.{getD}
-use Rattle.regions.specs.Regions.{SLOTS, SCOPES, PENDING}
+use lib.ListN.{length, getD}
+use Rattle.regions.specs.Regions.{SLOTS, SCOPES, PENDING, WORDS}
 use Rattle.model.specs.Answer.{refused, _>>=_}
 use Rattle.model.specs.Lists.{last}
 use Rattle.model.specs.Tree.{Rec, many, size, sizes, depth, depths}
@@ -26,7 +26,7 @@ use Rattle.walk.specs.Walk.{recAt, kidTreesAt, restAt, treeAt, WellFormed}
 use Rattle.walk.proofs.Bridge.{row-fits, kids-there}
 use Rattle.symbols.specs.Words.{wordsFrom, pendingFrom}
 use Rattle.symbols.proofs.Words.{words-length}
-use Rattle.scopes.specs.Scopes.{scopeWord, levelOf}
+use Rattle.scopes.specs.Scopes.{levelOf}
 use Rattle.bindings.specs.Bindings.{envOf}
 use Rattle.bindings.proofs.Laws.{env-words}
 use Rattle.tables.specs.declared.Tables.{Tables}
@@ -47,18 +47,18 @@ use Rattle.intern.specs.declared.Here.{Here}
 use Rattle.intern.specs.declared.Kids.{Kids}
 use Rattle.intern.specs.Steps.{refusedRead}
 use Rattle.intern.specs.Words.{Kept}
-use Rattle.intern.specs.Intern.{Stands, Past, Reads, kidsRead, concluded, trees, Plain, Operands, kidsAnswer}
-use Rattle.intern.specs.Intern.{kidsOf, ReadsAll}
+use Rattle.intern.specs.Intern.{Stands, StandsAt, Past, Reads, kidsRead, concluded, WellKids, trees, Plain, Operands}
+use Rattle.intern.specs.Intern.{kidsAnswer, kidsOf, Concluding, Concluded, ReadsAll}
 use Rattle.intern.proofs.Kept.{kept-then, leaves-kept}
 use Rattle.intern.proofs.After.{kids-good, kids-refused}
 
 -- ---- a step's answer
 
-module _ {bs ws ws₁ : List ℕ} {t : Tables} {st st₁ : State} (i : ℕ) (at : Here) (o : Out) (kept : Kept at ws ws₁ st st₁)
+module _ {bs ws ws₁ : List ℕ} {t : Tables} {st st₁ : State} {i : ℕ} {at : Here} {o : Out} (kept : Kept at ws ws₁ st st₁)
     (rep : Rep bs ws₁ st₁) (open′ : Open t (st₁ .entries)) where
-  pub reads-refused : (n p next : ℕ) → (n ≡ 0 → ⊥) → o ≡ refused n p →
+  pub reads-refused : {n p next : ℕ} → (n ≡ 0 → ⊥) → o ≡ refused n p →
       Reads bs ws t st i at o ws₁ (refusedRead st₁ n p next)
-  reads-refused n p next h e = record {
+  reads-refused {n} {p} {next} h e = record {
     rep = rep;
     opened = open′;
     is = out-number bs ws₁ t (refusedRead st₁ n p next .step) h ∙ sym e;
@@ -66,12 +66,13 @@ module _ {bs ws ws₁ : List ℕ} {t : Tables} {st st₁ : State} (i : ℕ) (at 
     kept = kept;
   }
 
-  pub reads-answers : (ws₂ : List ℕ) (r : Step) (next : ℕ) → Past bs i (size (treeAt bs i)) (restAt bs i) next →
-      Answers bs ws₁ t st₁ o ws₂ r → Reads bs ws t st i at o ws₂ (record { step = r; next = next })
-  reads-answers ws₂ r next p a = record {
+  pub reads-answers : {o′ : Out} {ws₂ : List ℕ} {r : Step} {next : ℕ} → o′ ≡ o →
+      Past bs i (size (treeAt bs i)) (restAt bs i) next → Answers bs ws₁ t st₁ o′ ws₂ r →
+      Reads bs ws t st i at o ws₂ (record { step = r; next = next })
+  reads-answers {r = r} e p a = record {
     rep = a .rep;
     opened = open-later t (st₁ .entries) open′ (r .st .entries) (a .leaves .entries);
-    is = a .is;
+    is = a .is ∙ e;
     past = λ z. p;
     kept = kept-then (omega arith) (omega arith) kept (leaves-kept at (rep .arena .scoped .few-scopes) (a .leaves));
   }
@@ -79,13 +80,10 @@ module _ {bs ws ws₁ : List ℕ} {t : Tables} {st st₁ : State} (i : ℕ) (at 
 -- ---- definitions and blocks, and any other record
 
 module _ (at cur : ℕ) (r : Rec) (m : Outs) where
-  pub concluded-10 : r .shape ≡ 10 → concluded at cur r m ≡ internLast m
+  pub concluded-last : (r .shape ≡ 10) ⊎ (r .shape ≡ 11) → concluded at cur r m ≡ internLast m
   unfolding concluded
-  concluded-10 e = rw (eq-eqb (r .shape) 10 e, concluded)
-
-  pub concluded-11 : r .shape ≡ 11 → concluded at cur r m ≡ internLast m
-  unfolding concluded
-  concluded-11 e = rw (ne-eqb (r .shape) 10 (λ z. omega arith), eq-eqb (r .shape) 11 e, concluded)
+  concluded-last (inl e) = rw (eq-eqb (r .shape) 10 e, concluded)
+  concluded-last (inr e) = rw (ne-eqb (r .shape) 10 (λ z. omega arith), eq-eqb (r .shape) 11 e, concluded)
 
   pub concluded-other : (r .shape ≡ 10 → ⊥) → (r .shape ≡ 11 → ⊥) → concluded at cur r m ≡ internGeneral at cur r m
   unfolding concluded
@@ -102,51 +100,47 @@ concluded-refused at cur r n p = go (eqb (r .shape) 10) (eqb (r .shape) 11)
     go false true = refl
     go false false = refl
 
-module _ (bs : List ℕ) (i : ℕ) (sound : WellFormed bs) (lt : i < recordCount bs) where
-  pub def-last : recAt bs i .shape ≡ 10 → 1 ≤ rowAt bs i .kids
-  def-last e = omega (arith, fits-def (rowAt bs i) (row-fits bs i (sound .fit) lt) e .0)
+-- a record that may be concluded, with n children
+pub record Concludable (bs ws : List ℕ) (i : ℕ) (at : Here) (k : Kids) (n : ℕ) : Type 0 where
+  pub sound : WellFormed bs
+  pub rep : Rep bs ws (k .st)
+  pub concludes : Concluding bs ws i at k
+  pub count : n ≡ rowAt bs i .kids
 
-  pub block-last : recAt bs i .shape ≡ 11 → 1 ≤ rowAt bs i .kids
-  block-last e = fits-block (rowAt bs i) (row-fits bs i (sound .fit) lt) e
+module _ {bs ws : List ℕ} {i : ℕ} {at : Here} {k : Kids} {n : ℕ} (h : Concludable bs ws i at k n) where
+  -- a definition or a block has a last child
+  last-some : (recAt bs i .shape ≡ 10) ⊎ (recAt bs i .shape ≡ 11) → 1 ≤ rowAt bs i .kids
+  last-some (inl e) = omega (arith, fits-def (rowAt bs i) (row-fits bs i (h .sound .fit) (h .concludes .from)) e .0)
+  last-some (inr e) = fits-block (rowAt bs i) (row-fits bs i (h .sound .fit) (h .concludes .from)) e
 
-module _ (bs ws : List ℕ) (t : Tables) (i : ℕ) (at : Here) (k : Kids) where
-  abbrev read : Outs
-  read = kidsAnswer bs ws t (at .held) (rowAt bs i .kids) k
+  pub last-asks : (recAt bs i .shape ≡ 10) ⊎ (recAt bs i .shape ≡ 11) →
+      (0 < n) × (at .held + n ≤ PENDING .size) × (WORDS ≤ length ws)
+  last-asks e = (
+    omega (arith, h .count, last-some e),
+    omega (arith, h .count, h .concludes .pending),
+    h .rep .arena .scoped .words,
+  )
 
-  abbrev Gives : List ℕ → Step → Type 0
-  Gives ws′ r = Answers bs ws t (k .st) (concluded i (at .scope) (recAt bs i) read) ws′ r
+  module _ (t : Tables) where
+    abbrev read : Outs
+    read = kidsAnswer bs ws t (at .held) (rowAt bs i .kids) k
 
-  answers-as : {o : Out} (ws′ : List ℕ) (r : Step) → concluded i (at .scope) (recAt bs i) read ≡ o →
-      Answers bs ws t (k .st) o ws′ r → Gives ws′ r
-  answers-as ws′ r e a = record { rep = a .rep; leaves = a .leaves; low = a .low; is = a .is ∙ sym e }
-
-  module _ (rep : Rep bs ws (k .st))
-      (h : Concludes bs ws (k .st) i (at .scope) (at .scope) (at .held) (rowAt bs i .kids)) (r : Step) (n : ℕ)
-      (en : n ≡ rowAt bs i .kids) (is : r ≡ given (k .st) (last (pendingFrom ws (at .held) n))) where
-    last-gives : 1 ≤ rowAt bs i .kids → concluded i (at .scope) (recAt bs i) read ≡ internLast read → Gives ws r
+    pub last-answers : (recAt bs i .shape ≡ 10) ⊎ (recAt bs i .shape ≡ 11) → {r : Step} →
+        r ≡ given (k .st) (last (pendingFrom ws (at .held) n)) → Concluded bs ws t i at k ws r
     unfolding internLast _>>=_
-    last-gives some e =
-        answers-as ws r e
-        (given-answers bs ws t (k .st) (last (pendingFrom ws (at .held) (rowAt bs i .kids))) r rep
-        (last-low ws (at .held) (rowAt bs i .kids) (k .st .symbols) some (h .lower)) (is ∙ rw en))
+    last-answers e {r} is =
+        rw (concluded-last i (at .scope) (recAt bs i) read e)
+        (given-answers bs ws t (k .st) (last (pendingFrom ws (at .held) (rowAt bs i .kids))) r (h .rep)
+        (last-low ws (at .held) (rowAt bs i .kids) (k .st .symbols) (last-some e) (h .concludes .lower))
+        (is ∙ rw (h .count)))
 
-    pub last-answers-10 : WellFormed bs → recAt bs i .shape ≡ 10 → Gives ws r
-    last-answers-10 sound e =
-        last-gives (def-last bs i sound (h .from) e) (concluded-10 i (at .scope) (recAt bs i) read e)
-
-    pub last-answers-11 : WellFormed bs → recAt bs i .shape ≡ 11 → Gives ws r
-    last-answers-11 sound e =
-        last-gives (block-last bs i sound (h .from) e) (concluded-11 i (at .scope) (recAt bs i) read e)
-
-  pub general-answers : (recAt bs i .shape ≡ 10 → ⊥) → (recAt bs i .shape ≡ 11 → ⊥) → (n : ℕ) →
-      n ≡ rowAt bs i .kids → (ws′ : List ℕ) (r : Step) →
-      Answers bs ws t (k .st)
-      (finish i (at .scope) (recAt bs i) (pendingFrom ws (at .held) n) [] (nodeOf (recAt bs i) (branchesOf
-      (k .branches)))
-      (absOf bs ws t (k .st))) ws′ r → Gives ws′ r
-  unfolding internGeneral _>>=_
-  general-answers a b n en ws′ r g =
-      answers-as ws′ r (concluded-other i (at .scope) (recAt bs i) read a b ∙ rw (← en)) g
+    pub general-answers : (recAt bs i .shape ≡ 10 → ⊥) → (recAt bs i .shape ≡ 11 → ⊥) → {ws′ : List ℕ} {r : Step} →
+        Answers bs ws t (k .st)
+        (finish i (at .scope) (recAt bs i) (pendingFrom ws (at .held) n) []
+        (nodeOf (recAt bs i) (branchesOf (k .branches))) (absOf bs ws t (k .st))) ws′ r →
+        Concluded bs ws t i at k ws′ r
+    unfolding internGeneral _>>=_
+    general-answers a b g = rw (concluded-other i (at .scope) (recAt bs i) read a b, ← h .count) g
 
 -- ---- the children of a record
 
@@ -158,27 +152,32 @@ pending-in ws at (suc n) zero l = let e : at + 0 ≡ at = omega arith in inl (rw
 pending-in ws at (suc n) (suc j) l =
     let e : at + suc j ≡ suc at + j = omega arith in inr (rw e (pending-in ws (suc at) n j (omega arith)))
 
+-- a record whose children may be read
+pub record Parent (bs ws : List ℕ) (t : Tables) (st : State) (i : ℕ) (at : Here) : Type 0 where
+  pub sound : WellFormed bs
+  pub there : i < recordCount bs
+  pub stands : StandsAt bs ws t st i at
+  pub well : WellKids bs ws t st i at
+
 -- where the children of record i are read
 pub record Below (bs ws : List ℕ) (t : Tables) (st : State) (i : ℕ) (at : Here) : Type 0 where
-  pub rep : Rep bs ws st
-  pub opened : Open t (st .entries)
-  pub scope : at .scope < st .scopes
-  pub held : at .held ≤ i
-  pub top : at .top ≤ 14 * (64 - depths (kidTreesAt bs i)) + (i + 1)
-  pub level : levelOf (scopeWord ws (at .scope)) + depths (kidTreesAt bs i) ≤ 64
-  pub tables : t .depth + depths (kidTreesAt bs i) < 65
+  pub stands : Stands bs ws t st (i + 1) (depths (kidTreesAt bs i)) at
+  pub room : t .depth + depths (kidTreesAt bs i) < 65
 
-pub stands-below : (bs ws : List ℕ) (t : Tables) (st : State) (i : ℕ) (at : Here) →
+pub stands-below : {bs ws : List ℕ} {t : Tables} {st : State} {i : ℕ} {at : Here} →
     Stands bs ws t st i (depth (treeAt bs i)) at → Below bs ws t st i at
 unfolding depth
-stands-below bs ws t st i at h = record {
-  rep = h .rep;
-  opened = h .opened;
-  scope = h .scope;
-  held = h .held;
-  top = omega (arith, h .top);
-  level = omega (arith, h .level);
-  tables = omega (arith, h .tables);
+stands-below h = record {
+  stands = record {
+    rep = h .rep;
+    opened = h .opened;
+    scope = h .scope;
+    held = omega (arith, h .held);
+    top = omega (arith, h .top);
+    level = omega (arith, h .level);
+    tables = omega (arith, h .tables);
+  };
+  room = omega (arith, h .tables);
 }
 
 -- the same place, later
@@ -210,10 +209,10 @@ pub record Gave (bs ws : List ℕ) (t : Tables) (st : State) (i : ℕ) (at : Her
     pub again : WellAll (kidTreesAt bs i) b (recAt bs i .opcode) 0 (at .scope) (envOf ws₁ (at .top))
         (absOf bs ws₁ t (k .st)) 1
 
-module _ (bs : List ℕ) (i : ℕ) (sound : WellFormed bs) (lt : i < recordCount bs) (ws : List ℕ) (t : Tables) (st : State)
-    (at : Here) (b : Bool) (below : Below bs ws t st i at)
+module _ {bs ws : List ℕ} {t : Tables} {st : State} {i : ℕ} {at : Here} {b : Bool} (sound : WellFormed bs)
+    (lt : i < recordCount bs) (below : Below bs ws t st i at)
     (well : WellAll (kidTreesAt bs i) b (recAt bs i .opcode) 0 (at .scope) (envOf ws (at .top)) (absOf bs ws t st) 1)
-    (n op : ℕ) (en : n ≡ rowAt bs i .kids) (eo : op ≡ recAt bs i .opcode) where
+    {n op : ℕ} (en : n ≡ rowAt bs i .kids) (eo : op ≡ recAt bs i .opcode) where
   abbrev env : Env
   env = envOf ws (at .top)
 
@@ -227,20 +226,11 @@ module _ (bs : List ℕ) (i : ℕ) (sound : WellFormed bs) (lt : i < recordCount
   -- that they may be read
   pub kids-operands : Plain (recAt bs i .opcode) b → Operands bs ws t st (i + 1) n op at
   kids-operands plain =
-      let d : depths (trees bs (i + 1) n) ≡ depths (kidTreesAt bs i) = ap depths trees-are in
       record {
         there = omega (arith, en, kids-there bs i (sound .closed) lt);
         within = omega arith;
-        stands = record {
-          rep = below .rep;
-          opened = below .opened;
-          scope = below .scope;
-          held = omega (arith, below .held);
-          top = omega (arith, below .top, d);
-          level = omega (arith, below .level, d);
-          tables = omega (arith, below .tables, d);
-        };
-        room = λ j e. omega (arith, below .tables, d);
+        stands = rw trees-are (below .stands);
+        room = λ j e. rw trees-are (below .room);
         block = b;
         plain = rw eo plain;
         paid = 1;
@@ -248,7 +238,7 @@ module _ (bs : List ℕ) (i : ℕ) (sound : WellFormed bs) (lt : i < recordCount
       }
 
   -- what is known once they are
-  module _ (ws₁ : List ℕ) (k : Kids) (v : ReadsAll bs ws t st (i + 1) n op at ws₁ k) where
+  module _ {ws₁ : List ℕ} {k : Kids} (v : ReadsAll bs ws t st (i + 1) n op at ws₁ k) where
     pub all-is : kidsOf bs ws₁ t (at .held) n k ≡ kidsRead bs i (at .scope) env A
     all-is = v .is ∙ rw (trees-are, eo, add-one i)
 
@@ -295,9 +285,7 @@ module _ (bs : List ℕ) (i : ℕ) (sound : WellFormed bs) (lt : i < recordCount
       kids-again : WellAll (kidTreesAt bs i) b (recAt bs i .opcode) 0 (at .scope) (envOf ws₁ (at .top))
           (absOf bs ws₁ t (k .st)) 1
       kids-again =
-          subst (λ (z : Env). WellAll (kidTreesAt bs i) b (recAt bs i .opcode) 0 (at .scope) z (absOf bs ws₁ t (k .st)) 1)
-          (sym (env-words ws₁ ws (at .top) (v .kept .words .bound)))
-          (again-well well (suc i) _ kids-give)
+          rw (env-words ws₁ ws (at .top) (v .kept .words .bound)) (again-well well (suc i) _ kids-give)
 
       pub kids-gave : Gave bs ws t st i at b n ws₁ k
       kids-gave = record {

@@ -1,14 +1,14 @@
--- What is left of the operands of a record, once some are read: the loop's invariant.
--- In order: operands that may be read, seen otherwise; what is left.
+-- What is left of the operands of a record, once some are read.
+-- In order: what is left; the invariant.
 -- Assumes nothing.
 use Prim.Native.Nat.{ℕ, _+_, _-_, _*_, _≤_}
-use mathlib.Core.Path.{_≡_, sym, subst}
+use mathlib.Core.Path.{_≡_}
 use mathlib.Core.Bool.{Bool}
 use mathlib.Core.List.{List}
-use Rattle.model.specs.Tree.{Trees, many, dropT, sizes, depths}
-use Rattle.model.specs.Intern.{Env, intern, internAll}
+use Rattle.model.specs.Tree.{many, dropT, sizes, depths}
+use Rattle.model.specs.Intern.{internAll}
 use Rattle.model.specs.Intern as intern
-use Rattle.walk.specs.Walk.{treesFrom}
+use Rattle.walk.specs.Walk.{treesFrom, WellFormed}
 use Rattle.symbols.specs.Words.{pendingFrom}
 use Rattle.bindings.specs.Bindings.{envOf}
 use Rattle.tables.specs.declared.Tables.{Tables}
@@ -20,17 +20,8 @@ use Rattle.standing.specs.Standing.{WellAll}
 use Rattle.intern.specs.declared.Here.{Here}
 use Rattle.intern.specs.declared.Kids.{Kids}
 use Rattle.intern.specs.Words.{Kept}
-use Rattle.intern.specs.Intern.{trees, Plain}
+use Rattle.intern.specs.Intern.{trees, Plain, Operands}
 use Rattle.intern.proofs.After.{after, Thunks}
-
--- the same operands, seen otherwise
-pub well-moved : {ts us : Trees} {b : Bool} {op j m cur : ℕ} {env env′ : Env} {s s′ : intern.State} {k : ℕ} → us ≡ ts →
-    m ≡ j → env′ ≡ env → s′ ≡ s → WellAll ts b op j cur env s k → WellAll us b op m cur env′ s′ k
-well-moved {ts} {us} {b} {op} {j} {m} {cur} {env} {env′} {s} {s′} {k} e f g h w =
-    subst (λ (z : intern.State). WellAll us b op m cur env′ z k) (sym h)
-    (subst (λ (z : Env). WellAll us b op m cur z s k) (sym g)
-    (subst (λ (z : ℕ). WellAll us b op z cur env s k) (sym f)
-    (subst (λ (z : Trees). WellAll z b op j cur env s k) (sym e) w)))
 
 -- of `count` operands from record i on, j are read and `left` are left, from record k .next on
 pub record Remains (bs : List ℕ) (t : Tables) (i count op : ℕ) (at : Here) (ws₀ : List ℕ) (st₀ : State) (ws : List ℕ)
@@ -59,7 +50,10 @@ pub record Remains (bs : List ℕ) (t : Tables) (i count op : ℕ) (at : Here) (
   pub thunks : Thunks j (k .branches .count)
   pub kept : Kept at ws₀ ws st₀ (k .st)
 
+-- the loop's invariant, with what was asked
 pub record Reading (bs : List ℕ) (t : Tables) (i count op : ℕ) (at : Here) (ws₀ : List ℕ) (st₀ : State) (ws : List ℕ)
     (k : Kids) (top j : ℕ) : Type 0 where
+  pub sound : WellFormed bs
+  pub first : Operands bs ws₀ t st₀ i count op at
   pub left : ℕ
   pub remains : Remains bs t i count op at ws₀ st₀ ws k top j left

@@ -39,7 +39,7 @@ module _ (before after : State) (e : repeats before after ≡ true) where
 
 -- ---- children read again
 
-module _ (bs ws : List ℕ) (t : Tables) (st : State) (i : ℕ) (at : Here) (b : Bool) (n : ℕ) (ws₁ : List ℕ) (k : Kids)
+module _ {bs ws : List ℕ} {t : Tables} {st : State} {i : ℕ} {at : Here} {b : Bool} {n : ℕ} {ws₁ : List ℕ} {k : Kids}
     (well : WellAll (kidTreesAt bs i) b (recAt bs i .opcode) 0 (at .scope) (envOf ws (at .top)) (absOf bs ws t st) 1)
     (gave : Gave bs ws t st i at b n ws₁ k) (e : repeats st (k .st) ≡ true) where
   no-scope : length (absOf bs ws₁ t (k .st) .scopes) ≡ length (absOf bs ws t st .scopes)

@@ -2,7 +2,7 @@
 -- In order: how deep an accepted forest is; before its trees are read; after.
 -- Assumes nothing.
 use Prim.Native.Nat.{ℕ, suc, _+_, _<_, _≤_}
-use mathlib.Core.Path.{_≡_, refl, sym, ap, _∙_, subst}
+use mathlib.Core.Path.{_≡_, refl, sym, ap, _∙_}
 use mathlib.Core.Bool.{false}
 use mathlib.Core.Option.{none}
 use mathlib.Core.List.{List, []}
@@ -16,7 +16,7 @@ use Rattle.model.specs.Tree.{Tree, Trees, node, nil, cons, many, depth, depths}
 use Rattle.model.specs.Faults.{faults}
 use Rattle.model.specs.Forest.{treeCount, treesOf, deep, deeps, check7}
 use Rattle.model.specs.Accept.{accept}
-use Rattle.model.specs.Intern.{Outs, Env, start, internLast, internAll, internForest}
+use Rattle.model.specs.Intern.{Outs, internLast, internAll, internForest}
 use Rattle.model.specs.Intern as intern
 use Rattle.model.specs.Call.{interned}
 use Rattle.laws.specs.Frame.{Frame}
@@ -40,7 +40,6 @@ use Rattle.interner.specs.State.{absOf, Rep, Started}
 use Rattle.interner.specs.Step.{given}
 use Rattle.interner.proofs.Sharing.{out-good, out-number}
 use Rattle.opening.proofs.Counts.{symbols-count}
-use Rattle.standing.specs.Standing.{WellAll}
 use Rattle.standing.proofs.Enter.{forest-well}
 use Rattle.standing.proofs.Next.{last-result}
 use Rattle.intern.specs.declared.Here.{Here}
@@ -72,7 +71,7 @@ forest-flat bs e = omega (arith, trees-flat (treesOf bs) 1 (omega arith) (first-
 
 -- ---- before its trees are read
 
-module _ (bs ws : List ℕ) (accepted : accept bs ≡ good (treesOf bs)) where
+module _ (bs : List ℕ) (accepted : accept bs ≡ good (treesOf bs)) where
   passed : Passed bs (treesOf bs)
   passed = accept-passed bs (treesOf bs) accepted
 
@@ -82,120 +81,121 @@ module _ (bs ws : List ℕ) (accepted : accept bs ≡ good (treesOf bs)) where
   pub forest-header : 4 ≤ length bs
   forest-header = header-of bs (forest-sound .laid .header) .least
 
-  abbrev origin : Here
-  origin = record { scope = 0; held = 0; top = 0 }
+abbrev origin : Here
+origin = record { scope = 0; held = 0; top = 0 }
 
-  module _ (ws₁ : List ℕ) (st : State) (started : Started ws ws₁ st) (count : ℕ) (is : count ≡ treeCount bs) where
-    whole : trees bs 0 count ≡ treesOf bs
-    whole = trees-whole bs count forest-sound is
+-- an accepted forest of so many trees, with nothing read yet
+pub record Begun (bs ws ws₁ : List ℕ) (t : Tables) (st : State) (count : ℕ) : Type 0 where
+  pub accepted : accept bs ≡ good (treesOf bs)
+  pub started : Started ws ws₁ st
+  pub counted : count ≡ treeCount bs
+  pub tables : t ≡ first
 
-    rep : Rep bs ws₁ st
-    rep = started .rep bs
+module _ {bs ws ws₁ : List ℕ} {t : Tables} {st : State} {count : ℕ} (h : Begun bs ws ws₁ t st count) where
+  whole : trees bs 0 count ≡ treesOf bs
+  whole = trees-whole bs count (forest-sound bs (h .accepted)) (h .counted)
 
-    no-ids : envOf ws₁ 0 ≡ []
-    unfolding envOf stackOf
-    no-ids = refl
+  rep : Rep bs ws₁ st
+  rep = h .started .rep bs
 
-    shallow : depths (trees bs 0 count) ≤ 64
-    shallow = rw whole (forest-flat bs (passed .shallow))
+  no-ids : envOf ws₁ 0 ≡ []
+  unfolding envOf stackOf
+  no-ids = refl
 
-    outermost : levelOf (scopeWord ws₁ 0) ≡ 0
-    outermost = ap levelOf (rep .arena .scoped .nested .outermost)
+  shallow : depths (trees bs 0 count) ≤ 64
+  shallow = rw whole (forest-flat bs (passed bs (h .accepted) .shallow))
 
-    operands₁ : Operands bs ws₁ first st 0 count 0 origin
-    operands₁ = record {
-      there = trees-there bs count forest-sound is;
-      within = omega arith;
-      stands = record {
-        rep = rep;
-        opened = started .opened;
-        scope = rep .arena .scoped .some-scope;
-        held = omega arith;
-        top = omega arith;
-        level = omega (arith, outermost, shallow);
-        tables = omega (arith, shallow);
-      };
-      room = λ j e. absurd (none-thunked j e);
-      block = false;
-      plain = λ j e. refl;
-      paid = 0;
-      well =
-          subst (λ (z : intern.State). WellAll (trees bs 0 count) false 0 0 0 (envOf ws₁ 0) z 0) (sym (started .is bs))
-          (subst (λ (z : Env). WellAll (trees bs 0 count) false 0 0 0 z start 0) (sym no-ids)
-          (subst (λ (z : Trees). WellAll z false 0 0 0 [] start 0) (sym whole)
-          (forest-well bs (treesOf bs) accepted)));
+  outermost : levelOf (scopeWord ws₁ 0) ≡ 0
+  outermost = ap levelOf (rep .arena .scoped .nested .outermost)
+
+  operands₁ : Operands bs ws₁ first st 0 count 0 origin
+  operands₁ = record {
+    there = trees-there bs count (forest-sound bs (h .accepted)) (h .counted);
+    within = omega arith;
+    stands = record {
+      rep = rep;
+      opened = h .started .opened;
+      scope = rep .arena .scoped .some-scope;
+      held = omega arith;
+      top = omega arith;
+      level = omega (arith, outermost, shallow);
+      tables = omega (arith, shallow);
+    };
+    room = λ j e. absurd (none-thunked j e);
+    block = false;
+    plain = λ j e. refl;
+    paid = 0;
+    well =
+        rw (h .started .is bs, no-ids, whole) (forest-well bs (treesOf bs) (h .accepted));
+  }
+
+  pub forest-operands : Operands bs ws₁ t st 0 count 0 origin
+  forest-operands = rw (h .tables) operands₁
+
+  -- ---- after
+
+  module _ {ws₂ : List ℕ} {k : Kids} (v₀ : ReadsAll bs ws₁ t st 0 count 0 origin ws₂ k) where
+    v : ReadsAll bs ws₁ first st 0 count 0 origin ws₂ k
+    v = rw (h .tables) at v₀
+
+    all-read : internAll (trees bs 0 count) 0 0 0 0 (envOf ws₁ 0) (absOf bs ws₁ first st)
+        ≡ internForest (treesOf bs)
+    unfolding internForest
+    all-read =
+        rw (h .started .is bs, no-ids, whole)
+
+    interned-is : (m : Outs) → internForest (treesOf bs) ≡ m → interned bs ≡ internLast m
+    unfolding interned _>>=_
+    interned-is m e = rw (h .accepted, e)
+
+    frame₂ : Frame (SYMBOLS .first) (end BINDINGS) ws ws₂
+    frame₂ =
+        frame-then (SYMBOLS .first) (end BINDINGS) ws ws₁ ws₂
+        (frame-wider (SYMBOLS .first) (PENDING .first) (SYMBOLS .first) (end BINDINGS) ws ws₁ (h .started .frame)
+        (omega arith) (omega arith)) (v .kept .words .frame)
+
+    pub forest-refused : (k .number ≡ 0 → ⊥) →
+        Interned bs ws ws₂ (record { st = k .st; symbol = 0; number = k .number; place = k .place })
+    unfolding internLast _>>=_
+    forest-refused n = record {
+      rep = v .rep;
+      is =
+          out-number bs ws₂ first (record { st = k .st; symbol = 0; number = k .number; place = k .place }) n
+          ∙ sym (interned-is (refused (k .number) (k .place))
+          (sym (v .is ∙ all-read) ∙ kids-refused bs ws₂ first 0 count k n));
+      low = λ e. absurd (n e);
+      frame = frame₂;
     }
 
-    module _ (t : Tables) (new : t ≡ first) where
-      pub forest-operands : Operands bs ws₁ t st 0 count 0 origin
-      forest-operands = subst (λ (z : Tables). Operands bs ws₁ z st 0 count 0 origin) (sym new) operands₁
+    module _ (ok : k .number ≡ 0) where
+      pub forest-last : (0 < count) × (0 + count ≤ PENDING .size) × (WORDS ≤ length ws₂)
+      forest-last = (
+        omega (arith, h .counted, header-of bs (forest-sound bs (h .accepted) .laid .header) .trees-least),
+        v .pending ok,
+        v .rep .arena .scoped .words,
+      )
 
-      -- ---- after
-
-      module _ (ws₂ : List ℕ) (k : Kids) (v₀ : ReadsAll bs ws₁ t st 0 count 0 origin ws₂ k) where
-        v : ReadsAll bs ws₁ first st 0 count 0 origin ws₂ k
-        v = subst (λ (z : Tables). ReadsAll bs ws₁ z st 0 count 0 origin ws₂ k) new v₀
-
-        all-read : internAll (trees bs 0 count) 0 0 0 0 (envOf ws₁ 0) (absOf bs ws₁ first st)
-            ≡ internForest (treesOf bs)
-        unfolding internForest
-        all-read =
-            ap (λ (z : intern.State). internAll (trees bs 0 count) 0 0 0 0 (envOf ws₁ 0) z) (started .is bs)
-            ∙ ap (λ (z : Env). internAll (trees bs 0 count) 0 0 0 0 z start) no-ids
-            ∙ ap (λ (z : Trees). internAll z 0 0 0 0 [] start) whole
-
-        interned-is : (m : Outs) → internForest (treesOf bs) ≡ m → interned bs ≡ internLast m
-        unfolding interned _>>=_
-        interned-is m e = rw (accepted, e)
-
-        frame₂ : Frame (SYMBOLS .first) (end BINDINGS) ws ws₂
-        frame₂ =
-            frame-then (SYMBOLS .first) (end BINDINGS) ws ws₁ ws₂
-            (frame-wider (SYMBOLS .first) (PENDING .first) (SYMBOLS .first) (end BINDINGS) ws ws₁ (started .frame)
-            (omega arith) (omega arith)) (v .kept .words .frame)
-
-        pub forest-refused : (k .number ≡ 0 → ⊥) →
-            Interned bs ws ws₂ (record { st = k .st; symbol = 0; number = k .number; place = k .place })
-        unfolding internLast _>>=_
-        forest-refused h = record {
-          rep = v .rep;
-          is =
-              out-number bs ws₂ first (record { st = k .st; symbol = 0; number = k .number; place = k .place }) h
-              ∙ sym (interned-is (refused (k .number) (k .place))
-              (sym (v .is ∙ all-read) ∙ kids-refused bs ws₂ first 0 count k h));
-          low = λ e. absurd (h e);
-          frame = frame₂;
-        }
-
-        module _ (ok : k .number ≡ 0) where
-          pub forest-last : (0 < count) × (0 + count ≤ PENDING .size) × (WORDS ≤ length ws₂)
-          forest-last = (
-            omega (arith, is, header-of bs (forest-sound .laid .header) .trees-least),
-            v .pending ok,
-            v .rep .arena .scoped .words,
+      root-low : last (pendingFrom ws₂ 0 count) < k .st .symbols
+      root-low =
+          let some : 1 ≤ many (trees bs 0 count) = omega (
+            arith,
+            ap many whole,
+            tree-count bs (forest-sound bs (h .accepted) .closed),
+            header-of bs (forest-sound bs (h .accepted) .laid .header) .trees-least,
+          ) in
+          omega (
+            arith,
+            last-result (operands₁ .well) 0 _ (sym (v .is) ∙ kids-good bs ws₂ first 0 count k ok) some .low,
+            symbols-count bs ws₂ first (k .st),
           )
 
-          root-low : last (pendingFrom ws₂ 0 count) < k .st .symbols
-          root-low =
-              let some : 1 ≤ many (trees bs 0 count) = omega (
-                arith,
-                ap many whole,
-                tree-count bs (forest-sound .closed),
-                header-of bs (forest-sound .laid .header) .trees-least,
-              ) in
-              omega (
-                arith,
-                last-result (operands₁ .well) 0 _ (sym (v .is) ∙ kids-good bs ws₂ first 0 count k ok) some .low,
-                symbols-count bs ws₂ first (k .st),
-              )
-
-          pub forest-done : (r : Step) → r ≡ given (k .st) (last (pendingFrom ws₂ 0 count)) → Interned bs ws ws₂ r
-          unfolding internLast _>>=_
-          forest-done r e = subst (Interned bs ws ws₂) (sym e) (record {
-            rep = v .rep;
-            is =
-                out-good bs ws₂ first (given (k .st) (last (pendingFrom ws₂ 0 count))) refl
-                ∙ sym (interned-is _ (sym (v .is ∙ all-read) ∙ kids-good bs ws₂ first 0 count k ok));
-            low = λ z. root-low;
-            frame = frame₂;
-          })
+      pub forest-done : {r : Step} → r ≡ given (k .st) (last (pendingFrom ws₂ 0 count)) → Interned bs ws ws₂ r
+      unfolding internLast _>>=_
+      forest-done e = rw e (record {
+        rep = v .rep;
+        is =
+            out-good bs ws₂ first (given (k .st) (last (pendingFrom ws₂ 0 count))) refl
+            ∙ sym (interned-is _ (sym (v .is ∙ all-read) ∙ kids-good bs ws₂ first 0 count k ok));
+        low = λ z. root-low;
+        frame = frame₂;
+      })

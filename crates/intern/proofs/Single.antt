@@ -1,7 +1,7 @@
 -- A record as the one operand of nothing: that it may be read so, and that this gives the record's own answer.
 -- Assumes nothing.
 use Prim.Native.Nat.{ℕ, _+_, _<_}
-use mathlib.Core.Path.{_≡_, refl, sym, ap, _∙_, subst}
+use mathlib.Core.Path.{_≡_, refl, ap, _∙_}
 use mathlib.Core.Bool.{Bool, true, false}
 use mathlib.Core.List.{List, _∷_}
 use native.Mathlib.Omega.{arith}
@@ -10,7 +10,7 @@ use lib.ListN.{getD}
 use Rattle.regions.specs.Regions.{PENDING}
 use Rattle.model.specs.Answer.{refused, good, _>>=_}
 use Rattle.model.specs.Lists.{last}
-use Rattle.model.specs.Tree.{Tree, Trees, nil, cons, many, takeT, dropT, size, sizes, depth, depths}
+use Rattle.model.specs.Tree.{Tree, nil, cons, many, takeT, dropT, size, sizes, depth, depths}
 use Rattle.model.specs.Forest.{recordCount}
 use Rattle.model.specs.Intern.{Out, Env, thunked, internScoped, internLast, intern, internAll}
 use Rattle.model.specs.Intern as intern
@@ -93,14 +93,12 @@ module _ (bs ws : List ℕ) (t : Tables) (st : State) (i : ℕ) (at : Here) (lt 
   one-operands s w = record {
     there = omega (arith, ap many (trees-at bs i lt));
     within = omega arith;
-    stands = subst (λ (d : ℕ). Stands bs ws t st i d at) (sym one-depth) s;
+    stands = rw one-depth s;
     room = λ j e. absurd (none-thunked j e);
     block = false;
     plain = λ j e. refl;
     paid = 0;
-    well =
-        subst (λ (z : Trees). WellAll z false 0 0 (at .scope) (envOf ws (at .top)) (absOf bs ws t st) 0) (sym one-tree)
-        (one-well w);
+    well = rw one-tree (one-well w);
   }
 
   module _ (ws′ : List ℕ) (k : Kids) (v : ReadsAll bs ws t st i 1 0 at ws′ k) where
@@ -117,9 +115,7 @@ module _ (bs ws : List ℕ) (t : Tables) (st : State) (i : ℕ) (at : Here) (lt 
       is =
           one-out bs ws′ t (at .held) k
           ∙ ap internLast (v .is)
-          ∙ ap (λ (z : Trees). internLast (internAll z 0 0 i (at .scope) (envOf ws (at .top)) (absOf bs ws t st)))
-          one-tree
-          ∙ one-last u i (at .scope) (envOf ws (at .top)) (absOf bs ws t st);
+          ∙ rw one-tree (one-last u i (at .scope) (envOf ws (at .top)) (absOf bs ws t st));
       past = one-past;
       kept = v .kept;
     }

@@ -2,7 +2,7 @@
 -- In order: an answer whose state is closed; a child, in a thunk or not; the thunk opened; what the child gives.
 -- Assumes nothing.
 use Prim.Native.Nat.{ℕ, _+_, _<_, _≤_}
-use mathlib.Core.Path.{_≡_, refl, sym, ap, _∙_, subst}
+use mathlib.Core.Path.{_≡_, refl, sym, ap, _∙_}
 use mathlib.Core.Bool.{Bool, true, false}
 use mathlib.Core.List.{List}
 use native.Mathlib.Omega.{arith}
@@ -12,7 +12,7 @@ use Rattle.regions.specs.Regions.{WORDS}
 use Rattle.model.specs.Answer.{refused, good, _>>=_}
 use Rattle.model.specs.Tree.{depth}
 use Rattle.model.specs.Forest.{recordCount}
-use Rattle.model.specs.Intern.{Out, Env, openThunk, closeThunk, internScoped, intern}
+use Rattle.model.specs.Intern.{Out, openThunk, closeThunk, internScoped, intern}
 use Rattle.model.specs.Intern as intern
 use Rattle.walk.specs.Walk.{treeAt}
 use Rattle.scopes.specs.Scopes.{scopeWord, levelOf, thunkWord, withThunk}
@@ -28,7 +28,6 @@ use Rattle.opening.specs.Opening.{withScope, thunkClosed}
 use Rattle.opening.proofs.Counts.{scopes-count}
 use Rattle.opening.proofs.Scopes.{scope-frame}
 use Rattle.opening.proofs.Thunks.{thunk-level, thunk-abs, thunk-rep, closed-abs, closed-rep}
-use Rattle.standing.specs.Standing.{Well}
 use Rattle.intern.specs.declared.Here.{Here}
 use Rattle.intern.specs.declared.Read.{Read}
 use Rattle.intern.specs.declared.Kids.{Kids}
@@ -62,30 +61,24 @@ out-closed bs ws t top r is room = go (eqb (r .step .number) 0)
 
 -- ---- a child, in a thunk or not
 
-module _ (bs ws : List ℕ) (t : Tables) (st : State) (i : ℕ) (thunk : Bool) (at : Here) (ws′ : List ℕ) (r : Read) where
-  abbrev childOut : Out
-  childOut =
-      internScoped thunk (at .scope) (λ c s. intern (treeAt bs i) i c (envOf ws (at .top)) s) (absOf bs ws t st)
+abbrev childOut : List ℕ → List ℕ → Tables → State → ℕ → Bool → Here → Out
+childOut bs ws t st i thunk at =
+    internScoped thunk (at .scope) (λ c s. intern (treeAt bs i) i c (envOf ws (at .top)) s) (absOf bs ws t st)
 
-  pub child-plainly : thunk ≡ false → RecordRead bs ws t st i at ws′ r → Reads bs ws t st i at childOut ws′ r
+module _ {bs ws : List ℕ} {t : Tables} {st : State} {i : ℕ} {thunk : Bool} {at : Here} {ws′ : List ℕ} {r : Read} where
+  pub child-plainly : thunk ≡ false → RecordRead bs ws t st i at ws′ r → Reads bs ws t st i at (childOut bs ws t st i thunk at) ws′ r
   unfolding internScoped
-  child-plainly e v = record {
-    rep = v .rep;
-    opened = v .opened;
-    is = v .is ∙ sym (rw e);
-    past = v .past;
-    kept = v .kept;
-  }
+  child-plainly e v = rw e v
 
-  pub child-thunked : thunk ≡ true → ThunkRead bs ws t st i at ws′ r → Reads bs ws t st i at childOut ws′ r
+  pub child-thunked : thunk ≡ true → ThunkRead bs ws t st i at ws′ r → Reads bs ws t st i at (childOut bs ws t st i thunk at) ws′ r
   child-thunked e v = rw e v
 
 -- ---- the thunk opened
 
-module _ (bs ws : List ℕ) (t : Tables) (st : State) (i : ℕ) (at : Here) (lt : i < recordCount bs)
+module _ {bs ws : List ℕ} {t : Tables} {st : State} {i : ℕ} {at : Here} (lt : i < recordCount bs)
     (h : InThunk bs ws t st i at) where
   abbrev thunkOut : Out
-  thunkOut = internScoped true (at .scope) (λ c s. intern (treeAt bs i) i c (envOf ws (at .top)) s) (absOf bs ws t st)
+  thunkOut = childOut bs ws t st i true at
 
   tables-room : t .depth < 64
   unfolding depth
@@ -101,36 +94,32 @@ module _ (bs ws : List ℕ) (t : Tables) (st : State) (i : ℕ) (at : Here) (lt 
     omega (arith, h .stands .rep .entries .few, h .stands .rep .arena .scoped .few),
   )
 
-  module _ (ws₁ : List ℕ) (inside : State) (wrote : ws₁ ≡ withThunk ws (st .scopes) (at .scope))
-      (isOpen : inside ≡ withScope st) (inner : Tables) (pushed : inner ≡ opened t (st .entries)) where
+  module _ {ws₁ : List ℕ} {inside : State} (wrote : ws₁ ≡ withThunk ws (st .scopes) (at .scope))
+      (isOpen : inside ≡ withScope st) {inner : Tables} (pushed : inner ≡ opened t (st .entries)) where
     abbrev own : Here
     own = record { scope = st .scopes; held = at .held; top = at .top }
 
     words₁ : Words (st .scopes) (at .held) (at .top) ws ws₁
     words₁ =
         scope-words (st .scopes) (at .held) (at .top) (st .scopes) ws ws₁ (omega arith)
-        (rw wrote (scope-frame bs ws st (h .stands .rep) (h .few) (thunkWord ws (at .scope))))
+        (rw wrote (scope-frame (h .stands .rep) (h .few) (thunkWord ws (at .scope))))
 
     rep₁ : Rep bs ws₁ inside
     rep₁ =
         rw (wrote, isOpen)
-        (thunk-rep bs ws st (at .scope) (h .stands .rep) (h .few) (h .stands .scope))
+        (thunk-rep (h .stands .rep) (h .few) (h .stands .scope))
 
     opened₁ : Open inner (inside .entries)
     opened₁ = rw (isOpen, pushed) (opened-open t (st .entries) (h .stands .opened) tables-room)
 
     abs₁ : absOf bs ws₁ inner inside ≡ openThunk (at .scope) (absOf bs ws t st)
     abs₁ =
-        ap (λ (z : List ℕ). absOf bs z inner inside) wrote
-        ∙ ap (λ (z : Tables). absOf bs (withThunk ws (st .scopes) (at .scope)) z inside) pushed
-        ∙ ap (absOf bs (withThunk ws (st .scopes) (at .scope)) (opened t (st .entries))) isOpen
-        ∙ thunk-abs bs ws st (at .scope) (h .stands .rep) (h .few) (h .stands .scope) t (h .stands .opened)
-        tables-room
+        rw (wrote, pushed, isOpen) (thunk-abs (h .stands .rep) (h .few) (h .stands .scope) t (h .stands .opened)
+        tables-room)
 
     level₁ : levelOf (scopeWord ws₁ (st .scopes)) ≡ levelOf (scopeWord ws (at .scope))
     level₁ =
-        ap (λ (z : List ℕ). levelOf (scopeWord z (st .scopes))) wrote
-        ∙ thunk-level bs ws st (at .scope) (h .stands .rep) (h .few) (h .stands .scope)
+        rw wrote (thunk-level (h .stands .rep) (h .few) (h .stands .scope))
 
     scopes₁ : inside .scopes ≡ st .scopes + 1
     scopes₁ = ap (λ (z : State). z .scopes) isOpen
@@ -156,12 +145,11 @@ module _ (bs ws : List ℕ) (t : Tables) (st : State) (i : ℕ) (at : Here) (lt 
     pub thunk-operands : Operands bs ws₁ inner inside i 1 0 own
     thunk-operands =
         one-operands bs ws₁ inner inside i own lt thunk-stands
-        (subst (λ (z : Env). Well (treeAt bs i) false (st .scopes) z (absOf bs ws₁ inner inside)) (sym env₁)
-        (subst (Well (treeAt bs i) false (st .scopes) (envOf ws (at .top))) (sym abs₁) (h .well)))
+        (rw (env₁, abs₁) (h .well))
 
     -- ---- what the child gives
 
-    module _ (ws₂ : List ℕ) (k : Kids) (all : ReadsAll bs ws₁ inner inside i 1 0 own ws₂ k) where
+    module _ {ws₂ : List ℕ} {k : Kids} (all : ReadsAll bs ws₁ inner inside i 1 0 own ws₂ k) where
       abbrev r : Read
       r = oneRead ws₂ (at .held) k
 
@@ -171,13 +159,7 @@ module _ (bs ws : List ℕ) (t : Tables) (st : State) (i : ℕ) (at : Here) (lt 
       scoped-is : thunkOut
           ≡ closing (intern (treeAt bs i) i (st .scopes) (envOf ws₁ (at .top)) (absOf bs ws₁ inner inside))
       unfolding internScoped
-      scoped-is =
-          ap (λ (z : ℕ). closing (intern (treeAt bs i) i z (envOf ws (at .top))
-          (openThunk (at .scope) (absOf bs ws t st)))) (scopes-count bs ws t st)
-          ∙ ap (λ (z : Env). closing (intern (treeAt bs i) i (st .scopes) z
-          (openThunk (at .scope) (absOf bs ws t st)))) (sym env₁)
-          ∙ ap (λ (z : intern.State). closing (intern (treeAt bs i) i (st .scopes) (envOf ws₁ (at .top)) z)) (sym
-          abs₁)
+      scoped-is = rw (scopes-count bs ws t st, env₁, abs₁)
 
       last-opened : Open (opened t (st .entries)) (r .step .st .entries)
       last-opened = rw pushed at (v .opened)
@@ -199,6 +181,6 @@ module _ (bs ws : List ℕ) (t : Tables) (st : State) (i : ℕ) (at : Here) (lt 
         };
       }
 
-      pub thunk-done : (last : State) → last ≡ thunkClosed (r .step .st) (st .entries) →
+      pub thunk-done : {last : State} → last ≡ thunkClosed (r .step .st) (st .entries) →
           Reads bs ws t st i at thunkOut ws₂ (closedRead r last)
-      thunk-done last e = rw e closed₂
+      thunk-done e = rw e closed₂

@@ -22,7 +22,7 @@ use Rattle.interner.specs.Step.{BodyOf}
 use Rattle.opening.specs.Opening.{withScope}
 use Rattle.opening.proofs.Scopes.{scope-same, scope-new, scope-abs, scope-rep}
 
-module _ (bs ws : List ℕ) (st : State) (cur first count : ℕ) (rep : Rep bs ws st) (few : st .scopes ≤ 2048)
+module _ {bs ws : List ℕ} {st : State} {cur first count : ℕ} (rep : Rep bs ws st) (few : st .scopes ≤ 2048)
     (current : cur < st .scopes) (low : first < 512) (args : count ≤ 15) where
   -- ---- its word
 
@@ -47,7 +47,7 @@ module _ (bs ws : List ℕ) (st : State) (cur first count : ℕ) (rep : Rep bs w
       packed-args cur first (count + 1) (levelOf (scopeWord ws cur) + 1) (omega arith) low (omega arith) ∙ code-args
 
   word-is : scopeWord ws₁ (st .scopes) ≡ word
-  word-is = scope-new bs ws st rep few word
+  word-is = scope-new rep few word
 
   pub body-level : levelOf (scopeWord ws₁ (st .scopes)) ≡ levelOf (scopeWord ws cur) + 1
   body-level = ap levelOf word-is ∙ word-level
@@ -65,8 +65,8 @@ module _ (bs ws : List ℕ) (st : State) (cur first count : ℕ) (rep : Rep bs w
   pub body-abs : (t : Tables) → Open t (st .entries) → absOf bs ws₁ t (withScope st)
       ≡ openScope cur (some (range first count)) (absOf bs ws t st .tables) (absOf bs ws t st)
   body-abs t is =
-      scope-abs bs ws st rep few word t t is cur (some (range first count)) (absOf bs ws t st .tables)
-      (tables-agree ws ws₁ t (st .entries) is (scope-same bs ws st rep few word .entries))
+      scope-abs rep few word t t is cur (some (range first count)) (absOf bs ws t st .tables)
+      (tables-agree ws ws₁ t (st .entries) is (scope-same rep few word .entries))
       (scopes-lambda ws (st .scopes) cur (omega (arith, rep .arena .scoped .words)) current (omega arith) first count low
       (omega arith))
 
@@ -75,7 +75,7 @@ module _ (bs ws : List ℕ) (st : State) (cur first count : ℕ) (rep : Rep bs w
   pub body-rep : Every (AtLevel ws (st .symbols) (levelOf (scopeWord ws cur) + 1)) (range first count) →
       Rep bs ws₁ (withScope st)
   body-rep own =
-      scope-rep bs ws st rep few word
+      scope-rep rep few word
       (nested-lambda ws (st .scopes) cur (omega (arith, rep .arena .scoped .words)) current (omega arith) first count low (omega arith)
       (rep .arena .scoped .nested))
       (λ xs e. subst (Every (AtLevel ws (st .symbols) (levelOf word)))

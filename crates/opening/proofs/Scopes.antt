@@ -25,7 +25,7 @@ use Rattle.interner.specs.State.{absOf, Rep}
 use Rattle.interner.proofs.Same.{Same, abs-same, rep-same, symbol-same}
 use Rattle.opening.specs.Opening.{withScope}
 
-module _ (bs ws : List ℕ) (st : State) (rep : Rep bs ws st) (few : st .scopes ≤ 2048) (w : ℕ) where
+module _ {bs ws : List ℕ} {st : State} (rep : Rep bs ws st) (few : st .scopes ≤ 2048) (w : ℕ) where
   -- ---- words kept
 
   abbrev ws₁ : List ℕ

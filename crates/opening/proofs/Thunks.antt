@@ -20,7 +20,7 @@ use Rattle.opening.proofs.Scopes.{scope-same, scope-new, scope-abs, sco
 
 -- ---- a thunk opened inside `cur`
 
-module _ (bs ws : List ℕ) (st : State) (cur : ℕ) (rep : Rep bs ws st) (few : st .scopes ≤ 2048)
+module _ {bs ws : List ℕ} {st : State} {cur : ℕ} (rep : Rep bs ws st) (few : st .scopes ≤ 2048)
     (current : cur < st .scopes) where
   abbrev ws₁ : List ℕ
   ws₁ = withThunk ws (st .scopes) cur
@@ -32,22 +32,22 @@ module _ (bs ws : List ℕ) (st : State) (cur : ℕ) (rep : Rep bs ws st) (few :
   word-args = packed-args cur 0 0 (levelOf (scopeWord ws cur)) (omega arith) (omega arith) (omega arith)
 
   pub thunk-level : levelOf (scopeWord ws₁ (st .scopes)) ≡ levelOf (scopeWord ws cur)
-  thunk-level = ap levelOf (scope-new bs ws st rep few (thunkWord ws cur)) ∙ word-level
+  thunk-level = ap levelOf (scope-new rep few (thunkWord ws cur)) ∙ word-level
 
   pub thunk-rep : Rep bs ws₁ (withScope st)
   thunk-rep =
-      scope-rep bs ws st rep few (thunkWord ws cur)
+      scope-rep rep few (thunkWord ws cur)
       (nested-thunk ws (st .scopes) cur (omega (arith, rep .arena .scoped .words)) current (omega arith) (rep .arena .scoped .nested))
       (λ xs e. none-some (sym word-args ∙ e))
 
   module _ (t : Tables) (is : Open t (st .entries)) (room : t .depth < 64) where
     pub thunk-abs : absOf bs ws₁ (opened t (st .entries)) (withScope st) ≡ openThunk cur (absOf bs ws t st)
     thunk-abs =
-        scope-abs bs ws st rep few (thunkWord ws cur) t (opened t (st .entries)) is cur none
+        scope-abs rep few (thunkWord ws cur) t (opened t (st .entries)) is cur none
         ([] ∷ tablesOf ws t (st .entries))
         (opened-tables t (st .entries) is room ws₁
         ∙ ap (λ (ts : List (List ℕ)). [] ∷ ts)
-        (tables-agree ws ws₁ t (st .entries) is (scope-same bs ws st rep few (thunkWord ws cur) .entries)))
+        (tables-agree ws ws₁ t (st .entries) is (scope-same rep few (thunkWord ws cur) .entries)))
         (scopes-thunk ws (st .scopes) cur (omega (arith, rep .arena .scoped .words)) current (omega arith))
 
 -- ---- its table dropped: t are the tables around it, and there were `top` entries before it

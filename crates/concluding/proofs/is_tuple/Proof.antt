@@ -14,8 +14,7 @@ shape-requires c κs =
     let l = p .before in
     let s = l .before .before .before in (
       s .pre .0,
-      symbol-from (now (s .args .forest)) (now (s .args .work)) (s .args .s) (l .load .result) (p .parts-of .result)
-          (s .pre .1) (l .load .ensures) (p .parts-of .ensures),
+      symbol-from (s .pre .1) (l .load .ensures) (p .parts-of .ensures),
     )
 
 returns : tie.Need-returns
@@ -25,8 +24,8 @@ returns c n lt =
     let s = l .before .before .before in
     ap (λ (z : ℕ). eqb z 16)
     (c .shape .ensures
-    ∙ sym (symbol-shape (now (s .args .forest)) (now (s .args .work)) (s .args .s) n (l .load .result)
-    (p .parts-of .result) lt (l .load .ensures) (p .parts-of .ensures)))
+    ∙ sym (symbol-shape (now (s .args .forest)) (now (s .args .work)) (s .args .s) n lt
+    (l .load .ensures) (p .parts-of .ensures)))
 
 pub is-tuple-spec : {M : Type 1} → statement M
 is-tuple-spec =

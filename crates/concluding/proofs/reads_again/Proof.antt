@@ -10,16 +10,16 @@ returns c n lt =
     let p = c .before .before in
     let f = p .before in
     let a = f .before .before .before .before .args in
-    again-pair (now (a .forest)) (now (a .work)) n (a .i) (a .held) (f .field-of .result) (f .field-of .ensures)
-    (p .of-pair .result) (p .of-pair .ensures) (c .before .if1 .taken) (c .is-tuple .result) (c .is-tuple .ensures n lt)
+    again-pair (now (a .forest)) (now (a .work)) n (a .i) (a .held) (f .field-of .ensures) (p .of-pair .ensures)
+    (c .before .if1 .taken) (c .is-tuple .ensures n lt)
 
 returns-2 : tie.Need-returns-2
 returns-2 c n lt =
     let p = c .before in
     let f = p .before in
     let a = f .before .before .before .before .args in
-    again-other (now (a .forest)) (now (a .work)) n (a .i) (a .held) (f .field-of .result) (f .field-of .ensures)
-    (p .of-pair .result) (p .of-pair .ensures) (c .if1 .left)
+    again-other (now (a .forest)) (now (a .work)) n (a .i) (a .held) (f .field-of .ensures) (p .of-pair .ensures)
+    (c .if1 .left)
 
 pub reads-again-spec : {M : Type 1} → statement M
 reads-again-spec =

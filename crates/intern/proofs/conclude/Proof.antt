@@ -1,84 +1,67 @@
--- `intern::conclude` meets its contract. Assumes nothing.
+-- `intern::conclude` meets its contract. In order: what is known once the children are counted; the needs.
+-- Assumes nothing.
 use borrow.Author.Needs.{needs}
-use native.Mathlib.Omega.{arith}
 use denote.Ref.{now}
 use mathlib.Core.Path.{sym, _∙_}
-use Rattle.intern.proofs.Records.{def-last, block-last, last-answers-10, last-answers-11, general-answers}
+use mathlib.Core.Logic.{inl, inr}
+use Rattle.intern.proofs.Records.{Concludable, last-asks, last-answers, general-answers}
 use Rattle.intern.proofs.conclude.Statement.{statement}
 use Rattle.intern.proofs.conclude.Tie as tie
+
+abbrev start : tie.After-kids → tie.Start
+start c = c .before .before .before .before .before
+
+given : (c : tie.After-kids) →
+    let a = start c .args in Concludable (now (a .forest)) (now (a .work)) (a .i) (a .at) (a .k) (c .kids .result)
+given c =
+    let p = start c .pre in
+    record { sound = p .0; rep = p .1 .0; concludes = p .1 .1 .1 .0; count = c .kids .ensures .0 }
 
 kids-requires : tie.Need-kids-requires
 kids-requires c κs =
     let p = c .before .before .before .before .pre in (p .0 .laid, p .1 .1 .1 .0 .from)
 
 shape-requires : tie.Need-shape-requires
-shape-requires c κs =
-    let p = c .before .before .before .before .before .pre in (p .0 .laid, p .1 .1 .1 .0 .from)
+shape-requires c κs = (given c .sound .laid, given c .concludes .from)
 
 last-requires : tie.Need-last-requires
 last-requires c κs =
-    let c1 = c .before in
-    let c2 = c1 .before in
-    let c3 = c2 .before in
-    let c8 = c3 .before .before .before .before .before in
-    let p = c8 .pre in
-    let n = c3 .kids .ensures .0 in
-    let some = def-last _ _ (p .0) (p .1 .1 .1 .0 .from) (sym (c2 .shape .ensures) ∙ c1 .if1 .taken) in
-    (omega (arith, n, some), omega (arith, n, p .1 .1 .1 .0 .pending), p .1 .0 .arena .scoped .words)
+    let shape = c .before .before in
+    last-asks (given (shape .before)) (inl (sym (shape .shape .ensures) ∙ c .before .if1 .taken))
 
 returns : tie.Need-returns
 returns c =
-    let c2 = c .before .before in
-    let c3 = c2 .before in
-    let c4 = c3 .before in
-    let c9 = c4 .before .before .before .before .before in
-    let p = c9 .pre in
-    let a = c9 .args in
-    let e = sym (c3 .shape .ensures) ∙ c2 .if1 .taken in
-    last-answers-10 (now (a .forest)) (now (a .work)) (a .t) (a .i) (a .at) (a .k) (p .1 .0) (p .1 .1 .1 .0) _ _
-    (c4 .kids .ensures .0) (c .last .ensures) (p .0) e
+    let yes = c .before .before in
+    let kids = yes .before .before in
+    last-answers (given kids) (start kids .args .t) (inl (sym (yes .before .shape .ensures) ∙ yes .if1 .taken))
+    (c .last .ensures)
 
 last-requires-2 : tie.Need-last-requires-2
 last-requires-2 c κs =
-    let c1 = c .before in
-    let c3 = c1 .before .before in
-    let c4 = c3 .before in
-    let c9 = c4 .before .before .before .before .before in
-    let p = c9 .pre in
-    let n = c4 .kids .ensures .0 in
-    let some = block-last _ _ (p .0) (p .1 .1 .1 .0 .from) (sym (c3 .shape .ensures) ∙ c1 .if2 .taken) in
-    (omega (arith, n, some), omega (arith, n, p .1 .1 .1 .0 .pending), p .1 .0 .arena .scoped .words)
+    let shape = c .before .before .before in
+    last-asks (given (shape .before)) (inr (sym (shape .shape .ensures) ∙ c .before .if2 .taken))
 
 returns-2 : tie.Need-returns-2
 returns-2 c =
-    let c2 = c .before .before in
-    let c4 = c2 .before .before in
-    let c5 = c4 .before in
-    let c10 = c5 .before .before .before .before .before in
-    let p = c10 .pre in
-    let a = c10 .args in
-    let e = sym (c4 .shape .ensures) ∙ c2 .if2 .taken in
-    last-answers-11 (now (a .forest)) (now (a .work)) (a .t) (a .i) (a .at) (a .k) (p .1 .0) (p .1 .1 .1 .0) _ _
-    (c5 .kids .ensures .0) (c .last2 .ensures) (p .0) e
+    let yes = c .before .before in
+    let shape = yes .before .before in
+    last-answers (given (shape .before)) (start (shape .before) .args .t)
+    (inr (sym (shape .shape .ensures) ∙ yes .if2 .taken)) (c .last2 .ensures)
 
 general-requires : tie.Need-general-requires
 general-requires c κs =
-    let c4 = c .before .before .before .before in
-    let c9 = c4 .before .before .before .before .before in
-    let p = c9 .pre in (p .0, (p .1 .0, (p .1 .1 .0, (rw (c4 .kids .ensures .0) (p .1 .1 .1 .0), p .1 .1 .1 .1))))
+    let kids = c .before .before .before .before in
+    let p = start kids .pre in
+    (p .0, (p .1 .0, (p .1 .1 .0, (rw (kids .kids .ensures .0) (p .1 .1 .1 .0), p .1 .1 .1 .1))))
 
 returns-3 : tie.Need-returns-3
 returns-3 c =
-    let c2 = c .before .before in
-    let c4 = c2 .before .before in
-    let c5 = c4 .before in
-    let c6 = c5 .before in
-    let c7 = c6 .before in
-    let c12 = c7 .before .before .before .before .before in
-    let a = c12 .args in
-    general-answers (now (a .forest)) (now (a .work)) (a .t) (a .i) (a .at) (a .k)
-    (λ e. c5 .if1 .left (c6 .shape .ensures ∙ e)) (λ e. c4 .if2 .left (c6 .shape .ensures ∙ e)) _
-    (c7 .kids .ensures .0) _ _ (c2 .general .ensures)
+    let done = c .before .before in
+    let no = done .before .before in
+    let shape = no .before .before in
+    general-answers (given (shape .before)) (start (shape .before) .args .t)
+    (λ e. no .before .if1 .left (shape .shape .ensures ∙ e)) (λ e. no .if2 .left (shape .shape .ensures ∙ e))
+    (done .general .ensures)
 
 pub conclude-spec : {M : Type 1} → statement M
 conclude-spec =

@@ -5,7 +5,7 @@ use native.Mathlib.Omega.{arith}
 use borrow.Author.Tests.{not-true, not-false}
 use denote.Ref.{now}
 use Rattle.walk.proofs.Bridge.{records-few}
-use Rattle.intern.proofs.Gives.{children-operands, field-one, field-plain, field-fails, field-selects}
+use Rattle.intern.proofs.Gives.{Selecting, selecting-given, field-operands, field-fails, field-selects}
 use Rattle.intern.proofs.Gives.{field-input, field-once, field-done, recount-asks, recount-done, again-operands}
 use Rattle.intern.proofs.Gives.{again-done}
 use Rattle.intern.proofs.field.Reads as field
@@ -35,133 +35,114 @@ calls t = (
   repeated-reads.Learnt,
 )
 
+-- where the opcode is read: what was asked
+abbrev asked : (t : ℕ) → field-lts.After-opcode (calls t) (field-at t) field.Post →
+    field-lts.Start (calls t) (field-at t) field.Post
+asked t c = c .before .before .before
+
+given : (t : ℕ) (c : field-lts.After-opcode (calls t) (field-at t) field.Post) →
+    let a = asked t c .args in Selecting (now (a .forest)) (now (a .work)) (a .t) (a .st) (a .i) (a .at)
+given t c = selecting-given (asked t c .pre .1)
+
+-- where the input is read, from where it is not refused; this, from where it is known whether to read it again
+abbrev input : (t : ℕ) → field-lts.Else1 (calls t) (field-at t) field.Post →
+    field-lts.After-operands (calls t) (field-at t) field.Post
+input t c = c .before .before .before .before
+
+abbrev good : (t : ℕ) → field-lts.After-reads-again (calls t) (field-at t) field.Post →
+    field-lts.Else1 (calls t) (field-at t) field.Post
+good t c = c .before .before .before
+
 pub field-part : {M : Type 1} (t : ℕ) → field-lts.Closed (calls t) (field-at t) field.Post M
 field-part t =
     field-lts.spec (calls t) (field-at t) field.Post
-    (λ c κs. let s = c .before .before in
-    let p = s .pre .1 in
-    (p .0 .laid, p .1 .0))
-    (λ c. let s = c .before .before .before .before in
-    let p = s .pre .1 in
-    omega (arith, p .1 .0, records-few _ (p .0)))
-    (λ c κs. let op = c .before in
-    let s = op .before .before .before in
-    let a = s .args in
-    let p = s .pre .1 in
-    let one = field-one (now (a .forest)) (now (a .work)) (a .t) (a .st) (a .i) (a .at) (p .0) (p .1 .0) (p .1 .1 .1 .0)
-    (p .1 .1 .1 .1) (p .1 .1 .0 .0) in
-    let operands = children-operands (now (a .forest)) (now (a .work)) (a .t) (a .st) (a .i) (a .at) (p .0) (p .1 .0)
-    (p .1 .1 .1 .0) (p .1 .1 .1 .1) 1 _ one (op .opcode .ensures)
-    (field-plain (now (a .forest)) (now (a .work)) (a .t) (a .st) (a .i) (a .at) (p .0) (p .1 .0) (p .1 .1 .1 .0)
-    (p .1 .1 .1 .1) (p .1 .1 .0 .0)) in
-    (omega (arith, s .pre .0, p .1 .0, records-few _ (p .0), weight-between (op .opcode .result)), (p .0, operands)))
-    (λ c. let o = c .before .before .before .before in
-    o .operands .kept .1 .0)
-    (λ c. let o = c .before .before .before .before in
-    let op = o .before .before in
-    let s = op .before .before .before in
-    let a = s .args in
-    let p = s .pre .1 in
-    field-fails (now (a .forest)) (now (a .work)) (a .t) (a .st) (a .i) (a .at) (p .0) (p .1 .0) (p .1 .1 .1 .0)
-    (p .1 .1 .1 .1) (p .1 .1 .0 .0) (p .1 .1 .0 .1) _ (op .opcode .ensures) _ _ (o .operands .ensures) (c .if1 .taken))
+    (λ c κs. let p = c .before .before .pre .1 in (p .0 .laid, p .1 .0))
+    (λ c. let h = given t (c .before) .parent in omega (arith, h .there, records-few _ (h .sound)))
+    (λ c κs. let code = c .before in
+    let h = given t code in (
+      omega (
+        arith,
+        asked t code .pre .0,
+        h .parent .there,
+        records-few _ (h .parent .sound),
+        weight-between (code .opcode .result),
+      ),
+      (h .parent .sound, field-operands h (code .opcode .ensures)),
+    ))
+    (λ c. c .before .before .before .before .operands .kept .1 .0)
+    (λ c. let read = c .before .before .before .before in
+    let code = read .before .before in
+    field-fails (given t code) (code .opcode .ensures) (read .operands .ensures) (c .if1 .taken))
     (λ c κs. let ok = c .before .before in
-    let o = ok .before .before .before .before in
-    let op = o .before .before in
-    let s = op .before .before .before in
-    let a = s .args in
-    let p = s .pre .1 in
-    let input = field-input (now (a .forest)) (now (a .work)) (a .t) (a .st) (a .i) (a .at) (p .0) (p .1 .0)
-    (p .1 .1 .1 .0) (p .1 .1 .1 .1) (p .1 .1 .0 .0) (p .1 .1 .0 .1) _ (op .opcode .ensures) _ _ (o .operands .ensures)
-    (ok .if1 .left) in
-    (p .0, input))
-    (λ c κs. let again = c .before in
-    let g = again .before in
-    let ok = g .before .before .before in
-    let o = ok .before .before .before .before in
-    let op = o .before .before in
-    let s = op .before .before .before in
-    let a = s .args in
-    let p = s .pre .1 in
-    let selects = field-selects (now (a .forest)) (now (a .work)) (a .t) (a .st) (a .i) (a .at) (p .0) (p .1 .0)
-    (p .1 .1 .1 .0) (p .1 .1 .1 .1) (p .1 .1 .0 .0) (p .1 .1 .0 .1) _ (op .opcode .ensures) _ _ (o .operands .ensures)
-    (ok .if1 .left) in
-    let once = field-once (now (a .forest)) (now (a .work)) (a .t) (a .st) (a .i) (a .at) (p .0) (p .1 .0)
-    (p .1 .1 .1 .0) (p .1 .1 .1 .1) (p .1 .1 .0 .0) (p .1 .1 .0 .1) _ (op .opcode .ensures) _ _ (o .operands .ensures)
-    (ok .if1 .left) (g .reads-again .result) (g .reads-again .ensures) (not-true _ (again .if2 .taken)) in
-    (p .0, (o .operands .ensures .rep, (o .operands .ensures .opened, (selects, once)))))
+    let read = input t ok in
+    let code = read .before .before in (
+      given t code .parent .sound,
+      field-input (given t code) (code .opcode .ensures) (read .operands .ensures) (ok .if1 .left),
+    ))
+    (λ c κs. let again = c .before .before in
+    let ok = good t again in
+    let read = input t ok in
+    let code = read .before .before in
+    let v = read .operands .ensures in
+    let selects = field-selects (given t code) (code .opcode .ensures) v (ok .if1 .left) in
+    let once =
+    field-once (given t code) (code .opcode .ensures) v (ok .if1 .left) (again .reads-again .ensures)
+    (not-true _ (c .before .if2 .taken)) in
+    (given t code .parent .sound, (v .rep, (v .opened, (selects, once)))))
     (λ c. let f = c .before .before in
-    let o = f .before .before .before .before .before .before .before .before .before .before in
-    f .field .kept .1 .0 ∙ o .operands .kept .1 .0)
+    f .field .kept .1 .0 ∙ input t (good t (f .before .before .before)) .operands .kept .1 .0)
     (λ c. let f = c .before .before in
-    let g = f .before .before .before in
-    let ok = g .before .before .before in
-    let o = ok .before .before .before .before in
-    let op = o .before .before in
-    let s = op .before .before .before in
-    let a = s .args in
-    let p = s .pre .1 in
-    field-done (now (a .forest)) (now (a .work)) (a .t) (a .st) (a .i) (a .at) (p .0) (p .1 .0) (p .1 .1 .1 .0)
-    (p .1 .1 .1 .1) (p .1 .1 .0 .0) (p .1 .1 .0 .1) _ (op .opcode .ensures) _ _ (o .operands .ensures) (ok .if1 .left)
-    (g .reads-again .result) (g .reads-again .ensures) _ _ (f .field .ensures _ _))
-    (λ c κs. let o = c .before .before .before .before .before .before .before .before in
-    let s = o .before .before .before .before .before in
-    let p = s .pre .1 in
-    let before = p .1 .1 .1 .0 .rep .few-readings in
-    let after = o .operands .ensures .rep .few-readings in
+    let again = f .before .before .before in
+    let ok = good t again in
+    let read = input t ok in
+    let code = read .before .before in
+    field-done (given t code) (code .opcode .ensures) (read .operands .ensures) (ok .if1 .left)
+    (again .reads-again .ensures) (f .field .ensures _ _))
+    (λ c κs. let read = input t (good t (c .before)) in
+    let before = given t (read .before .before) .parent .stands .rep .few-readings in
+    let after = read .operands .ensures .rep .few-readings in
     (omega arith, omega arith))
     (λ c κs. let calm = c .before in
-    let ok = calm .before .before .before .before .before in
-    let o = ok .before .before .before .before in
-    let op = o .before .before in
-    let s = op .before .before .before in
-    let a = s .args in
-    let p = s .pre .1 in
-    let asks = recount-asks (now (a .forest)) (now (a .work)) (a .t) (a .st) (a .i) (a .at) (p .0) (p .1 .0)
-    (p .1 .1 .1 .0) (p .1 .1 .1 .1) (p .1 .1 .0 .0) (p .1 .1 .0 .1) _ (op .opcode .ensures) _ _ (o .operands .ensures)
-    (ok .if1 .left) (sym (calm .repeats .ensures) ∙ c .if3 .taken) in
+    let ok = good t (calm .before .before) in
+    let read = input t ok in
+    let code = read .before .before in
+    let asks =
+    recount-asks (given t code) (code .opcode .ensures) (read .operands .ensures) (ok .if1 .left)
+    (sym (calm .repeats .ensures) ∙ c .if3 .taken) in
     (omega (arith, asks), omega (arith, asks)))
-    (λ c. let o = c .before .before .before .before .before .before .before .before .before .before .before in
-    o .operands .kept .1 .0)
-    (λ c. let many = c .before in
-    let calm = many .before in
-    let again = calm .before in
-    let g = again .before in
-    let ok = g .before .before .before in
-    let o = ok .before .before .before .before in
-    let op = o .before .before in
-    let s = op .before .before .before in
-    let a = s .args in
-    let p = s .pre .1 in
-    recount-done (now (a .forest)) (now (a .work)) (a .t) (a .st) (a .i) (a .at) (p .0) (p .1 .0) (p .1 .1 .1 .0)
-    (p .1 .1 .1 .1) (p .1 .1 .0 .0) (p .1 .1 .0 .1) _ (op .opcode .ensures) _ _ (o .operands .ensures) (ok .if1 .left)
-    (g .reads-again .result) (g .reads-again .ensures) (not-false _ (again .if2 .left)) (sym (calm .repeats .ensures)
-    ∙ many .if3 .taken) _ (c .repeated .ensures))
-    (λ c. let s = c .before .before .before .before .before .before .before .before .before .before .before .before
-    .before .before .before .before in
-    let p = s .pre .1 in
-    omega (arith, p .1 .0, records-few _ (p .0)))
-    (λ c κs. let ok = c .before .before .before .before .before .before .before in
-    let o = ok .before .before .before .before in
-    let op = o .before .before in
-    let s = op .before .before .before in
-    let a = s .args in
-    let p = s .pre .1 in
-    let operands = again-operands (now (a .forest)) (now (a .work)) (a .t) (a .st) (a .i) (a .at) (p .0) (p .1 .0)
-    (p .1 .1 .1 .0) (p .1 .1 .1 .1) (p .1 .1 .0 .0) (p .1 .1 .0 .1) _ (op .opcode .ensures) _ _ (o .operands .ensures)
-    (ok .if1 .left) in
-    (omega (arith, s .pre .0, p .1 .0, records-few _ (p .0), weight-between (op .opcode .result)), (p .0, operands)))
-    (λ c. let o2 = c .before .before in
-    let o = o2 .before .before .before .before .before .before .before .before .before .before .before .before in
-    o2 .operands2 .kept .1 .0 ∙ o .operands .kept .1 .0)
-    (λ c. let o2 = c .before .before in
-    let again = o2 .before .before .before .before in
-    let g = again .before in
-    let ok = g .before .before .before in
-    let o = ok .before .before .before .before in
-    let op = o .before .before in
-    let s = op .before .before .before in
-    let a = s .args in
-    let p = s .pre .1 in
-    again-done (now (a .forest)) (now (a .work)) (a .t) (a .st) (a .i) (a .at) (p .0) (p .1 .0) (p .1 .1 .1 .0)
-    (p .1 .1 .1 .1) (p .1 .1 .0 .0) (p .1 .1 .0 .1) _ (op .opcode .ensures) _ _ (o .operands .ensures) (ok .if1 .left)
-    (g .reads-again .result) (g .reads-again .ensures) (not-false _ (again .if2 .left)) _ _ (o2 .operands2 .ensures))
+    (λ c. input t (good t (c .before .before .before .before)) .operands .kept .1 .0)
+    (λ c. let calm = c .before .before in
+    let again = calm .before .before in
+    let ok = good t again in
+    let read = input t ok in
+    let code = read .before .before in
+    recount-done (given t code) (code .opcode .ensures) (read .operands .ensures) (ok .if1 .left)
+    (again .reads-again .ensures) (not-false _ (calm .before .if2 .left))
+    (sym (calm .repeats .ensures) ∙ c .before .if3 .taken) (c .repeated .ensures))
+    (λ c. let read = input t (good t (c .before .before .before .before)) in
+    let h = given t (read .before .before) .parent in
+    omega (arith, h .there, records-few _ (h .sound)))
+    (λ c κs. let ok = good t (c .before .before .before .before) in
+    let read = input t ok in
+    let code = read .before .before in
+    let h = given t code in (
+      omega (
+        arith,
+        asked t code .pre .0,
+        h .parent .there,
+        records-few _ (h .parent .sound),
+        weight-between (code .opcode .result),
+      ),
+      (h .parent .sound, again-operands h (code .opcode .ensures) (read .operands .ensures) (ok .if1 .left)),
+    ))
+    (λ c. let reread = c .before .before in
+    let again = reread .before .before .before .before .before in
+    reread .operands2 .kept .1 .0 ∙ input t (good t again) .operands .kept .1 .0)
+    (λ c. let reread = c .before .before in
+    let yes = reread .before .before .before .before in
+    let again = yes .before in
+    let ok = good t again in
+    let read = input t ok in
+    let code = read .before .before in
+    again-done (given t code) (code .opcode .ensures) (read .operands .ensures) (ok .if1 .left)
+    (again .reads-again .ensures) (not-false _ (yes .if2 .left)) (reread .operands2 .ensures))

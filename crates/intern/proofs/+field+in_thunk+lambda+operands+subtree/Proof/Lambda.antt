@@ -4,8 +4,8 @@ use mathlib.Core.Path.{_∙_}
 use native.Mathlib.Omega.{arith}
 use denote.Ref.{now}
 use Rattle.walk.proofs.Bridge.{records-few}
-use Rattle.intern.proofs.Lambdas.{lambda-unmade, lambda-operands, lambda-refused, lambda-conclude, lambda-body}
-use Rattle.intern.proofs.Lambdas.{lambda-first, lambda-done}
+use Rattle.intern.proofs.Bodies.{Lambda, lambda-given}
+use Rattle.intern.proofs.Lambdas.{lambda-unmade, lambda-operands, lambda-refused, lambda-asks, lambda-done}
 use Rattle.intern.proofs.lambda.Reads as lambda
 use Rattle.intern.proofs.+field+in_thunk+lambda+operands+subtree.Lts-lambda as lambda-lts
 use Rattle.intern.proofs.operands.Reads as operands
@@ -16,7 +16,8 @@ use Rattle.record.proofs.opcode.Reads as opcode-reads
 use Rattle.intern.proofs.+field+in_thunk+lambda+operands+subtree.Proof.Measures.{weight-between, lambda-at}
 use Rattle.intern.proofs.+field+in_thunk+lambda+operands+subtree.Proof.Measures.{operands-below}
 
-pub lambda-part : {M : Type 1} (t : ℕ) → lambda-lts.Closed (
+abbrev calls : ℕ → lambda-lts.Claims
+calls t = (
   enter-lambda-reads.Asked,
   enter-lambda-reads.Learnt,
   refused-reads.Asked,
@@ -27,99 +28,67 @@ pub lambda-part : {M : Type 1} (t : ℕ) → lambda-lts.Closed (
   operands.Post,
   lambda-reads.Asked,
   lambda-reads.Learnt,
-) (lambda-at t) lambda.Post M
+)
+
+-- where the lambda is entered: what was asked
+abbrev asked : (t : ℕ) → lambda-lts.After-enter-lambda (calls t) (lambda-at t) lambda.Post →
+    lambda-lts.Start (calls t) (lambda-at t) lambda.Post
+asked t c = c .before .before .before .before
+
+given : (t : ℕ) (c : lambda-lts.After-enter-lambda (calls t) (lambda-at t) lambda.Post) →
+    let a = asked t c .args in Lambda (now (a .forest)) (now (a .work)) (a .t) (a .st) (a .i) (a .at)
+given t c = lambda-given (asked t c .pre .1)
+
+-- that, from where it is not refused
+abbrev entered : (t : ℕ) → lambda-lts.Else1 (calls t) (lambda-at t) lambda.Post →
+    lambda-lts.After-enter-lambda (calls t) (lambda-at t) lambda.Post
+entered t c = c .before .before .before .before .before
+
+pub lambda-part : {M : Type 1} (t : ℕ) → lambda-lts.Closed (calls t) (lambda-at t) lambda.Post M
 lambda-part t =
-    lambda-lts.spec (
-      enter-lambda-reads.Asked,
-      enter-lambda-reads.Learnt,
-      refused-reads.Asked,
-      refused-reads.Learnt,
-      opcode-reads.Asked,
-      opcode-reads.Learnt,
-      operands-below t,
-      operands.Post,
-      lambda-reads.Asked,
-      lambda-reads.Learnt,
-    )
-    (lambda-at t) lambda.Post
-    (λ c κs. let p = c .before .before .before .pre .1 in p)
+    lambda-lts.spec (calls t) (lambda-at t) lambda.Post
+    (λ c κs. c .before .before .before .pre .1)
     (λ c κs. tt)
     (λ c. c .before .before .before .before .before .before .enter-lambda .kept .1 .0)
-    (λ c. let c1 = c .before in
-    let c6 = c1 .before .before .before .before .before in
-    let c10 = c6 .before .before .before .before in
-    let a = c10 .args in
-    let p = c10 .pre .1 in
-    lambda-unmade (now (a .forest)) (now (a .work)) (a .t) (a .st) (a .i) (a .at) (p .0) (p .1 .0 .0) (p .1 .0 .1)
-    (p .1 .1 .0) (p .1 .1 .1) _ _ (c6 .enter-lambda .ensures) _ (c .refused .ensures) (c1 .if1 .taken))
-    (λ c κs. let c10 = c .before .before .before .before .before .before .before .before .before .before in
-    let p = c10 .pre .1 in (p .0 .laid, p .1 .0 .0))
-    (λ c. let c6 = c .before .before .before .before .before .before in
-    let c12 = c6 .before .before .before .before .before .before in
-    let p = c12 .pre .1 in omega (arith, p .1 .0 .0, records-few _ (p .0)))
-    (λ c κs. let c1 = c .before in
-    let c3 = c1 .before .before in
-    let c8 = c3 .before .before .before .before .before in
-    let c12 = c8 .before .before .before .before in
-    let a = c12 .args in
-    let p = c12 .pre .1 in
-    let operands = lambda-operands (now (a .forest)) (now (a .work)) (a .t) (a .st) (a .i) (a .at) (p .0) (p .1 .0 .0)
-    (p .1 .0 .1) (p .1 .1 .0) (p .1 .1 .1) _ _ (c8 .enter-lambda .ensures) (c3 .if1 .left) _ (c1 .opcode .ensures) in (
-      omega (arith, c12 .pre .0, p .1 .0 .0, records-few _ (p .0), weight-between (c1 .opcode .result)),
-      (
-        p .0,
-        operands,
-      ),
+    (λ c. let e = c .before .before .before .before .before .before in
+    lambda-unmade (given t e) (e .enter-lambda .ensures) (c .refused .ensures) (c .before .if1 .taken))
+    (λ c κs. let h = given t (entered t (c .before)) in (h .sound .laid, h .there))
+    (λ c. let h = given t (entered t (c .before .before .before)) in
+    omega (arith, h .there, records-few _ (h .sound)))
+    (λ c κs. let code = c .before in
+    let ok = code .before .before in
+    let e = entered t ok in
+    let h = given t e in (
+      omega (arith, asked t e .pre .0, h .there, records-few _ (h .sound), weight-between (code .opcode .result)),
+      (h .sound, lambda-operands h (e .enter-lambda .ensures) (ok .if1 .left) (code .opcode .ensures)),
     ))
     (λ c κs. tt)
-    (λ c. let c6 = c .before .before .before .before .before .before in
-    let c15 = c6 .before .before .before .before .before .before .before .before .before in
-    c6 .operands .kept .1 .0 ∙ c15 .enter-lambda .kept .1 .0)
-    (λ c. let c1 = c .before in
-    let c6 = c1 .before .before .before .before .before in
-    let c8 = c6 .before .before in
-    let c10 = c8 .before .before in
-    let c15 = c10 .before .before .before .before .before in
-    let c19 = c15 .before .before .before .before in
-    let a = c19 .args in
-    let p = c19 .pre .1 in
-    lambda-refused (now (a .forest)) (now (a .work)) (a .t) (a .st) (a .i) (a .at) (p .0) (p .1 .0 .0) (p .1 .0 .1)
-    (p .1 .1 .0) (p .1 .1 .1) _ _ (c15 .enter-lambda .ensures) (c10 .if1 .left) _ (c8 .opcode .ensures) _ _
-    (c6 .operands .ensures) _
-    (c .refused2 .ensures) (c1 .if2 .taken))
-    (λ c κs. let c1 = c .before in
-    let c6 = c1 .before .before .before .before .before in
-    let c8 = c6 .before .before in
-    let c10 = c8 .before .before in
-    let c15 = c10 .before .before .before .before .before in
-    let c19 = c15 .before .before .before .before in
-    let a = c19 .args in
-    let p = c19 .pre .1 in
-    let v = c6 .operands .ensures in
-    let concludes = lambda-conclude (now (a .forest)) (now (a .work)) (a .t) (a .st) (a .i) (a .at) (p .0) (p .1 .0 .0)
-    (p .1 .0 .1) (p .1 .1 .0) (p .1 .1 .1) _ _ (c15 .enter-lambda .ensures) (c10 .if1 .left) _ (c8 .opcode .ensures) _
-    _ v (c1 .if2 .left) in
-    let body = lambda-body (now (a .forest)) (now (a .work)) (a .t) (a .st) (a .i) (a .at) (p .0) (p .1 .0 .0)
-    (p .1 .0 .1) (p .1 .1 .0) (p .1 .1 .1) _ _ (c15 .enter-lambda .ensures) (c10 .if1 .left) _ (c8 .opcode .ensures) _ _
-    v (c1 .if2 .left) in
-    let first = lambda-first (now (a .forest)) (now (a .work)) (a .t) (a .st) (a .i) (a .at) (p .0) (p .1 .0 .0)
-    (p .1 .0 .1) (p .1 .1 .0) (p .1 .1 .1) _ _ (c15 .enter-lambda .ensures) (c10 .if1 .left) _ (c8 .opcode .ensures) _ _
-    v (c1 .if2 .left) in
-    (p .0, (v .rep, (v .opened, (concludes, ((p .1 .0 .1, first), body))))))
-    (λ c. let c2 = c .before .before in
-    let c9 = c2 .before .before .before .before .before .before .before in
-    let c18 = c9 .before .before .before .before .before .before .before .before .before in
-    c2 .lambda .kept .1 .0 ∙ (c9 .operands .kept .1 .0 ∙ c18 .enter-lambda .kept .1 .0))
-    (λ c. let c2 = c .before .before in
-    let c4 = c2 .before .before in
-    let c9 = c4 .before .before .before .before .before in
-    let c11 = c9 .before .before in
-    let c13 = c11 .before .before in
-    let c18 = c13 .before .before .before .before .before in
-    let c22 = c18 .before .before .before .before in
-    let a = c22 .args in
-    let p = c22 .pre .1 in
-    lambda-done (now (a .forest)) (now (a .work)) (a .t) (a .st) (a .i) (a .at) (p .0) (p .1 .0 .0) (p .1 .0 .1)
-    (p .1 .1 .0) (p .1 .1 .1) _ _ (c18 .enter-lambda .ensures) (c13 .if1 .left) _ (c11 .opcode .ensures) _ _
-    (c9 .operands .ensures)
-    (c4 .if2 .left) _ _ (c2 .lambda .ensures))
+    (λ c. let read = c .before .before .before .before .before .before in
+    read .operands .kept .1 .0 ∙ entered t (read .before .before .before .before) .enter-lambda .kept .1 .0)
+    (λ c. let read = c .before .before .before .before .before .before in
+    let code = read .before .before in
+    let ok = code .before .before in
+    let e = entered t ok in
+    lambda-refused (given t e) (e .enter-lambda .ensures) (ok .if1 .left) (code .opcode .ensures)
+    (read .operands .ensures) (c .refused2 .ensures) (c .before .if2 .taken))
+    (λ c κs. let done = c .before in
+    let read = done .before .before .before .before .before in
+    let code = read .before .before in
+    let ok = code .before .before in
+    let e = entered t ok in
+    let v = read .operands .ensures in
+    let asks =
+    lambda-asks (given t e) (e .enter-lambda .ensures) (ok .if1 .left) (code .opcode .ensures) v (done .if2 .left) in
+    (given t e .sound, (v .rep, (v .opened, asks))))
+    (λ c. let made = c .before .before in
+    let read = made .before .before .before .before .before .before .before in
+    made .lambda .kept .1 .0 ∙ (read .operands .kept .1 .0
+    ∙ entered t (read .before .before .before .before) .enter-lambda .kept .1 .0))
+    (λ c. let made = c .before .before in
+    let done = made .before .before in
+    let read = done .before .before .before .before .before in
+    let code = read .before .before in
+    let ok = code .before .before in
+    let e = entered t ok in
+    lambda-done (given t e) (e .enter-lambda .ensures) (ok .if1 .left) (code .opcode .ensures)
+    (read .operands .ensures) (done .if2 .left) (made .lambda .ensures))

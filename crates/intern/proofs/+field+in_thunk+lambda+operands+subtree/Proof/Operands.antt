@@ -13,8 +13,7 @@ use Rattle.interner.specs.State.{absOf}
 use Rattle.intern.specs.Intern.{Reads}
 use Rattle.intern.proofs.Remains.{Reading}
 use Rattle.intern.proofs.Reading.{reading-end, reading-there, reading-room, reading-plain, reading-thunk}
-use Rattle.intern.proofs.Reading.{reading-refused, reading-turn}
-use Rattle.intern.proofs.Loop.{loop-operands, loop-start, loop-reads}
+use Rattle.intern.proofs.Reading.{reading-refused, reading-turn, loop-start, loop-reads}
 use Rattle.intern.proofs.Thunks.{child-plainly, child-thunked}
 use Rattle.intern.proofs.in_thunk.Reads as in-thunk
 use Rattle.intern.proofs.operands.Reads as operands
@@ -57,6 +56,15 @@ calls t = (
   with-child-reads.Learnt,
 )
 
+-- the start, from the loop; the loop's test, from where a child in a thunk and any other meet
+abbrev started : (t : ℕ) → operands-lts.At-loop (calls t) (operands-at t) operands.Post loop-inv loop-measure →
+    operands-lts.Start (calls t) (operands-at t) operands.Post loop-inv loop-measure
+started t c = c .before .before .before .before
+
+abbrev turn : (t : ℕ) → operands-lts.Joined1 (calls t) (operands-at t) operands.Post loop-inv loop-measure →
+    operands-lts.In-loop (calls t) (operands-at t) operands.Post loop-inv loop-measure
+turn t c = c .before .before .before .before
+
 -- where a child in a thunk and any other meet: it is read as the definition has it
 child-read : (t : ℕ) (j : operands-lts.Joined1 (calls t) (operands-at t) operands.Post loop-inv loop-measure) →
     let c1 = j .before in
@@ -70,142 +78,61 @@ child-read : (t : ℕ) (j : operands-lts.Joined1 (calls t) (operands-at t) opera
     (absOf (now (a .forest)) (c5 .loop .work) (a .t) (c5 .loop .k .st))) (j .if1 .work) (j .if1 .r)
 child-read t j =
     ⊎-elim
-    (λ w. rw (w .5, w .6) (child-thunked _ _ _ _ _ _ _ _ _ (w .0 .taken) (w .2 .ensures)))
-    (λ w. rw (w .5, w .6) (child-plainly _ _ _ _ _ _ _ _ _ (w .0 .left) (w .2 .ensures))) (j .if1 .came)
+    (λ w. rw (w .5, w .6) (child-thunked (w .0 .taken) (w .2 .ensures)))
+    (λ w. rw (w .5, w .6) (child-plainly (w .0 .left) (w .2 .ensures))) (j .if1 .came)
 
 pub operands-part : {M : Type 1} (t : ℕ) → operands-lts.Closed (calls t) (operands-at t) operands.Post M
 operands-part t =
     operands-lts.spec (calls t) (operands-at t) operands.Post loop-inv loop-measure
     (λ c κs. tt)
-    (λ c. let c3 = c .before .before .before in
-    let a = c3 .args in
-    let p = c3 .pre .1 in
-    loop-start (now (a .forest)) (a .t) (a .i) (a .count) (a .op) (a .at) (now (a .work)) (a .st) (records-few _ (p .0))
-    (p .1) _
-    (c .unread .ensures))
+    (λ c. let p = c .before .before .before .pre .1 in loop-start (p .0) (p .1) (c .unread .ensures))
     (λ c κs. tt)
     (λ c κs. c .before .before .before .loop .inv .remains .pending)
-    (λ c κs. let c1 = c .before in
-    let c2 = c1 .before in
-    let c4 = c2 .before .before in
-    let c5 = c4 .before in
-    let c6 = c5 .before in
-    let c7 = c6 .before in
-    let c10 = c7 .before .before .before in
-    let a = c10 .args in
-    let p = c10 .pre .1 in
-    let few = records-few _ (p .0) in
-    let h₀ = loop-operands (now (a .forest)) (a .t) (a .i) (a .count) (a .op) (a .at) (now (a .work)) (a .st) few (p .1)
-    _ (c7 .unread .ensures) in
-    let there = reading-there (now (a .forest)) (a .t) (a .i) (a .count) (a .op) (a .at) (now (a .work)) _ few h₀ _ _ _
-    _ (c6 .loop .inv) (c5 .loop-test .taken) in
-    let is = sym (c4 .is-thunked .ensures) ∙ c1 .if1 .taken in
-    let child = reading-thunk (now (a .forest)) (a .t) (a .i) (a .count) (a .op) (a .at) (now (a .work)) _ few h₀ _ _ _
-    _ (c6 .loop .inv) (c5 .loop-test .taken) is _ (c2 .child-at .ensures) in (
-      omega (arith, c10 .pre .0, there, few, c6 .loop .inv .remains .onward, weight-thunked (a .op) _ is),
-      (
-        p .0,
-        (there, child),
-      ),
+    (λ c κs. let child = c .before .before in
+    let test = child .before .before .before in
+    let inv = test .before .loop .inv in
+    let there = reading-there inv (test .loop-test .taken) in
+    let is = sym (child .before .before .is-thunked .ensures) ∙ c .before .if1 .taken in (
+      omega (arith, started t (test .before) .pre .0, there, records-few _ (inv .sound), inv .remains .onward, weight-thunked _ _ is),
+      (inv .sound, (there, reading-thunk inv (test .loop-test .taken) is (child .child-at .ensures))),
     ))
-    (λ c κs. let c1 = c .before in
-    let c2 = c1 .before in
-    let c4 = c2 .before .before in
-    let c5 = c4 .before in
-    let c6 = c5 .before in
-    let c7 = c6 .before in
-    let c10 = c7 .before .before .before in
-    let a = c10 .args in
-    let p = c10 .pre .1 in
-    let few = records-few _ (p .0) in
-    let h₀ = loop-operands (now (a .forest)) (a .t) (a .i) (a .count) (a .op) (a .at) (now (a .work)) (a .st) few (p .1)
-    _ (c7 .unread .ensures) in
-    let there = reading-there (now (a .forest)) (a .t) (a .i) (a .count) (a .op) (a .at) (now (a .work)) _ few h₀ _ _ _
-    _ (c6 .loop .inv) (c5 .loop-test .taken) in
-    let is = sym (c4 .is-thunked .ensures) ∙ c1 .if1 .left in
-    let child = reading-plain (now (a .forest)) (a .t) (a .i) (a .count) (a .op) (a .at) (now (a .work)) _ few h₀ _ _ _
-    _ (c6 .loop .inv) (c5 .loop-test .taken) is _ (c2 .child-at .ensures) in (
-      omega (arith, c10 .pre .0, there, few, c6 .loop .inv .remains .onward, weight-between (a .op)),
-      (
-        p .0,
-        (there, child),
-      ),
+    (λ c κs. let child = c .before .before in
+    let test = child .before .before .before in
+    let inv = test .before .loop .inv in
+    let there = reading-there inv (test .loop-test .taken) in
+    let is = sym (child .before .before .is-thunked .ensures) ∙ c .before .if1 .left in (
+      omega (arith, started t (test .before) .pre .0, there, records-few _ (inv .sound), inv .remains .onward, weight-between (started t (test .before) .args .op)),
+      (inv .sound, (there, reading-plain inv (test .loop-test .taken) is (child .child-at .ensures))),
     ))
     (λ c κs. tt)
-    (λ c. let c4 = c .before .before .before .before in
-    let c9 = c4 .before .before .before .before .before in
-    child-read t c4 .kept .words .frame .long ∙ c9 .loop .inv .remains .kept .words .frame .long)
-    (λ c. let c1 = c .before in
-    let c4 = c1 .before .before .before in
-    let c5 = c4 .before in
-    let c7 = c5 .before .before in
-    let c8 = c7 .before in
-    let c9 = c8 .before in
-    let c10 = c9 .before in
-    let c13 = c10 .before .before .before in
-    let a = c13 .args in
-    let p = c13 .pre .1 in
-    let few = records-few _ (p .0) in
-    let h₀ = loop-operands (now (a .forest)) (a .t) (a .i) (a .count) (a .op) (a .at) (now (a .work)) (a .st) few (p .1)
-    _ (c10 .unread .ensures) in
-    loop-reads (now (a .forest)) (a .t) (a .i) (a .count) (a .op) (a .at) (now (a .work)) (a .st) few (p .1) _
-    (c10 .unread .ensures) _ _
-    (reading-refused (now (a .forest)) (a .t) (a .i) (a .count) (a .op) (a .at) (now (a .work)) _ few h₀ _ _ _ _
-    (c9 .loop .inv) (c8 .loop-test .taken) _ (c7 .is-thunked .ensures) _ _ _ (c5 .child-at .ensures)
-    (child-read t c4) _ (c .failed .ensures) (c1 .if2 .taken)))
-    (λ c. omega (arith, c .before .before .before .before .before .before .before .before .loop .inv .remains .pending))
-    (λ c. omega (arith, c .before .before .before .before .before .before .before .before .loop .inv .remains .pending))
-    (λ c. omega (arith, c .before .before .before .before .before .before .before .before .loop .inv .remains .pending))
-    (λ c. let c3 = c .before .before .before in
-    omega (arith, c3 .before .before .before .before .before .loop .inv .remains .pending, child-read t c3 .rep .arena .scoped .words))
-    (λ c κs. let c4 = c .before .before .before .before in
-    let c8 = c4 .before .before .before .before in
-    let c9 = c8 .before in
-    let c10 = c9 .before in
-    let c13 = c10 .before .before .before in
-    let a = c13 .args in
-    let p = c13 .pre .1 in
-    let few = records-few _ (p .0) in
-    let h₀ = loop-operands (now (a .forest)) (a .t) (a .i) (a .count) (a .op) (a .at) (now (a .work)) (a .st) few (p .1)
-    _ (c10 .unread .ensures) in
-    let room = reading-room (now (a .forest)) (a .t) (a .i) (a .count) (a .op) (a .at) (now (a .work)) _ few h₀ _ _ _ _
-    (c9 .loop .inv) (c8 .loop-test .taken) in
-    let there = reading-there (now (a .forest)) (a .t) (a .i) (a .count) (a .op) (a .at) (now (a .work)) _ few h₀ _ _ _
-    _ (c9 .loop .inv) (c8 .loop-test .taken) in
-    (p .0, (there, room .1, simp length-set (child-read t c4 .rep .arena .scoped .words))))
-    (λ c κs. let c6 = c .before .before .before .before .before .before in
-    c6 .before .before .before .before .before .before .loop .inv .remains .rep .arena .scoped .few-scopes)
-    (λ c. let c6 = c .before .before .before .before .before .before in
-    omega (arith, c6 .before .before .before .before .before .before .before .loop .inv .remains .pending))
-    (λ c. let c6 = c .before .before .before .before .before .before in
-    omega (arith, c6 .before .before .before .before .before .before .loop-test .taken))
-    (λ c. let c3 = c .before .before .before in
-    let c5 = c3 .before .before in
-    let c8 = c5 .before .before .before in
-    let c9 = c8 .before in
-    let c11 = c9 .before .before in
-    let c12 = c11 .before in
-    let c13 = c12 .before in
-    let c14 = c13 .before in
-    let c17 = c14 .before .before .before in
-    let a = c17 .args in
-    let p = c17 .pre .1 in
-    let few = records-few _ (p .0) in
-    let h₀ = loop-operands (now (a .forest)) (a .t) (a .i) (a .count) (a .op) (a .at) (now (a .work)) (a .st) few (p .1)
-    _ (c14 .unread .ensures) in
-    reading-turn (now (a .forest)) (a .t) (a .i) (a .count) (a .op) (a .at) (now (a .work)) _ few h₀ _ _ _ _
-    (c13 .loop .inv) (c12 .loop-test .taken) _ (c11 .is-thunked .ensures) _ _ _ (c9 .child-at .ensures)
-    (child-read t c8) (c5 .if2 .left) _ _ (c3 .bind-def .ensures) _ (c .with-child .ensures))
+    (λ c. let child = c .before .before .before .before in
+    child-read t child .kept .words .frame .long ∙ (turn t child .before .loop .inv .remains .kept .words .frame .long))
+    (λ c. let child = c .before .before .before .before in
+    let test = turn t child in
+    let p = started t (test .before) .pre .1 in
+    loop-reads (p .0) (p .1) (test .before .before .unread .ensures)
+    (reading-refused (test .before .loop .inv) (test .loop-test .taken) (child .before .before .before .is-thunked .ensures)
+    (child .before .child-at .ensures) (child-read t child) (c .failed .ensures) (c .before .if2 .taken)))
+    (λ c. omega (arith, turn t (c .before .before .before) .before .loop .inv .remains .pending))
+    (λ c. omega (arith, turn t (c .before .before .before) .before .loop .inv .remains .pending))
+    (λ c. omega (arith, turn t (c .before .before .before) .before .loop .inv .remains .pending))
+    (λ c. let child = c .before .before .before in
+    omega (arith, turn t child .before .loop .inv .remains .pending, child-read t child .rep .arena .scoped .words))
+    (λ c κs. let child = c .before .before .before .before in
+    let test = turn t child in
+    let inv = test .before .loop .inv in (
+      inv .sound,
+      (reading-there inv (test .loop-test .taken), reading-room inv (test .loop-test .taken) .1, simp length-set (child-read t child .rep .arena .scoped .words)),
+    ))
+    (λ c κs. turn t (c .before .before .before .before .before .before .before) .before .loop .inv .remains .rep .arena .scoped .few-scopes)
+    (λ c. omega (arith, turn t (c .before .before .before .before .before .before .before .before) .before .loop .inv .remains .pending))
+    (λ c. omega (arith, turn t (c .before .before .before .before .before .before .before .before) .loop-test .taken))
+    (λ c. let bound = c .before .before .before in
+    let ok = bound .before .before in
+    let child = ok .before .before .before in
+    let test = turn t child in
+    reading-turn (test .before .loop .inv) (test .loop-test .taken) (child .before .before .before .is-thunked .ensures)
+    (child .before .child-at .ensures) (child-read t child) (ok .if2 .left) (bound .bind-def .ensures) (c .with-child .ensures))
     (λ c. c .before .loop .inv .remains .kept .words .frame .long)
-    (λ c. let c1 = c .before in
-    let c2 = c1 .before in
-    let c5 = c2 .before .before .before in
-    let a = c5 .args in
-    let p = c5 .pre .1 in
-    let few = records-few _ (p .0) in
-    let h₀ = loop-operands (now (a .forest)) (a .t) (a .i) (a .count) (a .op) (a .at) (now (a .work)) (a .st) few (p .1)
-    _ (c2 .unread .ensures) in
-    loop-reads (now (a .forest)) (a .t) (a .i) (a .count) (a .op) (a .at) (now (a .work)) (a .st) few (p .1) _
-    (c2 .unread .ensures) _ _
-    (reading-end (now (a .forest)) (a .t) (a .i) (a .count) (a .op) (a .at) (now (a .work)) _ few h₀ _ _ _ _
-    (c1 .loop .inv) (c .loop-test .left)))
+    (λ c. let p = started t (c .before) .pre .1 in
+    loop-reads (p .0) (p .1) (c .before .before .unread .ensures) (reading-end (c .before .loop .inv) (c .loop-test .left)))

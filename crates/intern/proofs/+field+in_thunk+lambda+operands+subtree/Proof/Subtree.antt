@@ -11,9 +11,10 @@ use Rattle.walk.proofs.Bridge.{records-few}
 use Rattle.bindings.specs.Bindings.{envOf}
 use Rattle.interner.specs.State.{absOf}
 use Rattle.intern.specs.Intern.{ReadsOn}
-use Rattle.intern.proofs.Cases.{record-full, record-left, counted-stands, counted-well, counted-kids}
-use Rattle.intern.proofs.Cases.{counted-opcode, record-lambda, record-field, record-other}
-use Rattle.intern.proofs.Cases.{record-uses, record-use, counted-plain}
+use Rattle.intern.proofs.Records.{Parent}
+use Rattle.intern.proofs.Cases.{record-full, Counts, record-left, counted-given, counted-stands, counted-well}
+use Rattle.intern.proofs.Cases.{counted-parent, counted-opcode, counted-plain, record-lambda, record-field}
+use Rattle.intern.proofs.Cases.{record-other, record-uses, record-use}
 use Rattle.intern.proofs.Gives.{children-operands, children-read, children-none, incomplete-reads}
 use Rattle.intern.proofs.field.Reads as field
 use Rattle.intern.proofs.complete.Reads as complete-reads
@@ -58,175 +59,116 @@ calls t = (
   complete-reads.Learnt,
 )
 
+-- where the reading is counted: what was asked, and that it is counted
+abbrev asked : (t : ℕ) → subtree-lts.After-count-reading (calls t) (subtree-at t) subtree.Post →
+    subtree-lts.Start (calls t) (subtree-at t) subtree.Post
+asked t c = c .before .before .before .before .before
+
+given : (t : ℕ) (c : subtree-lts.After-count-reading (calls t) (subtree-at t) subtree.Post) →
+    let a = asked t c .args in
+    Counts (now (a .forest)) (now (a .work)) (a .t) (a .st) (a .i) (a .at) (c .count-reading .result)
+given t c = counted-given (asked t c .pre .1) (c .before .if1 .left) (c .count-reading .ensures)
+
+-- where the record is no lambda: its children may be read
+parent : (t : ℕ) (c : subtree-lts.Else3 (calls t) (subtree-at t) subtree.Post) →
+    let n = c .before .before .before in
+    let a = asked t n .args in
+    Parent (now (a .forest)) (now (a .work)) (a .t) (n .count-reading .result) (a .i) (a .at)
+parent t c =
+    let shape = c .before .before in
+    counted-parent (given t (shape .before)) (λ z. c .if3 .left (shape .shape .ensures ∙ z))
+
 -- where a SelectField and the other records meet: the record is done, or still to be completed
 on : (t : ℕ) (j : subtree-lts.Joined4 (calls t) (subtree-at t) subtree.Post) →
-    let a = j .before .before .before .before .before .before .before .before .before .before .args in
+    let a = asked t (j .before .before .before .before .before) .args in
     ReadsOn (now (a .forest)) (now (a .work)) (a .t) (a .st) (a .i) (a .at)
     (intern (treeAt (now (a .forest)) (a .i)) (a .i) (a .at .scope) (envOf (now (a .work)) (a .at .top))
     (absOf (now (a .forest)) (now (a .work)) (a .t) (a .st))) (j .if4 .work) (j .if4 .selected)
 on t j =
-    let k = j .before in
-    let c1 = k .before in
-    let c2 = c1 .before in
-    let c3 = c2 .before in
-    let c4 = c3 .before in
-    let c5 = c4 .before in
-    let c9 = c5 .before .before .before .before in
-    let a = c9 .args in
-    let p = c9 .pre .1 in
-    let s = c3 .shape .ensures in
-    let stands = counted-stands (now (a .forest)) (now (a .work)) (a .t) (a .st) (a .i) (a .at) (p .0) (p .1 .0)
-    (p .1 .1 .0) (p .1 .1 .1) (c5 .if1 .left) _ (c4 .count-reading .ensures) in
-    let well = counted-kids (now (a .forest)) (now (a .work)) (a .t) (a .st) (a .i) (a .at) (p .0) (p .1 .0)
-    (p .1 .1 .0) (p .1 .1 .1) (c5 .if1 .left) _ (c4 .count-reading .ensures) (λ z. c1 .if3 .left (s ∙ z)) in
-    let plain = counted-plain (now (a .forest)) (now (a .work)) (a .t) (a .st) (a .i) (a .at) (p .0) (p .1 .0)
-    (p .1 .1 .0) (p .1 .1 .1) (c5 .if1 .left) _ (c4 .count-reading .ensures) in
-    let other = record-other (now (a .forest)) (now (a .work)) (a .t) (a .st) (a .i) (a .at) (p .0) (p .1 .0)
-    (p .1 .1 .0) (p .1 .1 .1) (c5 .if1 .left) _ (c4 .count-reading .ensures) (λ z. c2 .if2 .left (s ∙ z))
-    (λ z. c1 .if3 .left (s ∙ z)) in
+    let kids = j .before in
+    let other = kids .before in
+    let shape = other .before .before in
+    let h = given t (shape .before) in
+    let s = shape .shape .ensures in
+    let is = record-other h (λ z. other .before .if2 .left (s ∙ z)) (λ z. other .if3 .left (s ∙ z)) in
     ⊎-elim
-    (λ w. record-field (now (a .forest)) (now (a .work)) (a .t) (a .st) (a .i) (a .at) (p .0) (p .1 .0) (p .1 .1 .0)
-    (p .1 .1 .1) (c5 .if1 .left) _ (c4 .count-reading .ensures) (sym s ∙ w .0 .taken) (j .if4 .work) (j .if4 .selected)
-    (rw (w .5, w .6) (w .2 .ensures)))
+    (λ w. record-field h (sym s ∙ w .0 .taken) (j .if4 .work) (j .if4 .selected) (rw (w .5, w .6) (w .2 .ensures)))
     (⊎-elim
     (λ w. rw (w .3, w .4)
-    (other (λ z. w .0 .left (s ∙ z)) _ _
-    (children-none (now (a .forest)) (now (a .work)) (a .t) _ (a .i) (a .at) (p .0) (p .1 .0) stands well _
-    (k .kids .ensures .0) plain (w .1 .taken) _ (w .2 .ensures))))
+    (is (λ z. w .0 .left (s ∙ z)) _ _
+    (children-none (parent t other) (kids .kids .ensures .0) (counted-plain h) (w .1 .taken) (w .2 .ensures))))
     (λ w. rw (w .7, w .8)
-    (other (λ z. w .0 .left (s ∙ z)) _ _
-    (children-read (now (a .forest)) (now (a .work)) (a .t) _ (a .i) (a .at) (p .0) (p .1 .0) stands well _ _
-    (k .kids .ensures .0) (w .2 .ensures) _ _ (w .4 .ensures))))) (j .if4 .came)
+    (is (λ z. w .0 .left (s ∙ z)) _ _
+    (children-read (parent t other) (kids .kids .ensures .0) (w .2 .ensures) (w .4 .ensures))))) (j .if4 .came)
 
 pub subtree-part : {M : Type 1} (t : ℕ) → subtree-lts.Closed (calls t) (subtree-at t) subtree.Post M
 subtree-part t =
     subtree-lts.spec (calls t) (subtree-at t) subtree.Post
     (λ c. let p = c .before .before .before .before .pre .1 in omega (arith, p .1 .0, records-few _ (p .0)))
     (λ c κs. tt)
-    (λ c. let c1 = c .before in
-    let c5 = c1 .before .before .before .before in
-    let a = c5 .args in
-    let p = c5 .pre .1 in
-    record-full (now (a .forest)) (now (a .work)) (a .t) (a .st) (a .i) (a .at) (p .0) (p .1 .0) (p .1 .1 .0)
-    (p .1 .1 .1) _ (c1 .if1 .taken) (c .refused .ensures))
-    (λ c κs. let c4 = c .before .before .before .before in
-    let a = c4 .args in
-    let p = c4 .pre .1 in
-    record-left (now (a .forest)) (now (a .work)) (a .t) (a .st) (a .i) (a .at) (p .0) (p .1 .0) (p .1 .1 .0)
-    (p .1 .1 .1) (c .if1 .left))
-    (λ c κs. let p = c .before .before .before .before .before .pre .1 in (p .0 .laid, p .1 .0))
-    (λ c κs. let c1 = c .before in
-    let c2 = c1 .before in
-    let c3 = c2 .before in
-    let c4 = c3 .before in
-    let c8 = c4 .before .before .before .before in
-    let a = c8 .args in
-    let p = c8 .pre .1 in
-    let e = sym (c2 .shape .ensures) ∙ c1 .if2 .taken in (
-      p .0,
-      record-uses (now (a .forest)) (now (a .work)) (a .t) (a .st) (a .i) (a .at) (p .0) (p .1 .0) (p .1 .1 .0)
-          (p .1 .1 .1) (c4 .if1 .left) _ (c3 .count-reading .ensures) e,
-    ))
-    (λ c. let c9 = c .before .before .before .before .before .before .before .before .before in
-    let p = c9 .pre .1 in omega (arith, p .1 .0, records-few _ (p .0)))
+    (λ c. let full = c .before in
+    record-full (full .before .before .before .before .pre .1 .1 .1 .0) (full .if1 .taken) (c .refused .ensures))
+    (λ c κs. record-left (c .before .before .before .before .pre .1) (c .if1 .left))
+    (λ c κs. (given t c .sound .laid, given t c .there))
+    (λ c κs. let shape = c .before .before in
+    let h = given t (shape .before) in
+    (h .sound, record-uses h (sym (shape .shape .ensures) ∙ c .before .if2 .taken)))
+    (λ c. let h = given t (c .before .before .before .before) in omega (arith, h .there, records-few _ (h .sound)))
     (λ c. search needs)
-    (λ c. let c2 = c .before .before in
-    let c3 = c2 .before in
-    let c4 = c3 .before in
-    let c5 = c4 .before in
-    let c9 = c5 .before .before .before .before in
-    let a = c9 .args in
-    let p = c9 .pre .1 in
-    let e = sym (c3 .shape .ensures) ∙ c2 .if2 .taken in
-    record-use (now (a .forest)) (now (a .work)) (a .t) (a .st) (a .i) (a .at) (p .0) (p .1 .0) (p .1 .1 .0)
-    (p .1 .1 .1) (c5 .if1 .left) _ (c4 .count-reading .ensures) _ e (c .value-use .ensures))
-    (λ c κs. let c1 = c .before in
-    let c3 = c1 .before .before in
-    let c4 = c3 .before in
-    let c5 = c4 .before in
-    let c9 = c5 .before .before .before .before in
-    let a = c9 .args in
-    let p = c9 .pre .1 in
-    let e = sym (c3 .shape .ensures) ∙ c1 .if3 .taken in
-    let stands = counted-stands (now (a .forest)) (now (a .work)) (a .t) (a .st) (a .i) (a .at) (p .0) (p .1 .0)
-    (p .1 .1 .0) (p .1 .1 .1) (c5 .if1 .left) _ (c4 .count-reading .ensures) in
-    let well = counted-well (now (a .forest)) (now (a .work)) (a .t) (a .st) (a .i) (a .at) (p .0) (p .1 .0)
-    (p .1 .1 .0) (p .1 .1 .1) (c5 .if1 .left) _ (c4 .count-reading .ensures) in
-    (omega (arith, c9 .pre .0), (p .0, ((p .1 .0, e), (stands, well)))))
+    (λ c. let shape = c .before .before .before in
+    record-use (given t (shape .before)) (sym (shape .shape .ensures) ∙ c .before .before .if2 .taken)
+    (c .value-use .ensures))
+    (λ c κs. let shape = c .before .before .before in
+    let h = given t (shape .before) in
+    let e = sym (shape .shape .ensures) ∙ c .before .if3 .taken in
+    (omega (arith, asked t (shape .before) .pre .0), (h .sound, ((h .there, e), (counted-stands h, counted-well h)))))
     (λ c. c .before .before .lambda .kept .1 .0)
-    (λ c. let c2 = c .before .before in
-    let c4 = c2 .before .before in
-    let c6 = c4 .before .before in
-    let c7 = c6 .before in
-    let c8 = c7 .before in
-    let c12 = c8 .before .before .before .before in
-    let a = c12 .args in
-    let p = c12 .pre .1 in
-    let e = sym (c6 .shape .ensures) ∙ c4 .if3 .taken in
-    record-lambda (now (a .forest)) (now (a .work)) (a .t) (a .st) (a .i) (a .at) (p .0) (p .1 .0) (p .1 .1 .0)
-    (p .1 .1 .1) (c8 .if1 .left) _ (c7 .count-reading .ensures) _ _ e (c2 .lambda .ensures))
-    (λ c κs. let p = c .before .before .before .before .before .before .before .before .pre .1 in (p .0 .laid, p .1 .0))
-    (λ c κs. let c1 = c .before in
-    let c3 = c1 .before .before in
-    let c5 = c3 .before .before in
-    let c6 = c5 .before in
-    let c7 = c6 .before in
-    let c11 = c7 .before .before .before .before in
-    let a = c11 .args in
-    let p = c11 .pre .1 in
-    let e = sym (c5 .shape .ensures) ∙ c1 .if4 .taken in
-    let stands = counted-stands (now (a .forest)) (now (a .work)) (a .t) (a .st) (a .i) (a .at) (p .0) (p .1 .0)
-    (p .1 .1 .0) (p .1 .1 .1) (c7 .if1 .left) _ (c6 .count-reading .ensures) in
-    let well = counted-kids (now (a .forest)) (now (a .work)) (a .t) (a .st) (a .i) (a .at) (p .0) (p .1 .0)
-    (p .1 .1 .0) (p .1 .1 .1) (c7 .if1 .left) _ (c6 .count-reading .ensures)
-    (λ z. c3 .if3 .left (c5 .shape .ensures ∙ z)) in
-    let code = counted-opcode (now (a .forest)) (now (a .work)) (a .t) (a .st) (a .i) (a .at) (p .0) (p .1 .0)
-    (p .1 .1 .0) (p .1 .1 .1) (c7 .if1 .left) _ (c6 .count-reading .ensures) e in
-    (omega (arith, c11 .pre .0), (p .0, (p .1 .0, ((e, code), (stands, well))))))
-    (λ c. let c6 = c .before .before .before .before .before .before in
-    let p = c6 .before .before .before .before .before .pre .1 in omega (arith, p .1 .0, records-few _ (p .0)))
+    (λ c. let read = c .before .before in
+    let yes = read .before .before in
+    let shape = yes .before .before in
+    record-lambda (given t (shape .before)) (sym (shape .shape .ensures) ∙ yes .if3 .taken) (read .lambda .ensures))
+    (λ c κs. let h = parent t c in (h .sound .laid, h .there))
+    (λ c κs. let other = c .before .before .before in
+    let shape = other .before .before in
+    let h = parent t other in
+    let e = sym (shape .shape .ensures) ∙ c .before .if4 .taken in (
+      omega (arith, asked t (shape .before) .pre .0),
+      (h .sound, (h .there, ((e, counted-opcode (given t (shape .before)) e), (h .stands, h .well)))),
+    ))
+    (λ c. let h = parent t (c .before .before .before) in omega (arith, h .there, records-few _ (h .sound)))
     (λ c κs. tt)
-    (λ c κs. let c6 = c .before .before .before .before .before .before in
-    let p = c6 .before .before .before .before .before .pre .1 in (p .0 .laid, p .1 .0))
-    (λ c. let c8 = c .before .before .before .before .before .before .before .before in
-    let p = c8 .before .before .before .before .before .pre .1 in omega (arith, p .1 .0, records-few _ (p .0)))
-    (λ c κs. let c1 = c .before in
-    let c4 = c1 .before .before .before in
-    let c5 = c4 .before in
-    let c7 = c5 .before .before in
-    let c8 = c7 .before in
-    let c9 = c8 .before in
-    let c13 = c9 .before .before .before .before in
-    let a = c13 .args in
-    let p = c13 .pre .1 in
-    let stands = counted-stands (now (a .forest)) (now (a .work)) (a .t) (a .st) (a .i) (a .at) (p .0) (p .1 .0)
-    (p .1 .1 .0) (p .1 .1 .1) (c9 .if1 .left) _ (c8 .count-reading .ensures) in
-    let well = counted-kids (now (a .forest)) (now (a .work)) (a .t) (a .st) (a .i) (a .at) (p .0) (p .1 .0)
-    (p .1 .1 .0) (p .1 .1 .1) (c9 .if1 .left) _ (c8 .count-reading .ensures)
-    (λ z. c5 .if3 .left (c7 .shape .ensures ∙ z)) in
-    let plain = counted-plain (now (a .forest)) (now (a .work)) (a .t) (a .st) (a .i) (a .at) (p .0) (p .1 .0)
-    (p .1 .1 .0) (p .1 .1 .1) (c9 .if1 .left) _ (c8 .count-reading .ensures) in
-    let operands = children-operands (now (a .forest)) (now (a .work)) (a .t) _ (a .i) (a .at) (p .0) (p .1 .0) stands
-    well _ _ (c4 .kids .ensures .0) (c1 .opcode .ensures) plain in
-    (omega (arith, c13 .pre .0, p .1 .0, records-few _ (p .0), weight-between (c1 .opcode .result)), (p .0, operands)))
+    (λ c κs. let h = parent t (c .before .before .before) in (h .sound .laid, h .there))
+    (λ c. let h = parent t (c .before .before .before .before .before) in
+    omega (arith, h .there, records-few _ (h .sound)))
+    (λ c κs. let code = c .before in
+    let kids = code .before .before .before in
+    let h = parent t (kids .before) in
+    let counted = kids .before .before .before .before in (
+      omega (
+        arith,
+        asked t counted .pre .0,
+        h .there,
+        records-few _ (h .sound),
+        weight-between (code .opcode .result),
+      ),
+      (
+        h .sound,
+        children-operands h (kids .kids .ensures .0) (code .opcode .ensures) (counted-plain (given t counted)),
+      ),
+    ))
     (λ c. search needs)
     (λ c. search needs)
-    (λ c κs. let c2 = c .before .before in
-    let c4 = c2 .before .before in
-    let c14 = c4 .before .before .before .before .before .before .before .before .before .before in
-    let incomplete = rw (c2 .selected2 .given .1) at (on t c4) in
-    (c14 .pre .1 .0, incomplete .ready))
+    (λ c κs. let selected = c .before .before in
+    let met = selected .before .before in
+    let incomplete = rw (selected .selected2 .given .1) at (on t met) in
+    (parent t (met .before .before) .sound, incomplete .ready))
     (λ c. let read = rw (c .before .selected .given .1) at (on t (c .before .before .before)) in read .kept .words
     .frame .long)
     (λ c. rw (c .before .selected .given .1) at (on t (c .before .before .before)))
-    (λ c. let c2 = c .before .before in
-    let c5 = c2 .before .before .before in
-    let incomplete = rw (c5 .selected2 .given .1) at (on t (c5 .before .before)) in
-    c2 .complete .kept .1 .0 ∙ incomplete .kept .words .frame .long)
-    (λ c. let c2 = c .before .before in
-    let c5 = c2 .before .before .before in
-    let c17 = c5 .before .before .before .before .before .before .before .before .before .before .before .before in
-    let a = c17 .args in
-    let incomplete = rw (c5 .selected2 .given .1) at (on t (c5 .before .before)) in
-    incomplete-reads (now (a .forest)) (now (a .work)) (a .t) (a .st) (a .i) (a .at) _ _ _ incomplete _ _
-    (c2 .complete .ensures))
+    (λ c. let done = c .before .before in
+    let selected = done .before .before .before in
+    let incomplete = rw (selected .selected2 .given .1) at (on t (selected .before .before)) in
+    done .complete .kept .1 .0 ∙ incomplete .kept .words .frame .long)
+    (λ c. let done = c .before .before in
+    let selected = done .before .before .before in
+    incomplete-reads (rw (selected .selected2 .given .1) at (on t (selected .before .before))) (done .complete .ensures))
