@@ -1,5 +1,6 @@
 -- A symbol that is there already: the last of some pending children, or what an id stands for. In order: the last; that
--- it is a symbol; an id; such a symbol as an answer; an answer, seen otherwise. The second and the fourth are for callers.
+-- it is a symbol; an id; such a symbol as an answer; an answer, seen otherwise. The second and the fourth are for
+-- callers.
 -- Assumes nothing.
 use Prim.Native.Nat.{ℕ, zero, suc, _+_, _-_, _<_}
 use mathlib.Core.Path.{_≡_, ap, _∙_, subst, sym}

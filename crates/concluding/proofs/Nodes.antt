@@ -75,7 +75,8 @@ module _ (r : Row) (h : fits r ≡ true) where
 
 -- ---- room
 
-module _ {bs ws : List ℕ} {st : State} {i cur inner held count : ℕ} (h : Concludes bs ws st i cur inner held count) where
+module _ {bs ws : List ℕ} {st : State} {i cur inner held count : ℕ}
+    (h : Concludes bs ws st i cur inner held count) where
   fresh-from : (node : Node) → partsOf node .source ≡ i → partsOf node .field ≡ 0 → partsOf node .branches < 4 →
       partsOf node .first < 4096 → partsOf node .second < 4096 → Sourced bs node count →
       Fresh bs ws st cur node held count

@@ -94,9 +94,15 @@ pub record Lambda (bs ws : List ℕ) (t : Tables) (st : State) (i : ℕ) (at : H
   pub counted : CountedAt bs ws t st i at
 
 pub lambda-given : {bs ws : List ℕ} {t : Tables} {st : State} {i : ℕ} {at : Here} →
-    WellFormed bs × (((i < recordCount bs) × (recAt bs i .shape ≡ 12)) × (StandsAt bs ws t st i at × CountedAt bs ws t st i at)) →
-    Lambda bs ws t st i at
-lambda-given p = record { sound = p .0; there = p .1 .0 .0; shape = p .1 .0 .1; stands = p .1 .1 .0; counted = p .1 .1 .1 }
+    WellFormed bs × (((i < recordCount bs) × (recAt bs i .shape ≡ 12))
+    × (StandsAt bs ws t st i at × CountedAt bs ws t st i at)) → Lambda bs ws t st i at
+lambda-given p = record {
+  sound = p .0;
+  there = p .1 .0 .0;
+  shape = p .1 .0 .1;
+  stands = p .1 .1 .0;
+  counted = p .1 .1 .1;
+}
 
 module _ {bs ws : List ℕ} {t : Tables} {st : State} {i : ℕ} {at : Here} (h : Lambda bs ws t st i at) where
   abbrev aux : ℕ
@@ -106,8 +112,7 @@ module _ {bs ws : List ℕ} {t : Tables} {st : State} {i : ℕ} {at : Here} (h :
   xs = argsOf aux (recAt bs i .lit)
 
   fitting : (rowAt bs i .kids ≡ 1) × (aux ≤ 15)
-  fitting =
-      let f = fits-func (rowAt bs i) (row-fits bs i (h .sound .fit) (h .there)) (h .shape) in (f .0, f .1)
+  fitting = let f = fits-func (rowAt bs i) (row-fits bs i (h .sound .fit) (h .there)) (h .shape) in (f .0, f .1)
 
   deep : 2 ≤ depth (treeAt bs i)
   deep = parent-depth bs i (h .sound) (h .there) (omega (arith, fitting .0))
@@ -193,8 +198,7 @@ module _ {bs ws : List ℕ} {t : Tables} {st : State} {i : ℕ} {at : Here} (h :
         own = rw (same .0, scope-word) (b .args ok)
 
         rep₂ : Rep bs ws₂ (withScope (made .st))
-        rep₂ =
-            rw opened (body-rep (b .rep) scopes-few scope-low (same .1) args-few own)
+        rep₂ = rw opened (body-rep (b .rep) scopes-few scope-low (same .1) args-few own)
 
         words₂ : Words (st .scopes) (at .held) (at .top) ws₁ ws₂
         words₂ =
@@ -224,8 +228,7 @@ module _ {bs ws : List ℕ} {t : Tables} {st : State} {i : ℕ} {at : Here} (h :
           scope₃ k l = binds .before (SCOPES .first + k) (omega arith)
 
           body₂ : BodyOf ws₂ (m + 1) (at .scope) m (range first n)
-          body₂ =
-              rw opened (body-of (b .rep) scopes-few scope-low (same .1) args-few)
+          body₂ = rw opened (body-of (b .rep) scopes-few scope-low (same .1) args-few)
 
           env₃ : envOf ws₃ top′ ≡ bindArgs xs (range first aux) (envOf ws (at .top))
           env₃ =
@@ -239,8 +242,7 @@ module _ {bs ws : List ℕ} {t : Tables} {st : State} {i : ℕ} {at : Here} (h :
             is = gives ∙ rw (← same .0, en);
             scope = sym (scopes-count bs ws₁ t (made .st));
             abs =
-                later-abs bs ws₂ ws₃ (withScope (made .st)) rep₂ (BINDINGS .first + 2 * at .top) (BINDINGS .first + 2 * top′)
-                (omega arith) binds t made-opened
+                later-abs rep₂ binds (omega arith) t made-opened
                 ∙ ap (λ (z : List ℕ). absOf bs z t (withScope (made .st))) opened
                 ∙ body-abs (b .rep) scopes-few scope-low (same .1) args-few t made-opened
                 ∙ rw en;
@@ -264,8 +266,7 @@ module _ {bs ws : List ℕ} {t : Tables} {st : State} {i : ℕ} {at : Here} (h :
 
           done : Enters bs ws t st i at ws₃ e
           done = record {
-            rep = later-rep bs ws₂ ws₃ (withScope (made .st)) rep₂ (BINDINGS .first + 2 * at .top)
-                (BINDINGS .first + 2 * top′) (omega arith) binds;
+            rep = later-rep rep₂ binds (omega arith);
             opened = made-opened;
             kept = record {
               words =

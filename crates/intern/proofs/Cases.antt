@@ -120,34 +120,28 @@ module _ (bs : List ℕ) (i cur : ℕ) (env : Env) (s : intern.State) where
   intern-full l = rw (le-ltb (s .readings) 2048 l, guard)
 
   module _ (l : s .readings < 2048) where
-    intern-read : intern u i cur env s
-        ≡ internKind (kind (recAt bs i .shape)) i cur (recAt bs i) env (kidsRead bs i) (read s)
+    intern-kind : {z : Kind} → kind (recAt bs i .shape) ≡ z →
+        intern u i cur env s ≡ internKind z i cur (recAt bs i) env (kidsRead bs i) (read s)
     unfolding intern guard
-    intern-read = rw (lt-ltb (s .readings) 2048 l, guard)
+    intern-kind k = rw (lt-ltb (s .readings) 2048 l, guard, k)
 
     intern-use : recAt bs i .shape ≡ 7 → intern u i cur env s ≡ good (resolve env (idOf (recAt bs i)), read s)
     unfolding kind internKind
-    intern-use e =
-        let k : kind (recAt bs i .shape) ≡ valUse = rw e in
-        intern-read ∙ ap (λ (z : Kind). internKind z i cur (recAt bs i) env (kidsRead bs i) (read s)) k
+    intern-use e = intern-kind {z = valUse} (rw e)
 
     intern-lambda : recAt bs i .shape ≡ 12 →
         intern u i cur env s ≡ internFunc i cur (recAt bs i) env (kidsRead bs i) (read s)
     unfolding internKind
-    intern-lambda e =
-        intern-read
-        ∙ ap (λ (z : Kind). internKind z i cur (recAt bs i) env (kidsRead bs i) (read s)) (lambda-kind _ e)
+    intern-lambda e = intern-kind {z = lambda} (lambda-kind _ e)
 
     intern-field : recAt bs i .shape ≡ 17 →
         intern u i cur env s ≡ internKind field i cur (recAt bs i) env (kidsRead bs i) (read s)
     unfolding kind
-    intern-field e =
-        let k : kind (recAt bs i .shape) ≡ field = rw e in
-        intern-read ∙ ap (λ (z : Kind). internKind z i cur (recAt bs i) env (kidsRead bs i) (read s)) k
+    intern-field e = intern-kind (rw e)
 
     intern-other : (recAt bs i .shape ≡ 7 → ⊥) → (recAt bs i .shape ≡ 12 → ⊥) → (recAt bs i .shape ≡ 17 → ⊥) →
         intern u i cur env s ≡ concluded i cur (recAt bs i) (kidsRead bs i cur env (read s))
-    intern-other a b c = intern-read ∙ kind-other i cur (recAt bs i) env (kidsRead bs i) (read s) a b c
+    intern-other a b c = intern-kind refl ∙ kind-other i cur (recAt bs i) env (kidsRead bs i) (read s) a b c
 
 -- ---- a block has no thunks
 

@@ -8,6 +8,7 @@ use mathlib.Core.List.{List}
 use native.Mathlib.Omega.{arith}
 use lib.ListN.{getD}
 use Rattle.regions.specs.Regions.{PENDING}
+use Rattle.model.specs.Answer.{refused}
 use Rattle.model.specs.Tree.{Rec}
 use Rattle.model.specs.Forest.{recordCount}
 use Rattle.model.specs.Binding.{field, isBlock}
@@ -36,7 +37,8 @@ use Rattle.intern.specs.Intern.{Incomplete}
 use Rattle.intern.proofs.Kept.{kept-none, kept-then}
 use Rattle.intern.proofs.Records.{reads-refused, reads-answers, concluded-other, concluded-refused, Below, Gave}
 use Rattle.intern.proofs.After.{kids-good, kids-refused}
-use Rattle.intern.proofs.Records.{Parent, stands-below, stands-later, kids-operands, all-is, kids-fail, kids-gave}
+use Rattle.intern.proofs.Records.{Parent, stands-below, stands-later, kids-operands, all-is, kids-fail}
+use Rattle.intern.proofs.Records.{kids-gave}
 use Rattle.intern.proofs.Reading.{loop-none}
 use Rattle.intern.proofs.Repeats.{repeats-few, repeated-more, repeated-is, repeated-rep}
 use Rattle.intern.proofs.Cases.{field-refused, field-good}
@@ -78,12 +80,15 @@ module _ {bs ws : List ℕ} {t : Tables} {st : State} {i : ℕ} {at : Here} (h :
 
   module _ {n op : ℕ} (en : n ≡ rowAt bs i .kids) (eo : op ≡ recAt bs i .opcode) where
     pub children-operands : Plain (recAt bs i .opcode) (isBlock (recAt bs i)) → Operands bs ws t st (i + 1) n op at
-    children-operands =
-        kids-operands (h .sound) (h .there) below (h .well) en eo
+    children-operands = kids-operands (h .sound) (h .there) below (h .well) en eo
 
     module _ {ws₁ : List ℕ} {k : Kids} (v : ReadsAll bs ws t st (i + 1) n op at ws₁ k) where
       gave : k .number ≡ 0 → Gave bs ws t st i at (isBlock (recAt bs i)) n ws₁ k
       gave = kids-gave (h .sound) (h .there) below (h .well) en eo v
+
+      fails : (k .number ≡ 0 → ⊥) →
+          kidsRead bs i (at .scope) (envOf ws (at .top)) (absOf bs ws t st) ≡ refused (k .number) (k .place)
+      fails = kids-fail (h .sound) (h .there) below (h .well) en eo v
 
       children-is : completes bs ws₁ t i at k
           ≡ concluded i (at .scope) (recAt bs i) (kidsRead bs i (at .scope) (envOf ws (at .top)) (absOf bs ws t st))
@@ -163,7 +168,7 @@ module _ {bs ws : List ℕ} {t : Tables} {st : State} {i : ℕ} {at : Here} (h :
                 ap (concluded i (at .scope) r) (kids-refused bs ws₁ t (at .held) (rowAt bs i .kids) k n)
                 ∙ concluded-refused i (at .scope) r (k .number) (k .place)
                 ∙ sym (field-refused i (at .scope) r env (kidsRead bs i) (absOf bs ws t st) (k .number) (k .place)
-                (kids-fail (h .parent .sound) (h .parent .there) (below (h .parent)) (h .parent .well) field-one eo v n));
+                (fails (h .parent) field-one eo v n));
             kept = u .kept;
           }
 
@@ -173,8 +178,7 @@ module _ {bs ws : List ℕ} {t : Tables} {st : State} {i : ℕ} {at : Here} (h :
 
         pub field-selects : Selects bs ws₁ (k .st) i (at .scope) (at .held)
         field-selects = record {
-          concludes =
-              gave₁ .conclude (at .scope) (h .parent .stands .scope);
+          concludes = gave₁ .conclude (at .scope) (h .parent .stands .scope);
           shape = h .shape;
           opcode = h .code;
           slots =
@@ -198,8 +202,7 @@ module _ {bs ws : List ℕ} {t : Tables} {st : State} {i : ℕ} {at : Here} (h :
         module _ (calm : repeats st (k .st) ≡ true) where
           pub recount-asks : (st .readings ≤ k .st .readings)
               × (k .st .readings + k .st .readings ≤ 2048 + st .readings)
-          recount-asks =
-              (repeated-more (h .parent .well) gave₁ calm, repeats-few st (k .st) calm)
+          recount-asks = (repeated-more (h .parent .well) gave₁ calm, repeats-few st (k .st) calm)
 
           recount-rep : Rep bs ws₁ (repeated st k .st)
           recount-rep = repeated-rep (h .parent .well) gave₁ calm (v .rep)
@@ -244,8 +247,7 @@ module _ {bs ws : List ℕ} {t : Tables} {st : State} {i : ℕ} {at : Here} (h :
         }
 
         pub again-operands : Operands bs ws₁ t (k .st) (i + 1) 1 op at
-        again-operands =
-            children-operands again-parent field-one eo field-plain
+        again-operands = children-operands again-parent field-one eo field-plain
 
         module _ {b : Bool}
             (told : (n : ℕ) → getD ws₁ (PENDING .first + at .held) 0 < n → b ≡ readsAgain bs ws₁ n i (at .held)) where
@@ -256,8 +258,7 @@ module _ {bs ws : List ℕ} {t : Tables} {st : State} {i : ℕ} {at : Here} (h :
               Answers bs ws₁ t (k .st)
               (internField i (at .scope) r env (kidsRead bs i) (pendingFrom ws₁ (at .held) 1) (absOf bs ws₁ t (k .st)))
               ws₂ step → Reads bs ws t st i at fieldOut ws₂ (record { step = step; next = k .next })
-          field-done =
-              reads-answers (v .kept) (v .rep) (v .opened) (sym field-is) (gave₁ .past)
+          field-done = reads-answers (v .kept) (v .rep) (v .opened) (sym field-is) (gave₁ .past)
 
           -- to read again, or to count again, gives the record's answer
           module _ (e : b ≡ true) where

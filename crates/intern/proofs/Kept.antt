@@ -8,7 +8,7 @@ use mathlib.Core.List.{List, [], _∷_, _++_}
 use native.Mathlib.Omega.{arith}
 use lib.ListN.{set, getD}
 use lib.Seq.{getD-set-same}
-use Rattle.regions.specs.Regions.{SYMBOLS, SCOPES, MEMO, PENDING, BINDINGS, end}
+use Rattle.regions.specs.Regions.{SCOPES, MEMO, PENDING, BINDINGS, end}
 use Rattle.model.specs.Intern.{bindDef}
 use Rattle.laws.specs.Frame.{Frame}
 use Rattle.laws.proofs.Frame.{frame-none, frame-then, frame-wider, frame-store}
@@ -25,13 +25,17 @@ use Rattle.interner.specs.State.{absOf, Rep}
 use Rattle.interner.specs.Step.{Leaves}
 use Rattle.interner.proofs.Same.{same-above, rep-same, abs-same}
 use Rattle.intern.specs.declared.Here.{Here}
-use Rattle.intern.specs.Words.{Words, Kept}
+use Rattle.intern.specs.Words.{INTERNING, Words, Kept}
 
 -- ---- words
 
+pub in-interning : {lo hi : ℕ} {ws ws′ : List ℕ} → Frame lo hi ws ws′ → hi ≤ end INTERNING →
+    Frame (INTERNING .first) (end INTERNING) ws ws′
+in-interning {lo} {hi} {ws} {ws′} f le = frame-wider lo hi (INTERNING .first) (end INTERNING) ws ws′ f (omega arith) le
+
 words-none : (n held top : ℕ) (ws : List ℕ) → Words n held top ws ws
 words-none n held top ws = record {
-  frame = frame-none (SYMBOLS .first) (end BINDINGS) ws;
+  frame = frame-none (INTERNING .first) (end INTERNING) ws;
   scopes = λ k l r. refl;
   pending = λ k l r. refl;
   bound = λ k l r. refl;
@@ -40,7 +44,7 @@ words-none n held top ws = record {
 pub words-then : {n held top m held′ top′ : ℕ} {ws ws₁ ws₂ : List ℕ} → n ≤ m → held ≤ held′ → top ≤ top′ →
     Words n held top ws ws₁ → Words m held′ top′ ws₁ ws₂ → Words n held top ws ws₂
 words-then {ws = ws} {ws₁} {ws₂} a b c h g = record {
-  frame = frame-then (SYMBOLS .first) (end BINDINGS) ws ws₁ ws₂ (h .frame) (g .frame);
+  frame = frame-then (INTERNING .first) (end INTERNING) ws ws₁ ws₂ (h .frame) (g .frame);
   scopes = λ k l r. g .scopes k l (omega arith) ∙ h .scopes k l r;
   pending = λ k l r. g .pending k l (omega arith) ∙ h .pending k l r;
   bound = λ k l r. g .bound k l (omega arith) ∙ h .bound k l r;
@@ -50,7 +54,7 @@ words-then {ws = ws} {ws₁} {ws₂} a b c h g = record {
 pub scope-words : (n held top m : ℕ) (ws ws′ : List ℕ) → n ≤ m → Frame (SCOPES .first + m) (end SCOPES) ws ws′ →
     Words n held top ws ws′
 scope-words n held top m ws ws′ le f = record {
-  frame = frame-wider (SCOPES .first + m) (end SCOPES) (SYMBOLS .first) (end BINDINGS) ws ws′ f (omega arith) (omega arith);
+  frame = in-interning f (omega arith);
   scopes = λ k l r. f .before k (omega arith);
   pending = λ k l r. f .after k (omega arith);
   bound = λ k l r. f .after k (omega arith);
@@ -73,8 +77,7 @@ pub leaves-kept : (at : Here) {ws ws′ : List ℕ} {st st′ : State} → st .s
     Kept at ws ws′ st st′
 leaves-kept at {ws} {ws′} few h = record {
   words = record {
-    frame = frame-wider (SYMBOLS .first) (PENDING .first) (SYMBOLS .first) (end BINDINGS) ws ws′ (h .frame) (omega arith)
-        (omega arith);
+    frame = in-interning (h .frame) (omega arith);
     scopes = λ k l r. h .scope-words k l (omega arith);
     pending = λ k l r. h .frame .after k l;
     bound = λ k l r. h .frame .after k (omega arith);
@@ -84,8 +87,8 @@ leaves-kept at {ws} {ws′} few h = record {
 
 -- ---- stores that a state does not hang on
 
-module _ (bs ws ws′ : List ℕ) (st : State) (rep : Rep bs ws st) (lo hi : ℕ) (le : PENDING .first ≤ lo)
-    (f : Frame lo hi ws ws′) where
+module _ {bs ws ws′ : List ℕ} {st : State} (rep : Rep bs ws st) {lo hi : ℕ} (f : Frame lo hi ws ws′)
+    (le : PENDING .first ≤ lo) where
   room : MEMO .first + st .memo ≤ lo
   room = omega (arith, le, rep .memo .few, rep .arena .scoped .few)
 
@@ -99,8 +102,7 @@ module _ (bs ws ws′ : List ℕ) (st : State) (rep : Rep bs ws st) (lo hi : ℕ
 pub beside-words : (n held : ℕ) {top r : ℕ} {ws ws′ : List ℕ} → n ≤ 2049 → held ≤ PENDING .size → r ≤ 1200 →
     Frame (BINDINGS .first + 2 * top) (BINDINGS .first + 2 * r) ws ws′ → Words n held top ws ws′
 beside-words n held {top} {r} {ws} {ws′} few pend room h = record {
-  frame = frame-wider (BINDINGS .first + 2 * top) (BINDINGS .first + 2 * r) (SYMBOLS .first) (end BINDINGS) ws ws′ h
-      (omega arith) (omega arith);
+  frame = in-interning h (omega arith);
   scopes = λ k l r. h .before k (omega arith);
   pending = λ k l r. h .before k (omega arith);
   bound = λ k l r. h .before k (omega arith);
@@ -117,7 +119,7 @@ pub record ChildStored (bs ws : List ℕ) (t : Tables) (st : State) (i held top 
     pub pending : (from j : ℕ) → from + j ≡ held →
         pendingFrom ws′ from (suc j) ≡ pendingFrom ws from j ++ (symbol ∷ [])
 
-module _ (bs ws : List ℕ) (t : Tables) (st : State) (i held top symbol : ℕ) (ws′ : List ℕ) (top′ : ℕ)
+module _ {bs ws : List ℕ} {t : Tables} {st : State} {i held top symbol : ℕ} {ws′ : List ℕ} {top′ : ℕ}
     (rep : Rep bs ws st) (open′ : Open t (st .entries)) (pend : held < PENDING .size) (room : top < 1200)
     (d : DefBound bs i top symbol (set ws (PENDING .first + held) symbol) ws′ top′) where
   abbrev ws₁ : List ℕ
@@ -142,8 +144,7 @@ module _ (bs ws : List ℕ) (t : Tables) (st : State) (i held top symbol : ℕ) 
 
   stored-words : (n : ℕ) → n ≤ 2049 → Words n held top ws ws′
   stored-words n few = words-then (omega arith) (omega arith) (omega arith) (record {
-    frame = frame-wider (PENDING .first + held) (end PENDING) (SYMBOLS .first) (end BINDINGS) ws ws₁ first (omega arith)
-        (omega arith);
+    frame = in-interning first (omega arith);
     scopes = λ k l r. first .before k (omega arith);
     pending = λ k l r. first .before k r;
     bound = λ k l r. first .after k l;
@@ -165,8 +166,8 @@ module _ (bs ws : List ℕ) (t : Tables) (st : State) (i held top symbol : ℕ) 
 
   pub stored : ChildStored bs ws t st i held top symbol ws′ top′
   stored = record {
-    rep = later-rep bs ws ws′ st rep (PENDING .first) (end BINDINGS) (omega arith) both;
-    abs = later-abs bs ws ws′ st rep (PENDING .first) (end BINDINGS) (omega arith) both t open′;
+    rep = later-rep rep both (omega arith);
+    abs = later-abs rep both (omega arith) t open′;
     env = stored-env;
     words = stored-words;
     pending = stored-pending;

@@ -98,8 +98,7 @@ module _ {bs ws : List ℕ} {t : Tables} {st : State} {i : ℕ} {at : Here} (h :
 
     module _ {op : ℕ} (eo : op ≡ recAt bs i .opcode) where
       pub lambda-operands : Operands bs ws₁ t (e .st) (i + 1) 1 op (e .at)
-      lambda-operands =
-          kids-operands (h .sound) (h .there) below well lambda-one eo (λ j z. refl)
+      lambda-operands = kids-operands (h .sound) (h .there) below well lambda-one eo (λ j z. refl)
 
       module _ {ws₂ : List ℕ} {k : Kids} (v : ReadsAll bs ws₁ t (e .st) (i + 1) 1 op (e .at) ws₂ k) where
         kept₂ : Kept at ws ws₂ st (k .st)

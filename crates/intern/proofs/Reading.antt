@@ -185,8 +185,7 @@ module _ {bs : List ℕ} {t : Tables} {i count op : ℕ} {at : Here} {ws₀ : Li
     -- in the scope of its parent, or in a thunk
     pub reading-plain : thunked op j ≡ false → {c : Here} → c ≡ childAt at j top →
         StandsAt bs ws t (k .st) (k .next) c × LegibleAt bs ws t (k .st) (k .next) c
-    reading-plain e f =
-        rw f (next-stands, record { def = h .block && not (isNil us); well = child-plain left-well e })
+    reading-plain e f = rw f (next-stands, record { def = h .block && not (isNil us); well = child-plain left-well e })
 
     pub reading-thunk : thunked op j ≡ true → {c : Here} → c ≡ childAt at j top →
         InThunk bs ws t (k .st) (k .next) c
@@ -194,8 +193,7 @@ module _ {bs : List ℕ} {t : Tables} {i count op : ℕ} {at : Here} {ws₀ : Li
       stands = next-stands;
       room = omega (arith, h₀ .room j e, left-deep);
       few = omega (arith, child-thunk left-well e .0, scopes-count bs ws t (k .st));
-      well =
-          rw (h .plain j e, scopes-count bs ws t (k .st)) at (child-thunk left-well e .1);
+      well = rw (h .plain j e, scopes-count bs ws t (k .st)) at (child-thunk left-well e .1);
     })
 
     deep-some : 1 ≤ D
@@ -280,9 +278,7 @@ module _ {bs : List ℕ} {t : Tables} {i count op : ℕ} {at : Here} {ws₀ : Li
             gives = scoped-is ∙ out-good bs ws₁ t (r .step) ok
 
             after₁ : ChildStored bs ws₁ t st₁ (k .next) (at .held + j) top s ws₂ top′
-            after₁ =
-                stored bs ws₁ t st₁ (k .next) (at .held + j) top s ws₂ top′ (v .rep) (v .opened) (reading-room .0)
-                (reading-room .1) d
+            after₁ = stored (v .rep) (v .opened) (reading-room .0) (reading-room .1) d
 
             abs₂ : absOf bs ws₂ t st₁ ≡ absOf bs ws₁ t st₁
             abs₂ = after₁ .abs

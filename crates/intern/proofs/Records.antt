@@ -47,8 +47,8 @@ use Rattle.intern.specs.declared.Here.{Here}
 use Rattle.intern.specs.declared.Kids.{Kids}
 use Rattle.intern.specs.Steps.{refusedRead}
 use Rattle.intern.specs.Words.{Kept}
-use Rattle.intern.specs.Intern.{Stands, StandsAt, Past, Reads, kidsRead, concluded, WellKids, trees, Plain, Operands}
-use Rattle.intern.specs.Intern.{kidsAnswer, kidsOf, Concluding, Concluded, ReadsAll}
+use Rattle.intern.specs.Intern.{Stands, StandsAt, Past, Reads, kidsRead, concluded, WellKids, trees, Plain}
+use Rattle.intern.specs.Intern.{Operands, kidsAnswer, kidsOf, Concluding, Concluded, ReadsAll}
 use Rattle.intern.proofs.Kept.{kept-then, leaves-kept}
 use Rattle.intern.proofs.After.{kids-good, kids-refused}
 
@@ -284,8 +284,7 @@ module _ {bs ws : List ℕ} {t : Tables} {st : State} {i : ℕ} {at : Here} {b :
       -- they may be read again
       kids-again : WellAll (kidTreesAt bs i) b (recAt bs i .opcode) 0 (at .scope) (envOf ws₁ (at .top))
           (absOf bs ws₁ t (k .st)) 1
-      kids-again =
-          rw (env-words ws₁ ws (at .top) (v .kept .words .bound)) (again-well well (suc i) _ kids-give)
+      kids-again = rw (env-words ws₁ ws (at .top) (v .kept .words .bound)) (again-well well (suc i) _ kids-give)
 
       pub kids-gave : Gave bs ws t st i at b n ws₁ k
       kids-gave = record {

@@ -9,7 +9,7 @@ use mathlib.Core.List.{List, []}
 use native.Mathlib.Omega.{arith}
 use borrow.Author.Tests.{ltb-false}
 use lib.ListN.{length}
-use Rattle.regions.specs.Regions.{SYMBOLS, PENDING, BINDINGS, WORDS, end}
+use Rattle.regions.specs.Regions.{PENDING, WORDS, end}
 use Rattle.model.specs.Answer.{refused, good, _>>=_}
 use Rattle.model.specs.Lists.{last}
 use Rattle.model.specs.Tree.{Tree, Trees, node, nil, cons, many, depth, depths}
@@ -20,7 +20,7 @@ use Rattle.model.specs.Intern.{Outs, internLast, internAll, internForest}
 use Rattle.model.specs.Intern as intern
 use Rattle.model.specs.Call.{interned}
 use Rattle.laws.specs.Frame.{Frame}
-use Rattle.laws.proofs.Frame.{frame-then, frame-wider}
+use Rattle.laws.proofs.Frame.{frame-then}
 use Rattle.laws.specs.Clear.{Clear}
 use Rattle.laws.proofs.Clear.{clear-left, clear-right, first-clear}
 use Rattle.laws.proofs.Header.{header-of}
@@ -44,7 +44,9 @@ use Rattle.standing.proofs.Enter.{forest-well}
 use Rattle.standing.proofs.Next.{last-result}
 use Rattle.intern.specs.declared.Here.{Here}
 use Rattle.intern.specs.declared.Kids.{Kids}
+use Rattle.intern.specs.Words.{INTERNING}
 use Rattle.intern.specs.Intern.{trees, Operands, ReadsAll, Interned}
+use Rattle.intern.proofs.Kept.{in-interning}
 use Rattle.intern.proofs.After.{kids-good, kids-refused, none-thunked}
 
 -- ---- how deep an accepted forest is
@@ -125,8 +127,7 @@ module _ {bs ws ws₁ : List ℕ} {t : Tables} {st : State} {count : ℕ} (h : B
     block = false;
     plain = λ j e. refl;
     paid = 0;
-    well =
-        rw (h .started .is bs, no-ids, whole) (forest-well bs (treesOf bs) (h .accepted));
+    well = rw (h .started .is bs, no-ids, whole) (forest-well bs (treesOf bs) (h .accepted));
   }
 
   pub forest-operands : Operands bs ws₁ t st 0 count 0 origin
@@ -141,18 +142,16 @@ module _ {bs ws ws₁ : List ℕ} {t : Tables} {st : State} {count : ℕ} (h : B
     all-read : internAll (trees bs 0 count) 0 0 0 0 (envOf ws₁ 0) (absOf bs ws₁ first st)
         ≡ internForest (treesOf bs)
     unfolding internForest
-    all-read =
-        rw (h .started .is bs, no-ids, whole)
+    all-read = rw (h .started .is bs, no-ids, whole)
 
     interned-is : (m : Outs) → internForest (treesOf bs) ≡ m → interned bs ≡ internLast m
     unfolding interned _>>=_
     interned-is m e = rw (h .accepted, e)
 
-    frame₂ : Frame (SYMBOLS .first) (end BINDINGS) ws ws₂
+    frame₂ : Frame (INTERNING .first) (end INTERNING) ws ws₂
     frame₂ =
-        frame-then (SYMBOLS .first) (end BINDINGS) ws ws₁ ws₂
-        (frame-wider (SYMBOLS .first) (PENDING .first) (SYMBOLS .first) (end BINDINGS) ws ws₁ (h .started .frame)
-        (omega arith) (omega arith)) (v .kept .words .frame)
+        frame-then (INTERNING .first) (end INTERNING) ws ws₁ ws₂ (in-interning (h .started .frame) (omega arith))
+        (v .kept .words .frame)
 
     pub forest-refused : (k .number ≡ 0 → ⊥) →
         Interned bs ws ws₂ (record { st = k .st; symbol = 0; number = k .number; place = k .place })

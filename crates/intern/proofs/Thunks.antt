@@ -66,11 +66,13 @@ childOut bs ws t st i thunk at =
     internScoped thunk (at .scope) (λ c s. intern (treeAt bs i) i c (envOf ws (at .top)) s) (absOf bs ws t st)
 
 module _ {bs ws : List ℕ} {t : Tables} {st : State} {i : ℕ} {thunk : Bool} {at : Here} {ws′ : List ℕ} {r : Read} where
-  pub child-plainly : thunk ≡ false → RecordRead bs ws t st i at ws′ r → Reads bs ws t st i at (childOut bs ws t st i thunk at) ws′ r
+  pub child-plainly : thunk ≡ false → RecordRead bs ws t st i at ws′ r →
+      Reads bs ws t st i at (childOut bs ws t st i thunk at) ws′ r
   unfolding internScoped
   child-plainly e v = rw e v
 
-  pub child-thunked : thunk ≡ true → ThunkRead bs ws t st i at ws′ r → Reads bs ws t st i at (childOut bs ws t st i thunk at) ws′ r
+  pub child-thunked : thunk ≡ true → ThunkRead bs ws t st i at ws′ r →
+      Reads bs ws t st i at (childOut bs ws t st i thunk at) ws′ r
   child-thunked e v = rw e v
 
 -- ---- the thunk opened
@@ -94,35 +96,34 @@ module _ {bs ws : List ℕ} {t : Tables} {st : State} {i : ℕ} {at : Here} (lt 
     omega (arith, h .stands .rep .entries .few, h .stands .rep .arena .scoped .few),
   )
 
-  module _ {ws₁ : List ℕ} {inside : State} (wrote : ws₁ ≡ withThunk ws (st .scopes) (at .scope))
-      (isOpen : inside ≡ withScope st) {inner : Tables} (pushed : inner ≡ opened t (st .entries)) where
+  module _ {ws₁ : List ℕ} {inside : State}
+      (made : (ws₁ ≡ withThunk ws (st .scopes) (at .scope)) × (inside ≡ withScope st)) {inner : Tables} (pushed : inner ≡ opened t (st .entries)) where
     abbrev own : Here
     own = record { scope = st .scopes; held = at .held; top = at .top }
 
     words₁ : Words (st .scopes) (at .held) (at .top) ws ws₁
     words₁ =
         scope-words (st .scopes) (at .held) (at .top) (st .scopes) ws ws₁ (omega arith)
-        (rw wrote (scope-frame (h .stands .rep) (h .few) (thunkWord ws (at .scope))))
+        (rw (made .0) (scope-frame (h .stands .rep) (h .few) (thunkWord ws (at .scope))))
 
     rep₁ : Rep bs ws₁ inside
     rep₁ =
-        rw (wrote, isOpen)
+        rw (made .0, made .1)
         (thunk-rep (h .stands .rep) (h .few) (h .stands .scope))
 
     opened₁ : Open inner (inside .entries)
-    opened₁ = rw (isOpen, pushed) (opened-open t (st .entries) (h .stands .opened) tables-room)
+    opened₁ = rw (made .1, pushed) (opened-open t (st .entries) (h .stands .opened) tables-room)
 
     abs₁ : absOf bs ws₁ inner inside ≡ openThunk (at .scope) (absOf bs ws t st)
     abs₁ =
-        rw (wrote, pushed, isOpen) (thunk-abs (h .stands .rep) (h .few) (h .stands .scope) t (h .stands .opened)
+        rw (made .0, pushed, made .1) (thunk-abs (h .stands .rep) (h .few) (h .stands .scope) t (h .stands .opened)
         tables-room)
 
     level₁ : levelOf (scopeWord ws₁ (st .scopes)) ≡ levelOf (scopeWord ws (at .scope))
-    level₁ =
-        rw wrote (thunk-level (h .stands .rep) (h .few) (h .stands .scope))
+    level₁ = rw (made .0) (thunk-level (h .stands .rep) (h .few) (h .stands .scope))
 
     scopes₁ : inside .scopes ≡ st .scopes + 1
-    scopes₁ = ap (λ (z : State). z .scopes) isOpen
+    scopes₁ = ap (λ (z : State). z .scopes) (made .1)
 
     depth₁ : inner .depth ≡ t .depth + 1
     depth₁ = ap (λ (z : Tables). z .depth) pushed

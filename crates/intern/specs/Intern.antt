@@ -9,7 +9,7 @@ use mathlib.Core.Option.{some}
 use mathlib.Core.List.{List, []}
 use lib.Dec.{eqb}
 use lib.ListN.{length}
-use Rattle.regions.specs.Regions.{SYMBOLS, PENDING, BINDINGS, end}
+use Rattle.regions.specs.Regions.{PENDING, end}
 use Rattle.model.specs.Answer.{refused, good}
 use Rattle.model.specs.Tree.{Rec, Tree, Trees, many, takeT, dropT, size, sizes, depth, depths}
 use Rattle.model.specs.Forest.{recordCount}
@@ -39,7 +39,7 @@ use Rattle.intern.specs.declared.Kids.{Kids}
 use Rattle.intern.specs.declared.Selected.{Selected}
 use Rattle.intern.specs.declared.Selected.the-variants.{Done, Children}
 use Rattle.intern.specs.declared.Entered.{Entered}
-use Rattle.intern.specs.Words.{Kept}
+use Rattle.intern.specs.Words.{INTERNING, Kept}
 
 -- ---- where a record is read
 
@@ -261,4 +261,4 @@ pub record Interned (bs ws ws′ : List ℕ) (r : Step) : Type 0 where
   pub rep : Rep bs ws′ (r .st)
   pub is : outOf bs ws′ first r ≡ interned bs
   pub low : r .number ≡ 0 → r .symbol < r .st .symbols
-  pub frame : Frame (SYMBOLS .first) (end BINDINGS) ws ws′
+  pub frame : Frame (INTERNING .first) (end INTERNING) ws ws′

@@ -12,12 +12,12 @@ use Rattle.concluding.proofs.field_of.Tie as tie
 
 shared-slice-read-wide : tie.Need-shared-slice-read-wide
 shared-slice-read-wide c =
-    let k = c .before in
-    let s = k .before .before in
+    let lit = c .before in
+    let start = lit .before .before in
     omega (
       arith,
-      ap length (k .literal .ensures),
-      field-literal (now (s .args .forest)) (s .args .i) (s .pre .0) (s .pre .1 .0) (s .pre .1 .1),
+      ap length (lit .literal .ensures),
+      field-literal (now (start .args .forest)) (start .args .i) (start .pre .0) (start .pre .1 .0) (start .pre .1 .1),
     )
 
 returns : tie.Need-returns

@@ -9,7 +9,8 @@ finish-requires : tie.Need-finish-requires
 finish-requires c κs =
     let node = c .before in
     let p = node .before .before .before .pre in
-    (p .0 .laid, (p .1 .0, (p .1 .1 .0, general-ready (node .node-for .ensures) (p .0) (p .1 .1 .1 .0) (p .1 .1 .1 .1))))
+    let q = p .1 .1 .1 in
+    (p .0 .laid, (p .1 .0, (p .1 .1 .0, general-ready (node .node-for .ensures) (p .0) (q .0) (q .1))))
 
 returns : tie.Need-returns
 returns c =

@@ -10,22 +10,22 @@ use Rattle.concluding.proofs.is_tuple.Tie as tie
 
 shape-requires : tie.Need-shape-requires
 shape-requires c κs =
-    let p = c .before in
-    let l = p .before in
-    let s = l .before .before .before in (
-      s .pre .0,
-      symbol-from (s .pre .1) (l .load .ensures) (p .parts-of .ensures),
+    let parts = c .before in
+    let loaded = parts .before in
+    let start = loaded .before .before .before in (
+      start .pre .0,
+      symbol-from (start .pre .1) (loaded .load .ensures) (parts .parts-of .ensures),
     )
 
 returns : tie.Need-returns
 returns c n lt =
-    let p = c .before .before in
-    let l = p .before in
-    let s = l .before .before .before in
+    let parts = c .before .before in
+    let loaded = parts .before in
+    let start = loaded .before .before .before in
     ap (λ (z : ℕ). eqb z 16)
     (c .shape .ensures
-    ∙ sym (symbol-shape (now (s .args .forest)) (now (s .args .work)) (s .args .s) n lt
-    (l .load .ensures) (p .parts-of .ensures)))
+    ∙ sym (symbol-shape (now (start .args .forest)) (now (start .args .work)) (start .args .s) n lt
+    (loaded .load .ensures) (parts .parts-of .ensures)))
 
 pub is-tuple-spec : {M : Type 1} → statement M
 is-tuple-spec =

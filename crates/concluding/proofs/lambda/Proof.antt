@@ -8,8 +8,7 @@ use Rattle.concluding.proofs.lambda.Statement.{statement}
 use Rattle.concluding.proofs.lambda.Tie as tie
 
 cast-t11 : tie.Need-cast-t11
-cast-t11 c =
-    let p = c .before .before .pre in omega (arith, records-few _ (p .0), p .1 .1 .1 .0 .from)
+cast-t11 c = let p = c .before .before .pre in omega (arith, records-few _ (p .0), p .1 .1 .1 .0 .from)
 
 finish-requires : tie.Need-finish-requires
 finish-requires c κs =

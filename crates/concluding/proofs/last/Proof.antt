@@ -9,9 +9,9 @@ use Rattle.concluding.proofs.last.Tie as tie
 
 returns : tie.Need-returns
 returns c =
-    let s = c .before .before .before in
-    let a = s .args in
-    c .given .ensures ∙ ap (given (a .st)) (sym (last-pending (now (a .work)) (a .held) (a .count) (s .pre .0)))
+    let start = c .before .before .before in
+    let a = start .args in
+    c .given .ensures ∙ ap (given (a .st)) (sym (last-pending (now (a .work)) (a .held) (a .count) (start .pre .0)))
 
 pub last-spec : {M : Type 1} → statement M
 last-spec =

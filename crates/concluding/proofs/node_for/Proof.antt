@@ -10,27 +10,27 @@ use Rattle.concluding.proofs.node_for.Statement.{statement}
 use Rattle.concluding.proofs.node_for.Tie as tie
 
 cast-source : tie.Need-cast-source
-cast-source c = let s = c .before in omega (arith, records-few (now (s .args .forest)) (s .pre .0))
+cast-source c = let start = c .before in omega (arith, records-few (now (start .args .forest)) (start .pre .0))
 
 returns : tie.Need-returns
 returns c =
-    let k = c .before in
-    let a = k .before .before .args in
-    node-const (rowAt (now (a .forest)) (a .i) .rec .shape) (a .i) (a .b) (sym (k .shape .ensures) ∙ c .if1 .taken)
+    let shape = c .before in
+    let a = shape .before .before .args in
+    node-const (rowAt (now (a .forest)) (a .i) .rec .shape) (a .i) (a .b) (sym (shape .shape .ensures) ∙ c .if1 .taken)
 
 returns-2 : tie.Need-returns-2
 returns-2 c =
-    let k = c .before .before in
-    let a = k .before .before .args in
+    let shape = c .before .before in
+    let a = shape .before .before .args in
     node-unparsed (rowAt (now (a .forest)) (a .i) .rec .shape) (a .i) (a .b)
-    (λ e. c .before .if1 .left (k .shape .ensures ∙ e)) (sym (k .shape .ensures) ∙ c .if2 .taken)
+    (λ e. c .before .if1 .left (shape .shape .ensures ∙ e)) (sym (shape .shape .ensures) ∙ c .if2 .taken)
 
 returns-3 : tie.Need-returns-3
 returns-3 c =
-    let k = c .before .before in
-    let a = k .before .before .args in
+    let shape = c .before .before in
+    let a = shape .before .before .args in
     node-op (rowAt (now (a .forest)) (a .i) .rec .shape) (a .i) (a .b)
-    (λ e. c .before .if1 .left (k .shape .ensures ∙ e)) (λ e. c .if2 .left (k .shape .ensures ∙ e))
+    (λ e. c .before .if1 .left (shape .shape .ensures ∙ e)) (λ e. c .if2 .left (shape .shape .ensures ∙ e))
 
 pub node-for-spec : {M : Type 1} → statement M
 node-for-spec = tie.close (tie.spec cast-source (λ c κs. search needs) returns returns-2 returns-3)

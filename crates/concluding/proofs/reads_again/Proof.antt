@@ -7,18 +7,18 @@ use Rattle.concluding.proofs.reads_again.Tie as tie
 
 returns : tie.Need-returns
 returns c n lt =
-    let p = c .before .before in
-    let f = p .before in
-    let a = f .before .before .before .before .args in
-    again-pair (now (a .forest)) (now (a .work)) n (a .i) (a .held) (f .field-of .ensures) (p .of-pair .ensures)
+    let pair = c .before .before in
+    let field = pair .before in
+    let a = field .before .before .before .before .args in
+    again-pair (now (a .forest)) (now (a .work)) n (a .i) (a .held) (field .field-of .ensures) (pair .of-pair .ensures)
     (c .before .if1 .taken) (c .is-tuple .ensures n lt)
 
 returns-2 : tie.Need-returns-2
 returns-2 c n lt =
-    let p = c .before in
-    let f = p .before in
-    let a = f .before .before .before .before .args in
-    again-other (now (a .forest)) (now (a .work)) n (a .i) (a .held) (f .field-of .ensures) (p .of-pair .ensures)
+    let pair = c .before in
+    let field = pair .before in
+    let a = field .before .before .before .before .args in
+    again-other (now (a .forest)) (now (a .work)) n (a .i) (a .held) (field .field-of .ensures) (pair .of-pair .ensures)
     (c .if1 .left)
 
 pub reads-again-spec : {M : Type 1} → statement M

@@ -15,25 +15,25 @@ use Rattle.concluding.proofs.value_use.Tie as tie
 
 id-at-requires : tie.Need-id-at-requires
 id-at-requires c κs =
-    let s = c .before .before .before in
+    let start = c .before .before .before in
     omega (
       arith,
       ap length (c .literal .ensures),
-      use-literal (now (s .args .forest)) (s .args .i) (s .pre .0) (s .pre .1 .from) (s .pre .1 .shape),
+      use-literal (now (start .args .forest)) (start .args .i) (start .pre .0) (start .pre .1 .from) (start .pre .1 .shape),
     )
 
 returns : tie.Need-returns
 returns c =
-    let r = c .before in
-    let d = r .before in
-    let l = d .before in
-    let a = l .before .before .before .args in
+    let found = c .before in
+    let id = found .before in
+    let lit = id .before in
+    let a = lit .before .before .before .args in
     c .given .ensures
     ∙ ap (given (a .st))
-    (r .resolve .ensures
+    (found .resolve .ensures
     ∙ ap (resolve (envOf (now (a .work)) (a .top)))
-    (use-id (rowAt (now (a .forest)) (a .i) .rec) (now (l .literal .result)) (d .id-at .result) (d .id-at .ensures)
-    (l .literal .ensures)))
+    (use-id (rowAt (now (a .forest)) (a .i) .rec) (now (lit .literal .result)) (id .id-at .result) (id .id-at .ensures)
+    (lit .literal .ensures)))
 
 pub value-use-spec : {M : Type 1} → statement M
 value-use-spec =

@@ -33,8 +33,7 @@ aux-requires c κs =
     let p = c .before .before .pre in (p .0 .laid, p .1 .0 .0)
 
 cast-alloc-args : tie.Need-cast-alloc-args
-cast-alloc-args c =
-    let p = start (c .before) .pre in omega (arith, p .1 .0 .0, records-few _ (p .0))
+cast-alloc-args c = let p = start (c .before) .pre in omega (arith, p .1 .0 .0, records-few _ (p .0))
 
 alloc-args-requires : tie.Need-alloc-args-requires
 alloc-args-requires c κs =

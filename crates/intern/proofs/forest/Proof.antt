@@ -26,12 +26,10 @@ begun c = record {
 }
 
 tree-count-requires : tie.Need-tree-count-requires
-tree-count-requires c κs =
-    let s = start (c .before .before) in forest-header (now (s .args .forest)) (s .pre .0)
+tree-count-requires c κs = let s = start (c .before .before) in forest-header (now (s .args .forest)) (s .pre .0)
 
 operands-requires : tie.Need-operands-requires
-operands-requires c κs =
-    (forest-sound _ (begun (c .before) .accepted), forest-operands (begun (c .before)))
+operands-requires c κs = (forest-sound _ (begun (c .before) .accepted), forest-operands (begun (c .before)))
 
 returns : tie.Need-returns
 returns c =

@@ -59,15 +59,9 @@ field-part t =
     (λ c κs. let p = c .before .before .pre .1 in (p .0 .laid, p .1 .0))
     (λ c. let h = given t (c .before) .parent in omega (arith, h .there, records-few _ (h .sound)))
     (λ c κs. let code = c .before in
-    let h = given t code in (
-      omega (
-        arith,
-        asked t code .pre .0,
-        h .parent .there,
-        records-few _ (h .parent .sound),
-        weight-between (code .opcode .result),
-      ),
-      (h .parent .sound, field-operands h (code .opcode .ensures)),
+    let h = given t code .parent in (
+      omega (arith, asked t code .pre .0, h .there, records-few _ (h .sound), weight-between (code .opcode .result)),
+      (h .sound, field-operands (given t code) (code .opcode .ensures)),
     ))
     (λ c. c .before .before .before .before .operands .kept .1 .0)
     (λ c. let read = c .before .before .before .before in
@@ -125,15 +119,9 @@ field-part t =
     (λ c κs. let ok = good t (c .before .before .before .before) in
     let read = input t ok in
     let code = read .before .before in
-    let h = given t code in (
-      omega (
-        arith,
-        asked t code .pre .0,
-        h .parent .there,
-        records-few _ (h .parent .sound),
-        weight-between (code .opcode .result),
-      ),
-      (h .parent .sound, again-operands h (code .opcode .ensures) (read .operands .ensures) (ok .if1 .left)),
+    let h = given t code .parent in (
+      omega (arith, asked t code .pre .0, h .there, records-few _ (h .sound), weight-between (code .opcode .result)),
+      (h .sound, again-operands (given t code) (code .opcode .ensures) (read .operands .ensures) (ok .if1 .left)),
     ))
     (λ c. let reread = c .before .before in
     let again = reread .before .before .before .before .before in

@@ -47,7 +47,7 @@ in-thunk-part t =
     let s = asked t opened in
     let p = s .pre .1 in (
       omega (arith, s .pre .0, weight-none),
-      (p .0, thunk-operands (p .1 .0) (p .1 .1) (opened .open-thunk .ensures .0) (opened .open-thunk .ensures .1) (pushed .push .ensures)),
+      (p .0, thunk-operands (p .1 .0) (p .1 .1) (opened .open-thunk .ensures) (pushed .push .ensures)),
     ))
     (λ c κs. tt)
     (λ c. let p = asked t (c .before .before .before .before .before .before .before .before .before) .pre .1 in
@@ -56,12 +56,13 @@ in-thunk-part t =
     omega (arith, p .1 .0, p .1 .1 .stands .held, records-few _ (p .0)))
     (λ c. let read = c .before .before .before .before .before in
     let p = asked t (read .before .before .before .before .before) .pre .1 in
-    omega (arith, p .1 .0, p .1 .1 .stands .held, records-few _ (p .0), read .operands .ensures .rep .arena .scoped .words))
+    let words = read .operands .ensures .rep .arena .scoped .words in
+    omega (arith, p .1 .0, p .1 .1 .stands .held, records-few _ (p .0)))
     (λ c. let read = c .before .before .before .before .before in
     read .operands .kept .1 .0 ∙ read .before .before .before .before .before .open-thunk .kept .0)
     (λ c. let read = c .before .before .before .before .before in
     let pushed = read .before .before in
     let opened = pushed .before .before .before in
     let p = asked t opened .pre .1 .1 in
-    thunk-done (p .0) (p .1) (opened .open-thunk .ensures .0) (opened .open-thunk .ensures .1) (pushed .push .ensures)
+    thunk-done (p .0) (p .1) (opened .open-thunk .ensures) (pushed .push .ensures)
     (read .operands .ensures) (c .before .close-thunk .ensures))

@@ -92,16 +92,18 @@ operands-part t =
     let test = child .before .before .before in
     let inv = test .before .loop .inv in
     let there = reading-there inv (test .loop-test .taken) in
-    let is = sym (child .before .before .is-thunked .ensures) ∙ c .before .if1 .taken in (
-      omega (arith, started t (test .before) .pre .0, there, records-few _ (inv .sound), inv .remains .onward, weight-thunked _ _ is),
+    let is = sym (child .before .before .is-thunked .ensures) ∙ c .before .if1 .taken in
+    let s = started t (test .before) in (
+      omega (arith, s .pre .0, there, records-few _ (inv .sound), inv .remains .onward, weight-thunked _ _ is),
       (inv .sound, (there, reading-thunk inv (test .loop-test .taken) is (child .child-at .ensures))),
     ))
     (λ c κs. let child = c .before .before in
     let test = child .before .before .before in
     let inv = test .before .loop .inv in
     let there = reading-there inv (test .loop-test .taken) in
-    let is = sym (child .before .before .is-thunked .ensures) ∙ c .before .if1 .left in (
-      omega (arith, started t (test .before) .pre .0, there, records-few _ (inv .sound), inv .remains .onward, weight-between (started t (test .before) .args .op)),
+    let is = sym (child .before .before .is-thunked .ensures) ∙ c .before .if1 .left in
+    let s = started t (test .before) in (
+      omega (arith, s .pre .0, there, records-few _ (inv .sound), inv .remains .onward, weight-between (s .args .op)),
       (inv .sound, (there, reading-plain inv (test .loop-test .taken) is (child .child-at .ensures))),
     ))
     (λ c κs. tt)
@@ -111,8 +113,9 @@ operands-part t =
     let test = turn t child in
     let p = started t (test .before) .pre .1 in
     loop-reads (p .0) (p .1) (test .before .before .unread .ensures)
-    (reading-refused (test .before .loop .inv) (test .loop-test .taken) (child .before .before .before .is-thunked .ensures)
-    (child .before .child-at .ensures) (child-read t child) (c .failed .ensures) (c .before .if2 .taken)))
+    (reading-refused (test .before .loop .inv) (test .loop-test .taken)
+    (child .before .before .before .is-thunked .ensures) (child .before .child-at .ensures) (child-read t child)
+    (c .failed .ensures) (c .before .if2 .taken)))
     (λ c. omega (arith, turn t (c .before .before .before) .before .loop .inv .remains .pending))
     (λ c. omega (arith, turn t (c .before .before .before) .before .loop .inv .remains .pending))
     (λ c. omega (arith, turn t (c .before .before .before) .before .loop .inv .remains .pending))
@@ -122,17 +125,26 @@ operands-part t =
     let test = turn t child in
     let inv = test .before .loop .inv in (
       inv .sound,
-      (reading-there inv (test .loop-test .taken), reading-room inv (test .loop-test .taken) .1, simp length-set (child-read t child .rep .arena .scoped .words)),
+      (
+        reading-there inv (test .loop-test .taken),
+        reading-room inv (test .loop-test .taken) .1,
+        simp length-set (child-read t child .rep .arena .scoped .words),
+      ),
     ))
-    (λ c κs. turn t (c .before .before .before .before .before .before .before) .before .loop .inv .remains .rep .arena .scoped .few-scopes)
-    (λ c. omega (arith, turn t (c .before .before .before .before .before .before .before .before) .before .loop .inv .remains .pending))
-    (λ c. omega (arith, turn t (c .before .before .before .before .before .before .before .before) .loop-test .taken))
+    (λ c κs. let test = turn t (c .before .before .before .before .before .before .before) in
+    test .before .loop .inv .remains .rep .arena .scoped .few-scopes)
+    (λ c. let test = turn t (c .before .before .before .before .before .before .before .before) in
+    omega (arith, test .before .loop .inv .remains .pending))
+    (λ c. let test = turn t (c .before .before .before .before .before .before .before .before) in
+    omega (arith, test .loop-test .taken))
     (λ c. let bound = c .before .before .before in
     let ok = bound .before .before in
     let child = ok .before .before .before in
     let test = turn t child in
     reading-turn (test .before .loop .inv) (test .loop-test .taken) (child .before .before .before .is-thunked .ensures)
-    (child .before .child-at .ensures) (child-read t child) (ok .if2 .left) (bound .bind-def .ensures) (c .with-child .ensures))
+    (child .before .child-at .ensures) (child-read t child) (ok .if2 .left) (bound .bind-def .ensures)
+    (c .with-child .ensures))
     (λ c. c .before .loop .inv .remains .kept .words .frame .long)
     (λ c. let p = started t (c .before) .pre .1 in
-    loop-reads (p .0) (p .1) (c .before .before .unread .ensures) (reading-end (c .before .loop .inv) (c .loop-test .left)))
+    loop-reads (p .0) (p .1) (c .before .before .unread .ensures)
+    (reading-end (c .before .loop .inv) (c .loop-test .left)))

@@ -143,18 +143,9 @@ subtree-part t =
     (λ c κs. let code = c .before in
     let kids = code .before .before .before in
     let h = parent t (kids .before) in
-    let counted = kids .before .before .before .before in (
-      omega (
-        arith,
-        asked t counted .pre .0,
-        h .there,
-        records-few _ (h .sound),
-        weight-between (code .opcode .result),
-      ),
-      (
-        h .sound,
-        children-operands h (kids .kids .ensures .0) (code .opcode .ensures) (counted-plain (given t counted)),
-      ),
+    let n = kids .before .before .before .before in (
+      omega (arith, asked t n .pre .0, h .there, records-few _ (h .sound), weight-between (code .opcode .result)),
+      (h .sound, children-operands h (kids .kids .ensures .0) (code .opcode .ensures) (counted-plain (given t n))),
     ))
     (λ c. search needs)
     (λ c. search needs)
@@ -171,4 +162,5 @@ subtree-part t =
     done .complete .kept .1 .0 ∙ incomplete .kept .words .frame .long)
     (λ c. let done = c .before .before in
     let selected = done .before .before .before in
-    incomplete-reads (rw (selected .selected2 .given .1) at (on t (selected .before .before))) (done .complete .ensures))
+    incomplete-reads (rw (selected .selected2 .given .1) at (on t (selected .before .before)))
+    (done .complete .ensures))

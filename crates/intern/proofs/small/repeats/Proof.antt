@@ -11,9 +11,9 @@ returns c =
 
 returns-2 : tie.Need-returns-2
 returns-2 c =
-    let c2 = c .before .before in
-    let a = c2 .before .before .before .args in
-    rw (eq-eqb (a .after .scopes) (a .before .scopes) (c2 .if1 .left))
+    let same = c .before .before in
+    let a = same .before .before .before .args in
+    rw (eq-eqb (a .after .scopes) (a .before .scopes) (same .if1 .left))
 
 pub repeats-spec : {M : Type 1} → statement M
 repeats-spec = tie.close (tie.spec returns (λ c. search needs) (λ c. search needs) returns-2)
