@@ -14,13 +14,14 @@ use Rattle.model.specs.Forest.{treesOf}
 use Rattle.model.specs.Accept.{accept}
 use Rattle.model.specs.Intern.{State, Out}
 use Rattle.model.specs.Call.{Call, interned, treeChecks, writtenOf, measured, written, run}
-use Rattle.model.specs.Conditions.{interning, order}
+use Rattle.model.specs.Conditions.{order}
 use Rattle.laws.proofs.Apart.{refused-parts}
 use Rattle.laws.proofs.Checks.{Check, Says, _next_, first-says, refused-first}
 use Rattle.laws.proofs.Header.{header-of, row-count}
 use Rattle.laws.specs.Members.{In}
 use Rattle.laws.proofs.Rows.{sizes-rows, closed-trees}
 use Rattle.theory.proofs.Promise.Refusals.{Limited}
+use Rattle.theory.proofs.Demand3.Trace.{interning}
 use Rattle.theory.proofs.Demand3.Order.{check-13, check-14, applies-in, root-limited}
 use Rattle.theory.proofs.Demand3.Exactly.{refused-applies}
 use Rattle.regions.specs.Regions.{WORDS}

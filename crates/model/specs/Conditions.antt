@@ -1,7 +1,8 @@
 -- What each of the paper's numbers says: `Applies c n p` is the condition of number n, with its place p, on call c. The
 -- conditions are said each for itself: none speaks of another number or of the order in which the call tests them.
--- In order: words for places; the forest's header, directory and records; interning and the tree that document 01
--- defines; the conditions; the order of the checks; what is said of a call with them.
+-- 1 to 6 and 11 to 14 are said by something else than the functions that test them, 7 to 10 by the marks of these.
+-- In order: marks; the forest's header, directory and trees; the tree that document 01 defines; the conditions; the
+-- order of the checks; what is said of a call with them.
 -- Assumes nothing.
 use mathlib.Core.Path.{_≡_}
 use mathlib.Core.Logic.{_⊎_, _≢_}
@@ -10,19 +11,17 @@ use mathlib.Core.List.{List, [], _∷_, _++_}
 use Prim.Native.Nat.{ℕ, zero, suc, _+_, _*_, _≤_, _<_}
 use lib.ListN.{length, getD, take}
 use Rattle.model.specs.Lists.{isIn}
-use Rattle.model.specs.Answer.{refused, good}
-use Rattle.model.specs.Tree.{rec, Row, size, depth}
-use Rattle.model.specs.Shape.{fits, agrees}
+use Rattle.model.specs.Tree.{size, depth}
 use Rattle.model.specs.Forest.{treeCount, recordCount, pairsOf, rowsIn, treesOf, deeps}
 use Rattle.model.specs.Binding.{misplacedIn, reboundIn, unboundIn}
-use Rattle.model.specs.Intern.{State, Out, internForest, internLast}
+use Rattle.model.specs.Intern.{State}
 use Rattle.model.specs.Call.{Call, treeOf, bytesOf}
+use Rattle.model.specs.Places.{First, children}
+use Rattle.model.specs.ShapeRules.{ShapeOffends}
+use Rattle.model.specs.OpcodeRules.{OpcodeOffends}
+use Rattle.model.specs.Trace.{TooManyReadings, TooManySymbols, Interned}
 
--- ---- places
-
--- p is the first place of which P holds: "Place is the first offending record (3: pair) counted from 0"
-abbrev pub First : (ℕ → Type 0) → ℕ → Type 0
-First P p = P p × ((q : ℕ) → q < p → P q → ⊥)
+-- ---- marks
 
 -- a list with a test for each record, in the file's order, marks record p
 abbrev pub Marked : List Bool → ℕ → Type 0
@@ -67,27 +66,7 @@ DirectoryOffends forest p =
     ((p ≡ 0) × (length forest < directoryEnd forest)) ⊎
     ((directoryEnd forest ≤ length forest) × First (PairOffends forest) p)
 
--- ---- 4 to 6: records
-
--- record p, with its child count; `noRecord` where there is none
-abbrev pub noRecord : Row
-noRecord = record { rec = rec 0 0 0 []; kids = 0 }
-
-abbrev pub recordAt : List ℕ → ℕ → Row
-recordAt forest p = getD (rowsIn forest) p noRecord
-
--- "4, a record against its shape"
-abbrev pub ShapeOffends : List ℕ → ℕ → Type 0
-ShapeOffends forest p = (p < recordCount forest) × (fits (recordAt forest p) ≡ false)
-
--- "5, opcode against shape"
-abbrev pub OpcodeOffends : List ℕ → ℕ → Type 0
-OpcodeOffends forest p = (p < recordCount forest) × (agrees (recordAt forest p .rec) ≡ false)
-
--- how many children some records have
-abbrev pub children : List Row → ℕ
-children [] = 0
-children (r ∷ rs) = r .kids + children rs
+-- ---- 6: trees
 
 -- the first p records are all the trees: a record for each tree and for each child of these records
 abbrev pub Closed : List ℕ → ℕ → Type 0
@@ -99,15 +78,7 @@ TreesOffend forest p =
     ((p < recordCount forest) × First (Closed forest) p) ⊎
     ((p ≡ recordCount forest) × ((q : ℕ) → q ≤ recordCount forest → Closed forest q → ⊥))
 
--- ---- 11 to 14: symbols, and the tree that is made of them
-
--- the root's symbol and the symbols and scopes of the forest, or the refusal that interning meets
-abbrev pub interning : List ℕ → Out
-interning forest = internLast (internForest (treesOf forest))
-
--- document 01 defines a tree for the forest: o is the root's symbol, with the symbols and scopes
-abbrev pub Defined : List ℕ → ℕ × State → Type 0
-Defined forest o = interning forest ≡ good o
+-- ---- 13: the tree that is made of the symbols
 
 -- "a written tree over 256 records, over 65,535 bytes or longer than the output"
 abbrev pub TooLarge : ℕ → ℕ × State → Type 0
@@ -136,14 +107,14 @@ pub data Applies (c : Call) : ℕ → ℕ → Type 0 where
   at-9 : (p : ℕ) → First (Marked (reboundIn (treesOf (c .forest)) [])) p → Applies c 9 p
   -- "a use of an id not in force": `unboundIn` marks each
   at-10 : (p : ℕ) → First (Marked (unboundIn (treesOf (c .forest)) [])) p → Applies c 10 p
-  -- "over 2,048 readings", "as interning meets them": the place is "the record being read"
-  at-11 : (p : ℕ) → interning (c .forest) ≡ refused 11 p → Applies c 11 p
-  -- "over 512 symbols": the place is "the one whose symbol is being made"
-  at-12 : (p : ℕ) → interning (c .forest) ≡ refused 12 p → Applies c 12 p
+  -- "over 2,048 readings"
+  at-11 : (p : ℕ) → TooManyReadings (c .forest) p → Applies c 11 p
+  -- "over 512 symbols"
+  at-12 : (p : ℕ) → TooManySymbols (c .forest) p → Applies c 12 p
   -- "a written tree over 256 records, over 65,535 bytes or longer than the output"
-  at-13 : (o : ℕ × State) → Defined (c .forest) o → TooLarge (c .room) o → Applies c 13 0
+  at-13 : (o : ℕ × State) → Interned (c .forest) o → TooLarge (c .room) o → Applies c 13 0
   -- "a written tree deeper than 64"
-  at-14 : (o : ℕ × State) → Defined (c .forest) o → 64 < depth (treeOf o) → Applies c 14 0
+  at-14 : (o : ℕ × State) → Interned (c .forest) o → 64 < depth (treeOf o) → Applies c 14 0
 
 -- ---- the order of the checks
 

@@ -15,7 +15,8 @@ use Rattle.model.specs.Binding.{idOf}
 use Rattle.model.specs.Unfold.{unfolded}
 use Rattle.model.specs.Intern.{State}
 use Rattle.model.specs.Call.{Call, treeOf, bytesOf, Numbers, numbers, outAfter}
-use Rattle.model.specs.Conditions.{Accepted, NoneApplies, FirstApplies, Defined}
+use Rattle.model.specs.Trace.{Interned}
+use Rattle.model.specs.Conditions.{Accepted, NoneApplies, FirstApplies}
 
 -- ---- uses of an id
 
@@ -34,7 +35,7 @@ abbrev mutual
 pub record Writes (c : Call) (out : List ℕ) (ns : Numbers) (out′ : List ℕ) : Type 0 where
   -- the root's symbol, with all symbols and scopes: document 01 defines a tree for the forest, `treeOf` of these
   pub interned : ℕ × State
-  pub defined : Defined (c .forest) interned
+  pub defined : Interned (c .forest) interned
   -- its bytes stand in the output, "as many bytes as the written length counts"; those past them "keep their values"
   pub stands : out′ ≡ bytesOf interned ++ drop (length (bytesOf interned)) out
   -- number, place, written length, symbols, readings

@@ -16,6 +16,10 @@ pub mod Gate
 pub mod Schedule
 pub mod Materialize
 pub mod Call
+pub mod Places
+pub mod ShapeRules
+pub mod OpcodeRules
+pub mod Trace
 pub mod Conditions
 pub mod Demand3
 pub mod Text

@@ -2,6 +2,11 @@
 -- Conditions: read them first. The rest of the crate proves it: Order and Places, that the call's number is that of the
 -- first refusal that applies; the folders, that the written tree keeps the meaning and is accepted.
 -- Assumes nothing.
+pub mod Trace
+pub mod Counted
+pub mod Literals
+pub mod ShapeRules
+pub mod OpcodeRules
 pub mod Places
 pub mod Order
 pub mod Exactly
@@ -23,7 +28,10 @@ use Rattle.model.specs.Call.{Call, treeOf, bytesOf, Written, writtenOf, run, nu
 use Rattle.laws.proofs.Checks.{Passes, checked-good}
 use Rattle.model.specs.Demand3.{Writes, Demand3}
 use Rattle.theory.proofs.Promise.Main.{meaning-kept, bytes-accepted, argument-never-met}
-use Rattle.model.specs.Conditions.{NoneApplies, Defined, at-13, at-14}
+use Rattle.model.specs.Trace.{Interned}
+use Rattle.model.specs.Conditions.{NoneApplies, at-13, at-14}
+use Rattle.theory.proofs.Demand3.Trace.{interning}
+use Rattle.theory.proofs.Demand3.Counted.{interned-exactly}
 use Rattle.theory.proofs.Demand3.Order.{call-passes, passes-accepted}
 use Rattle.theory.proofs.Demand3.Exactly.{zero-passes, zero-both, refusal-both}
 
@@ -35,15 +43,18 @@ at-most a b h = go (ltb b a) refl
     go false e = ltb-false b a e
 
 module _ (c : Call) (none : NoneApplies c) (pass : Passes (checks (c .forest))) (o : ℕ × State)
-    (is : Defined (c .forest) o) (answer : run c ≡ good (writtenOf o)) where
+    (is : interning (c .forest) ≡ good o) (answer : run c ≡ good (writtenOf o)) where
+  so : Interned (c .forest) o
+  so = interned-exactly (c .forest) o .0 is
+
   few : size (treeOf o) ≤ 256
-  few = at-most _ _ (λ l. none 13 0 (at-13 o is (inl l)))
+  few = at-most _ _ (λ l. none 13 0 (at-13 o so (inl l)))
 
   short : length (bytesOf o) ≤ 65535
-  short = at-most _ _ (λ l. none 13 0 (at-13 o is (inr (inl l))))
+  short = at-most _ _ (λ l. none 13 0 (at-13 o so (inr (inl l))))
 
   flat : depth (treeOf o) ≤ 64
-  flat = at-most _ _ (λ l. none 14 0 (at-14 o is l))
+  flat = at-most _ _ (λ l. none 14 0 (at-14 o so l))
 
   read-again : Passes (checks (bytesOf o)) × (treesOf (bytesOf o) ≡ cons (treeOf o) nil)
   unfolding accept
@@ -55,10 +66,10 @@ module _ (c : Call) (none : NoneApplies c) (pass : Passes (checks (c .forest))) 
   unfolding numbers numbersOf outAfter outWith writtenOf root
   writes-of out = record {
     interned = o;
-    defined = is;
+    defined = so;
     stands = ap (λ (a : Answer Written). outWith a out) answer;
     answers = ap numbersOf answer;
-    fits-in = at-most _ _ (λ l. none 13 0 (at-13 o is (inr (inr l))));
+    fits-in = at-most _ _ (λ l. none 13 0 (at-13 o so (inr (inr l))));
     accepted = passes-accepted (bytesOf o) (read-again .0);
     reads-back = read-again .1;
     no-zero-use = argument-never-met (c .forest) pass o is few;

@@ -21,8 +21,12 @@ use Rattle.model.specs.Accept.{checks, accept}
 use Rattle.model.specs.Intern.{State, Out, Outs, internForest, internLast}
 use Rattle.model.specs.Call.{Call, ample, check1, lentChecks, interned, treeOf, bytesOf, check13, check14, treeChecks}
 use Rattle.model.specs.Call.{Written, writtenOf, measured, written, run}
-use Rattle.model.specs.Conditions.{First, Marked, HeaderOffends, DirectoryOffends, ShapeOffends, OpcodeOffends}
-use Rattle.model.specs.Conditions.{TreesOffend, interning, Defined, TooLarge, Applies, at-1, at-2, at-3, at-4, at-5}
+use Rattle.model.specs.Places.{First}
+use Rattle.model.specs.ShapeRules.{ShapeOffends}
+use Rattle.model.specs.OpcodeRules.{OpcodeOffends}
+use Rattle.model.specs.Trace.{TooManyReadings, TooManySymbols, Interned}
+use Rattle.model.specs.Conditions.{Marked, HeaderOffends, DirectoryOffends}
+use Rattle.model.specs.Conditions.{TreesOffend, TooLarge, Applies, at-1, at-2, at-3, at-4, at-5}
 use Rattle.model.specs.Conditions.{at-6, at-7, at-8, at-9, at-10, at-11, at-12, at-13, at-14, acceptance, order}
 use Rattle.model.specs.Conditions.{Accepted}
 use Rattle.laws.proofs.Apart.{none-some, refused-good, good-inj, refused-parts}
@@ -32,6 +36,8 @@ use Rattle.laws.proofs.Checks.{Check, Passes, FirstAt, passes-or-first, passes-
 use Rattle.laws.proofs.Checks.{_next_, exact-append, passes-none, first-in, first-says, exact-says, passes-checked, checked-good}
 use Rattle.laws.proofs.Checks.{first-checked}
 use Rattle.theory.proofs.Promise.Refusals.{Limited, forest-limited}
+use Rattle.theory.proofs.Demand3.Trace.{interning}
+use Rattle.theory.proofs.Demand3.Counted.{reading-exactly, symbol-exactly, interned-exactly}
 use Rattle.theory.proofs.Demand3.Places.{or-true, less, at-0, first-place, check-2, check-3, check-4, check-5}
 use Rattle.theory.proofs.Demand3.Places.{check-6, check-7}
 
@@ -151,16 +157,16 @@ module _ (c : Call) where
   only-10 : (p : ℕ) → Applies c 10 p → First (Marked (unboundIn (treesOf forest) [])) p
   only-10 p (at-10 q h) = h
 
-  only-11 : (p : ℕ) → Applies c 11 p → interning forest ≡ refused 11 p
+  only-11 : (p : ℕ) → Applies c 11 p → TooManyReadings forest p
   only-11 p (at-11 q h) = h
 
-  only-12 : (p : ℕ) → Applies c 12 p → interning forest ≡ refused 12 p
+  only-12 : (p : ℕ) → Applies c 12 p → TooManySymbols forest p
   only-12 p (at-12 q h) = h
 
-  only-13 : (p : ℕ) → Applies c 13 p → (o : ℕ × State) × Defined forest o × ((p ≡ 0) × TooLarge (c .room) o)
+  only-13 : (p : ℕ) → Applies c 13 p → (o : ℕ × State) × Interned forest o × ((p ≡ 0) × TooLarge (c .room) o)
   only-13 p (at-13 o d h) = (o, d, (refl, h))
 
-  only-14 : (p : ℕ) → Applies c 14 p → (o : ℕ × State) × Defined forest o × ((p ≡ 0) × (64 < depth (treeOf o)))
+  only-14 : (p : ℕ) → Applies c 14 p → (o : ℕ × State) × Interned forest o × ((p ≡ 0) × (64 < depth (treeOf o)))
   only-14 p (at-14 o d h) = (o, d, (refl, h))
 
   -- and no others have one
@@ -219,22 +225,29 @@ module _ (c : Call) where
 
   at-tree : (check : ℕ × State → Option ℕ) (Cond : ℕ × State → Type 0) (n : ℕ) →
       ((o : ℕ × State) (p : ℕ) → (check o ≡ some p) ↔ ((p ≡ 0) × Cond o)) →
-      ((o : ℕ × State) → Defined forest o → Cond o → Applies c n 0) →
-      ((p : ℕ) → Applies c n p → (o : ℕ × State) × Defined forest o × ((p ≡ 0) × Cond o)) →
+      ((o : ℕ × State) → Interned forest o → Cond o → Applies c n 0) →
+      ((p : ℕ) → Applies c n p → (o : ℕ × State) × Interned forest o × ((p ≡ 0) × Cond o)) →
       (p : ℕ) → (ofTree check made ≡ some p) ↔ Applies c n p
   at-tree check Cond n same to back p = (
     λ e. go (of-tree check made p .0 e),
-    λ h. let w = back p h in of-tree check made p .1 (w .0, w .1, same (w .0) p .1 (w .2)),
+    λ h. let w = back p h in
+        of-tree check made p .1 (w .0, interned-exactly forest (w .0) .1 (w .1), same (w .0) p .1 (w .2)),
   )
     where
       go : (o : ℕ × State) × (made ≡ good o) × (check o ≡ some p) → Applies c n p
-      go (o, d, e) = let w = same o p .0 e in at-place-0 n p (w .0) (to o d (w .1))
+      go (o, d, e) = let w = same o p .0 e in at-place-0 n p (w .0) (to o (interned-exactly forest o .0 d) (w .1))
 
   late-exact : Exact (Applies c) (late (c .room) (interning (c .forest)))
   unfolding treeChecks
   late-exact =
-      (λ p. (λ e. at-11 p (refused-at 11 made p .0 e), λ h. refused-at 11 made p .1 (only-11 p h))) next
-      (λ p. (λ e. at-12 p (refused-at 12 made p .0 e), λ h. refused-at 12 made p .1 (only-12 p h))) next
+      (λ p. (
+        λ e. at-11 p (reading-exactly forest p .0 (refused-at 11 made p .0 e)),
+        λ h. refused-at 11 made p .1 (reading-exactly forest p .1 (only-11 p h)),
+      )) next
+      (λ p. (
+        λ e. at-12 p (symbol-exactly forest p .0 (refused-at 12 made p .0 e)),
+        λ h. refused-at 12 made p .1 (symbol-exactly forest p .1 (only-12 p h)),
+      )) next
       at-tree (check13 (c .room)) (TooLarge (c .room)) 13 (check-13 (c .room)) at-13 only-13 next
       at-tree check14 (λ o. 64 < depth (treeOf o)) 14 check-14 at-14 only-14 next
       tt
@@ -315,7 +328,8 @@ module _ (c : Call) where
           rw (passes-checked (lentChecks c) c (w .0)) (after (first-split n p (checks (c .forest)) _ (w .1)))
 
   pub call-passes : Passes (callChecks c) →
-      Passes (checks (c .forest)) × ((o : ℕ × State) × Defined (c .forest) o × (run c ≡ good (writtenOf o)))
+      Passes (checks (c .forest)) ×
+      ((o : ℕ × State) × (interning (c .forest) ≡ good o) × (run c ≡ good (writtenOf o)))
   unfolding run _>>=_
   call-passes h =
       let l = passes-split (lentChecks c) (checks (c .forest) ++ late (c .room) (interning (c .forest))) h in

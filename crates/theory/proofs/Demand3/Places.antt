@@ -22,9 +22,13 @@ use Rattle.model.specs.Forest.{check4, check5, unclosed, check6, deeps, check7}
 use Rattle.laws.proofs.Apart.{none-some}
 use Rattle.laws.proofs.Members.{clash, and-both, both-and}
 use Rattle.laws.proofs.Header.{pair-count, row-count}
-use Rattle.model.specs.Conditions.{DirectoryOffends, noRecord, First, Marked, InRange, HeaderOffends}
-use Rattle.model.specs.Conditions.{startOf, PairOffends, ShapeOffends, OpcodeOffends, children}
+use Rattle.model.specs.Places.{First, noRecord, children}
+use Rattle.model.specs.ShapeRules.{IsRight, ShapeOffends}
+use Rattle.model.specs.OpcodeRules.{Together, OpcodeOffends}
+use Rattle.model.specs.Conditions.{Marked, InRange, HeaderOffends, startOf, PairOffends, DirectoryOffends}
 use Rattle.model.specs.Conditions.{TreesOffend, directoryEnd}
+use Rattle.theory.proofs.Demand3.ShapeRules.{fits-right}
+use Rattle.theory.proofs.Demand3.OpcodeRules.{agrees-together}
 
 -- ---- tests
 
@@ -85,12 +89,19 @@ first-of P bs same p = (
 
 -- ---- records that fail a test
 
-marked-fails : (f : Row → Bool) (z : Row) (rs : List Row) (p : ℕ) →
-    Marked (map (λ r. not (f r)) rs) p ↔ ((p < length rs) × (f (getD rs p z) ≡ false))
-marked-fails f z [] p = (λ m. absurd (clash false m refl), λ h. absurd (omega (arith, h .0)))
-marked-fails f z (r ∷ rs) zero = (λ m. (omega arith, not-true (f r) m), λ h. ap not (h .1))
-marked-fails f z (r ∷ rs) (suc p) =
-    let w = marked-fails f z rs p in
+marked-fails : (f : Row → Bool) (P : Row → Type 0) → ((r : Row) → (f r ≡ true) ↔ P r) → (rs : List Row) (p : ℕ) →
+    Marked (map (λ r. not (f r)) rs) p ↔ ((p < length rs) × (P (getD rs p noRecord) → ⊥))
+marked-fails f P same [] p = (λ m. absurd (clash false m refl), λ h. absurd (omega (arith, h .0)))
+marked-fails f P same (r ∷ rs) zero = (
+  λ m. (omega arith, λ t. clash (f r) (same r .1 t) (not-true (f r) m)),
+  λ h. go (f r) (λ e. h .1 (same r .0 e)),
+)
+  where
+    go : (b : Bool) → (b ≡ true → ⊥) → not b ≡ true
+    go true h = absurd (h refl)
+    go false h = refl
+marked-fails f P same (r ∷ rs) (suc p) =
+    let w = marked-fails f P same rs p in
     (λ m. (omega (arith, w .0 m .0), w .0 m .1), λ h. w .1 (omega (arith, h .0), h .1))
 
 -- ---- pairs
@@ -311,12 +322,13 @@ module _ (forest : List ℕ) where
   pub check-4 : (p : ℕ) → (check4 forest ≡ some p) ↔ First (ShapeOffends forest) p
   unfolding check4
   check-4 = first-of (ShapeOffends forest) (map (λ r. not (fits r)) (rowsIn forest)) λ q.
-      rw (← row-count forest) (marked-fails fits noRecord (rowsIn forest) q)
+      rw (← row-count forest) (marked-fails fits IsRight fits-right (rowsIn forest) q)
 
   pub check-5 : (p : ℕ) → (check5 forest ≡ some p) ↔ First (OpcodeOffends forest) p
   unfolding check5
   check-5 = first-of (OpcodeOffends forest) (map (λ r. not (agrees (r .rec))) (rowsIn forest)) λ q.
-      rw (← row-count forest) (marked-fails (λ r. agrees (r .rec)) noRecord (rowsIn forest) q)
+      rw (← row-count forest) (marked-fails (λ r. agrees (r .rec)) (λ r. Together (r .rec .opcode) (r .rec .shape))
+      (λ r. agrees-together (r .rec)) (rowsIn forest) q)
 
   pub check-6 : (p : ℕ) → (check6 forest ≡ some p) ↔ TreesOffend forest p
   unfolding check6
