@@ -1,31 +1,34 @@
 -- What each of the paper's numbers says: `Applies c n p` is the condition of number n, with its place p, on call c. The
--- conditions are said each for itself: none speaks of another number or of the order in which the call tests them.
--- 1 to 6 and 11 to 14 are said by something else than the functions that test them, 7 to 10 by the marks of these.
--- In order: marks; the forest's header, directory and trees; the tree that document 01 defines; the conditions; the
--- order of the checks; what is said of a call with them.
+-- conditions are said each for itself: none speaks of another number or of the order in which the call tests them, but
+-- that 11 and 12 "come as interning meets them". They are said by something else than the functions that test them, as
+-- far as that is to be had. So what demand 3 says of a number is a fact:
+-- - 1 to 3 and 5 to 10: the check is right. The conditions are the paper's sentences on bytes, on pairs (OpcodeRules), on
+--   child counts (6), on ancestors (7), on where a definition stands (8) and on ids in force (9 and 10; Nesting).
+-- - 4: the check reads literals rightly. What a shape has can only be the table itself: it stands a second time in
+--   ShapeRules, as the paper lists it, with literals put together of parts.
+-- - 11 and 12: the limits, 2,048 and 512, and where they are passed. What is a reading, and when a symbol is made, only
+--   the definition says: Trace is it once more, with a log in place of limits.
+-- - 13 and 14: the limits. The tree is the one that the definitions make; there is no other.
+-- How bytes are read as records, and records as trees (Forest, Tree), is the definitions' own throughout.
+-- In order: the forest's header, directory and trees; the tree that document 01 defines; the conditions; the order of
+-- the checks; what is said of a call with them.
 -- Assumes nothing.
 use mathlib.Core.Path.{_≡_}
 use mathlib.Core.Logic.{_⊎_, _≢_}
-use mathlib.Core.Bool.{Bool, true, false}
+use mathlib.Core.Bool.{true}
 use mathlib.Core.List.{List, [], _∷_, _++_}
 use Prim.Native.Nat.{ℕ, zero, suc, _+_, _*_, _≤_, _<_}
 use lib.ListN.{length, getD, take}
 use Rattle.model.specs.Lists.{isIn}
 use Rattle.model.specs.Tree.{size, depth}
-use Rattle.model.specs.Forest.{treeCount, recordCount, pairsOf, rowsIn, treesOf, deeps}
-use Rattle.model.specs.Binding.{misplacedIn, reboundIn, unboundIn}
+use Rattle.model.specs.Forest.{treeCount, recordCount, pairsOf, rowsIn, treesOf}
 use Rattle.model.specs.Intern.{State}
 use Rattle.model.specs.Call.{Call, treeOf, bytesOf}
 use Rattle.model.specs.Places.{First, children}
 use Rattle.model.specs.ShapeRules.{ShapeOffends}
 use Rattle.model.specs.OpcodeRules.{OpcodeOffends}
+use Rattle.model.specs.Nesting.{Deeper, OutOfPlace, Rebinds, Unbound}
 use Rattle.model.specs.Trace.{TooManyReadings, TooManySymbols, Interned}
-
--- ---- marks
-
--- a list with a test for each record, in the file's order, marks record p
-abbrev pub Marked : List Bool → ℕ → Type 0
-Marked tests p = getD tests p false ≡ true
 
 -- ---- 2 and 3: the header and the directory
 
@@ -99,14 +102,14 @@ pub data Applies (c : Call) : ℕ → ℕ → Type 0 where
   at-5 : (p : ℕ) → First (OpcodeOffends (c .forest)) p → Applies c 5 p
   -- "trees do not close"
   at-6 : (p : ℕ) → TreesOffend (c .forest) p → Applies c 6 p
-  -- "deeper than 64 (a root has depth 1)": `deeps` marks each record that is
-  at-7 : (p : ℕ) → First (Marked (deeps (treesOf (c .forest)) 1)) p → Applies c 7 p
-  -- "a definition out of place": `misplacedIn` marks each, and each record that stands where a definition has to stand
-  at-8 : (p : ℕ) → First (Marked (misplacedIn (treesOf (c .forest)) false)) p → Applies c 8 p
-  -- "an id bound while in force or twice in one lambda": `reboundIn` marks each record that binds so
-  at-9 : (p : ℕ) → First (Marked (reboundIn (treesOf (c .forest)) [])) p → Applies c 9 p
-  -- "a use of an id not in force": `unboundIn` marks each
-  at-10 : (p : ℕ) → First (Marked (unboundIn (treesOf (c .forest)) [])) p → Applies c 10 p
+  -- "deeper than 64 (a root has depth 1)"
+  at-7 : (p : ℕ) → First (Deeper (treesOf (c .forest)) 64) p → Applies c 7 p
+  -- "a definition out of place"
+  at-8 : (p : ℕ) → First (OutOfPlace (treesOf (c .forest))) p → Applies c 8 p
+  -- "an id bound while in force or twice in one lambda"
+  at-9 : (p : ℕ) → First (Rebinds (treesOf (c .forest))) p → Applies c 9 p
+  -- "a use of an id not in force"
+  at-10 : (p : ℕ) → First (Unbound (treesOf (c .forest))) p → Applies c 10 p
   -- "over 2,048 readings"
   at-11 : (p : ℕ) → TooManyReadings (c .forest) p → Applies c 11 p
   -- "over 512 symbols"

@@ -19,6 +19,7 @@ pub mod Call
 pub mod Places
 pub mod ShapeRules
 pub mod OpcodeRules
+pub mod Nesting
 pub mod Trace
 pub mod Conditions
 pub mod Demand3

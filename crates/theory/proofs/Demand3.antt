@@ -1,13 +1,23 @@
 -- Demand 3 holds of every call, over the definitions: `demand-3`. What it says stands in model, specs/Demand3 and
--- Conditions: read them first. The rest of the crate proves it: Order and Places, that the call's number is that of the
--- first refusal that applies; the folders, that the written tree keeps the meaning and is accepted.
+-- Conditions: read them first. The rest of the crate proves it: the files below, that each check fails exactly where its
+-- condition holds (Places for 2 to 6, with ShapeRules and OpcodeRules; Depths for 7, Placed for 8, Ids for 9 and 10;
+-- Counted for 11 and 12), and so that the call's number is that of the first refusal that applies (Order, Exactly); the
+-- folders, that the written tree keeps the meaning and is accepted.
 -- Assumes nothing.
-pub mod Trace
-pub mod Counted
 pub mod Literals
 pub mod ShapeRules
 pub mod OpcodeRules
+pub mod Nesting
+pub mod Marks
 pub mod Places
+pub mod Depths
+pub mod Placed
+pub mod Extents
+pub mod Arguments
+pub mod Forces
+pub mod Ids
+pub mod Trace
+pub mod Counted
 pub mod Order
 pub mod Exactly
 use mathlib.Core.Path.{_≡_, refl, ap, _∙_}

@@ -14,9 +14,8 @@ use lib.ListN.{length}
 use borrow.Author.Tests.{eqb-true, eq-eqb}
 use Rattle.model.specs.Lists.{isIn, twice}
 use Rattle.model.specs.Answer.{Answer, refused, good, _>>=_}
-use Rattle.model.specs.Tree.{size, sizes, depth}
-use Rattle.model.specs.Forest.{treesOf, deeps}
-use Rattle.model.specs.Binding.{misplacedIn, reboundIn, unboundIn, check8, check9, check10}
+use Rattle.model.specs.Tree.{Trees, size, sizes, depth}
+use Rattle.model.specs.Forest.{treesOf}
 use Rattle.model.specs.Accept.{checks, accept}
 use Rattle.model.specs.Intern.{State, Out, Outs, internForest, internLast}
 use Rattle.model.specs.Call.{Call, ample, check1, lentChecks, interned, treeOf, bytesOf, check13, check14, treeChecks}
@@ -25,7 +24,8 @@ use Rattle.model.specs.Places.{First}
 use Rattle.model.specs.ShapeRules.{ShapeOffends}
 use Rattle.model.specs.OpcodeRules.{OpcodeOffends}
 use Rattle.model.specs.Trace.{TooManyReadings, TooManySymbols, Interned}
-use Rattle.model.specs.Conditions.{Marked, HeaderOffends, DirectoryOffends}
+use Rattle.model.specs.Nesting.{Deeper, OutOfPlace, Rebinds, Unbound}
+use Rattle.model.specs.Conditions.{HeaderOffends, DirectoryOffends}
 use Rattle.model.specs.Conditions.{TreesOffend, TooLarge, Applies, at-1, at-2, at-3, at-4, at-5}
 use Rattle.model.specs.Conditions.{at-6, at-7, at-8, at-9, at-10, at-11, at-12, at-13, at-14, acceptance, order}
 use Rattle.model.specs.Conditions.{Accepted}
@@ -38,8 +38,11 @@ use Rattle.laws.proofs.Checks.{first-checked}
 use Rattle.theory.proofs.Promise.Refusals.{Limited, forest-limited}
 use Rattle.theory.proofs.Demand3.Trace.{interning}
 use Rattle.theory.proofs.Demand3.Counted.{reading-exactly, symbol-exactly, interned-exactly}
-use Rattle.theory.proofs.Demand3.Places.{or-true, less, at-0, first-place, check-2, check-3, check-4, check-5}
-use Rattle.theory.proofs.Demand3.Places.{check-6, check-7}
+use Rattle.theory.proofs.Demand3.Places.{or-true, less, at-0, check-2, check-3, check-4, check-5}
+use Rattle.theory.proofs.Demand3.Places.{check-6}
+use Rattle.theory.proofs.Demand3.Depths.{check-7}
+use Rattle.theory.proofs.Demand3.Placed.{check-8}
+use Rattle.theory.proofs.Demand3.Ids.{check-9, check-10}
 
 -- ---- the list
 
@@ -126,6 +129,9 @@ module _ (c : Call) where
   abbrev forest : List ℕ
   forest = c .forest
 
+  abbrev ts : Trees
+  ts = treesOf forest
+
   -- what a number says: each has one condition
   only-1 : (p : ℕ) → Applies c 1 p → (p ≡ 0) × (c .words < 16384)
   only-1 p (at-1 h) = (refl, h)
@@ -145,16 +151,16 @@ module _ (c : Call) where
   only-6 : (p : ℕ) → Applies c 6 p → TreesOffend forest p
   only-6 p (at-6 q h) = h
 
-  only-7 : (p : ℕ) → Applies c 7 p → First (Marked (deeps (treesOf forest) 1)) p
+  only-7 : (p : ℕ) → Applies c 7 p → First (Deeper (treesOf forest) 64) p
   only-7 p (at-7 q h) = h
 
-  only-8 : (p : ℕ) → Applies c 8 p → First (Marked (misplacedIn (treesOf forest) false)) p
+  only-8 : (p : ℕ) → Applies c 8 p → First (OutOfPlace (treesOf forest)) p
   only-8 p (at-8 q h) = h
 
-  only-9 : (p : ℕ) → Applies c 9 p → First (Marked (reboundIn (treesOf forest) [])) p
+  only-9 : (p : ℕ) → Applies c 9 p → First (Rebinds (treesOf forest)) p
   only-9 p (at-9 q h) = h
 
-  only-10 : (p : ℕ) → Applies c 10 p → First (Marked (unboundIn (treesOf forest) [])) p
+  only-10 : (p : ℕ) → Applies c 10 p → First (Unbound (treesOf forest)) p
   only-10 p (at-10 q h) = h
 
   only-11 : (p : ℕ) → Applies c 11 p → TooManyReadings forest p
@@ -194,31 +200,41 @@ module _ (c : Call) where
   at-place-0 : (n p : ℕ) → p ≡ 0 → Applies c n 0 → Applies c n p
   at-place-0 n p e h = rw e h
 
+  -- a check that fails where C holds, for a number that says C
+  case : {A C : Type 0} (n p : ℕ) → A ↔ C → (C → Applies c n p) → (Applies c n p → C) → A ↔ Applies c n p
+  case n p same at only = (λ e. at (same .0 e), λ h. same .1 (only h))
+
+  -- the same of one whose place is 0
+  case-0 : {A C : Type 0} (n p : ℕ) → A ↔ ((p ≡ 0) × C) → (C → Applies c n 0) →
+      (Applies c n p → (p ≡ 0) × C) → A ↔ Applies c n p
+  case-0 n p same at only = case n p same (λ w. at-place-0 n p (w .0) (at (w .1))) only
+
   lent-exact : Exact (Applies c) (lentChecks c)
   unfolding lentChecks check1
   lent-exact =
-      (λ p. (
-        λ e. let w = at-0 _ p .0 e in at-place-0 1 p (w .0) (at-1 (less _ _ .0 (w .1))),
-        λ h. let w = only-1 p h in at-0 _ p .1 (w .0, less _ _ .1 (w .1)),
-      )) next
+      (λ p. case-0 1 p (at-0 _ p) (λ e. at-1 (less _ _ .0 e)) (λ h. let w = only-1 p h in (w .0, less _ _ .1 (w .1)))) next
       tt
 
+  -- 9 and 10 are exact once 4, 6 and 8 pass, the others in any case
   forest-exact : Exact (Applies c) (checks (c .forest))
-  unfolding checks check8 check9 check10
+  unfolding checks
   forest-exact =
-      (λ p. (
-        λ e. let w = check-2 forest p .0 e in at-place-0 2 p (w .0) (at-2 (w .1)),
-        λ h. check-2 forest p .1 (only-2 p h),
-      )) next
-      (λ p. (λ e. at-3 p (check-3 forest p .0 e), λ h. check-3 forest p .1 (only-3 p h))) next
-      (λ p. (λ e. at-4 p (check-4 forest p .0 e), λ h. check-4 forest p .1 (only-4 p h))) next
-      (λ p. (λ e. at-5 p (check-5 forest p .0 e), λ h. check-5 forest p .1 (only-5 p h))) next
-      (λ p. (λ e. at-6 p (check-6 forest p .0 e), λ h. check-6 forest p .1 (only-6 p h))) next
-      (λ p. (λ e. at-7 p (check-7 forest p .0 e), λ h. check-7 forest p .1 (only-7 p h))) next
-      (λ p. (λ e. at-8 p (first-place _ p .0 e), λ h. first-place _ p .1 (only-8 p h))) next
-      (λ p. (λ e. at-9 p (first-place _ p .0 e), λ h. first-place _ p .1 (only-9 p h))) next
-      (λ p. (λ e. at-10 p (first-place _ p .0 e), λ h. first-place _ p .1 (only-10 p h))) next
-      tt
+      (λ p. case-0 2 p (check-2 forest p) at-2 (only-2 p)) next
+      (λ p. case 3 p (check-3 forest p) (at-3 p) (only-3 p)) next (
+        λ p. case 4 p (check-4 forest p) (at-4 p) (only-4 p),
+        λ four.
+            (λ p. case 5 p (check-5 forest p) (at-5 p) (only-5 p)) next (
+              λ p. case 6 p (check-6 forest p) (at-6 p) (only-6 p),
+              λ six.
+                  (λ p. case 7 p (check-7 forest p) (at-7 p) (only-7 p)) next (
+                    λ p. case 8 p (check-8 ts p) (at-8 p) (only-8 p),
+                    λ eight.
+                        (λ p. case 9 p (check-9 forest four six eight p) (at-9 p) (only-9 p)) next
+                        (λ p. case 10 p (check-10 forest four six eight p) (at-10 p) (only-10 p)) next
+                        tt,
+                  ),
+            ),
+      )
 
   abbrev made : Out
   made = interning forest
@@ -240,14 +256,10 @@ module _ (c : Call) where
   late-exact : Exact (Applies c) (late (c .room) (interning (c .forest)))
   unfolding treeChecks
   late-exact =
-      (λ p. (
-        λ e. at-11 p (reading-exactly forest p .0 (refused-at 11 made p .0 e)),
-        λ h. refused-at 11 made p .1 (reading-exactly forest p .1 (only-11 p h)),
-      )) next
-      (λ p. (
-        λ e. at-12 p (symbol-exactly forest p .0 (refused-at 12 made p .0 e)),
-        λ h. refused-at 12 made p .1 (symbol-exactly forest p .1 (only-12 p h)),
-      )) next
+      (λ p. case 11 p (refused-at 11 made p)
+      (λ e. at-11 p (reading-exactly forest p .0 e)) (λ h. reading-exactly forest p .1 (only-11 p h))) next
+      (λ p. case 12 p (refused-at 12 made p)
+      (λ e. at-12 p (symbol-exactly forest p .0 e)) (λ h. symbol-exactly forest p .1 (only-12 p h))) next
       at-tree (check13 (c .room)) (TooLarge (c .room)) 13 (check-13 (c .room)) at-13 only-13 next
       at-tree check14 (λ o. 64 < depth (treeOf o)) 14 check-14 at-14 only-14 next
       tt

@@ -1,12 +1,10 @@
--- Each check of a forest fails exactly where its number's condition holds: `check-2` to `check-7`; those of 8 to 10
--- are `first-place` itself.
--- In order: tests joined by "or"; the first marked place; records that fail a test; pairs; trees that do not close;
--- the checks.
+-- Each check up to 6 fails exactly where its number's condition holds: `check-2` to `check-6`.
+-- In order: tests joined by "or"; records that fail a test; pairs; trees that do not close; the checks.
 -- Assumes nothing.
 use mathlib.Core.Path.{_≡_, refl, ap, sym, _∙_, subst}
 use mathlib.Core.Logic.{_⊎_, inl, inr, _↔_, _≢_}
 use mathlib.Core.Bool.{Bool, true, false, not, _&&_, _||_}
-use mathlib.Core.Option.{Option, none, some, Option·some-injective}
+use mathlib.Core.Option.{none, some, Option·some-injective}
 use mathlib.Core.List.{List, [], _∷_, map}
 use Prim.Native.Nat.{ℕ, zero, suc, _+_, _≤_, _<_}
 use native.Mathlib.Omega.{arith}
@@ -17,16 +15,17 @@ use Rattle.model.specs.Lists.{first}
 use Rattle.model.specs.Answer.{at0}
 use Rattle.model.specs.Tree.{Row}
 use Rattle.model.specs.Shape.{Pairs, fits, agrees}
-use Rattle.model.specs.Forest.{treeCount, recordCount, pairsOf, rowsIn, treesOf, bodyStart, check2, badPairs, check3}
-use Rattle.model.specs.Forest.{check4, check5, unclosed, check6, deeps, check7}
+use Rattle.model.specs.Forest.{treeCount, recordCount, pairsOf, rowsIn, bodyStart, check2, badPairs, check3}
+use Rattle.model.specs.Forest.{check4, check5, unclosed, check6}
 use Rattle.laws.proofs.Apart.{none-some}
 use Rattle.laws.proofs.Members.{clash, and-both, both-and}
 use Rattle.laws.proofs.Header.{pair-count, row-count}
-use Rattle.model.specs.Places.{First, noRecord, children}
+use Rattle.model.specs.Places.{First, noRecord, recordAt, children}
 use Rattle.model.specs.ShapeRules.{IsRight, ShapeOffends}
 use Rattle.model.specs.OpcodeRules.{Together, OpcodeOffends}
-use Rattle.model.specs.Conditions.{Marked, InRange, HeaderOffends, startOf, PairOffends, DirectoryOffends}
+use Rattle.model.specs.Conditions.{InRange, HeaderOffends, startOf, PairOffends, DirectoryOffends}
 use Rattle.model.specs.Conditions.{TreesOffend, directoryEnd}
+use Rattle.theory.proofs.Demand3.Marks.{Marked, first-of, none-marked}
 use Rattle.theory.proofs.Demand3.ShapeRules.{fits-right}
 use Rattle.theory.proofs.Demand3.OpcodeRules.{agrees-together}
 
@@ -46,46 +45,6 @@ less a b = (ltb-true a b, lt-ltb a b)
 pub at-0 : (b : Bool) (p : ℕ) → (at0 b ≡ some p) ↔ ((p ≡ 0) × (b ≡ true))
 at-0 true p = (λ e. (cc, refl), λ h. ap some (sym (h .0)))
 at-0 false p = (λ e. none-some e, λ h. absurd (clash false (h .1) refl))
-
--- ---- the first marked place
-
-first-some : (bs : List Bool) (p : ℕ) → first bs ≡ some p → First (Marked bs) p
-unfolding first
-first-some [] p e = none-some e
-first-some (true ∷ bs) p e =
-    subst (First (Marked (true ∷ bs))) (Option·some-injective _ _ e) (refl, λ q l. absurd (omega arith))
-first-some (false ∷ bs) p e = go (first bs) refl e (λ i f. first-some bs i f)
-  where
-    step : (i : ℕ) → First (Marked bs) i → First (Marked (false ∷ bs)) (suc i)
-    step i h = (h .0, lower)
-      where
-        lower : (q : ℕ) → q < suc i → Marked (false ∷ bs) q → ⊥
-        lower zero l m = clash false m refl
-        lower (suc q) l m = h .1 q (omega arith) m
-
-    go : (o : Option ℕ) → first bs ≡ o → elim o [ none ↦ none | some i ↦ some (suc i) ] ≡ some p →
-        ((i : ℕ) → first bs ≡ some i → First (Marked bs) i) → First (Marked (false ∷ bs)) p
-    go none f e rest = none-some e
-    go (some i) f e rest = subst (First (Marked (false ∷ bs))) (Option·some-injective _ _ e) (step i (rest i f))
-
-some-first : (bs : List Bool) (p : ℕ) → First (Marked bs) p → first bs ≡ some p
-unfolding first
-some-first [] p h = absurd (clash false (h .0) refl)
-some-first (true ∷ bs) zero h = refl
-some-first (true ∷ bs) (suc p) h = absurd (h .1 0 (omega arith) refl)
-some-first (false ∷ bs) zero h = absurd (clash false (h .0) refl)
-some-first (false ∷ bs) (suc p) h = rw (some-first bs p (h .0, λ q l m. h .1 (suc q) (omega arith) m), first)
-
--- `first` gives the least place that is marked
-pub first-place : (bs : List Bool) (p : ℕ) → (first bs ≡ some p) ↔ First (Marked bs) p
-first-place bs p = (first-some bs p, some-first bs p)
-
--- the same of marks that say P
-first-of : (P : ℕ → Type 0) (bs : List Bool) → ((q : ℕ) → Marked bs q ↔ P q) → (p : ℕ) → (first bs ≡ some p) ↔ First P p
-first-of P bs same p = (
-  λ e. let h = first-some bs p e in (same p .0 (h .0), λ q l m. h .1 q l (same q .1 m)),
-  λ h. some-first bs p (same p .1 (h .0), λ q l m. h .1 q l (same q .0 m)),
-)
 
 -- ---- records that fail a test
 
@@ -324,6 +283,20 @@ module _ (forest : List ℕ) where
   check-4 = first-of (ShapeOffends forest) (map (λ r. not (fits r)) (rowsIn forest)) λ q.
       rw (← row-count forest) (marked-fails fits IsRight fits-right (rowsIn forest) q)
 
+  -- where it passes, every record is right for its shape
+  pub row-right : check4 forest ≡ none → (p : ℕ) → p < recordCount forest → IsRight (recordAt forest p)
+  unfolding check4
+  row-right four p l = go (fits (recordAt forest p)) refl
+    where
+      marks : List Bool
+      marks = map (λ r. not (fits r)) (rowsIn forest)
+
+      go : (b : Bool) → fits (recordAt forest p) ≡ b → IsRight (recordAt forest p)
+      go true e = fits-right (recordAt forest p) .0 e
+      go false e =
+          absurd (none-marked marks four p (marked-fails fits IsRight fits-right (rowsIn forest) p .1
+          (omega (arith, row-count forest), λ t. clash _ (fits-right (recordAt forest p) .1 t) e)))
+
   pub check-5 : (p : ℕ) → (check5 forest ≡ some p) ↔ First (OpcodeOffends forest) p
   unfolding check5
   check-5 = first-of (OpcodeOffends forest) (map (λ r. not (agrees (r .rec))) (rowsIn forest)) λ q.
@@ -337,7 +310,3 @@ module _ (forest : List ℕ) where
         let z : w .0 ≡ p = omega (arith, w .1) in subst (Unclosed (treeCount forest) (rowsIn forest)) z (w .2),
     λ h. some-unclosed (treeCount forest) 0 (rowsIn forest) p h ∙ ap some (omega arith),
   )
-
-  pub check-7 : (p : ℕ) → (check7 forest ≡ some p) ↔ First (Marked (deeps (treesOf forest) 1)) p
-  unfolding check7
-  check-7 = first-place (deeps (treesOf forest) 1)
