@@ -16,13 +16,13 @@ use Rattle.model.specs.Forest.{recordCount, treesOf, check6}
 use Rattle.model.specs.Accept.{checks, accept}
 use Rattle.model.specs.Conditions.{DirectoryOffends, TreesOffend}
 use Rattle.laws.proofs.Apart.{none-some}
+use Rattle.laws.proofs.Clear.{faultsIn-length}
 use Rattle.laws.proofs.Checks.{Says, _next_, first-says, refused-first}
 use Rattle.laws.proofs.Header.{header-of, row-count}
 use Rattle.laws.proofs.Rows.{sizes-rows, closed-trees}
 use Rattle.theory.proofs.Demand3.Places.{check-2, check-3, check-4, check-5, check-6}
 use Rattle.walk.specs.Faults.{checkBy, start}
 use Rattle.walk.proofs.Checks.{check-7, check-8, check-9, check-10}
-use Rattle.walk.proofs.Steps.{faultsIn-length}
 
 -- ---- the first true of a list
 

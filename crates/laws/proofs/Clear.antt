@@ -1,15 +1,16 @@
 -- Lists of tests: `Clear` says that no test is true, which is when `first` finds no place.
 --
--- In order: `Clear`, and `_++_`; trees in a row; `Clear` and `first`. A check that passes is taken apart, and put
--- together, by these.
+-- In order: `Clear`, and `_++_`; trees in a row; `Clear` and `first`; how many tests a walk makes. A check that passes
+-- is taken apart, and put together, by these.
 -- Assumes nothing.
-use mathlib.Core.Path.{_≡_, refl}
+use mathlib.Core.Path.{_≡_, refl, ap, ap₂, _∙_}
 use mathlib.Core.Bool.{Bool, true, false}
 use mathlib.Core.Option.{Option, none, some}
 use mathlib.Core.List.{List, [], _∷_, _++_}
-use Prim.Native.Nat.{ℕ, suc}
+use Prim.Native.Nat.{ℕ, suc, _+_}
+use lib.ListN.{length, length-append}
 use Rattle.model.specs.Lists.{first}
-use Rattle.model.specs.Tree.{Tree, Trees, cons}
+use Rattle.model.specs.Tree.{Tree, Trees, node, nil, cons, size, sizes}
 use Rattle.model.specs.Faults.{Check, faults, faultsIn}
 use Rattle.laws.specs.Clear.{Clear}
 use Rattle.laws.proofs.Apart.{some-none}
@@ -62,3 +63,18 @@ unfolding first
 clear-first [] h = refl
 clear-first (true ∷ bs) h = cc
 clear-first (false ∷ bs) h = rw (clear-first bs (h .1))
+
+-- ---- how many tests a walk makes: one a record
+
+module _ {C : Type 0} (k : Check C) where
+  mutual
+    unfolding faults size
+
+    pub faults-length : (t : Tree) (c : C) → length (faults k t c) ≡ size t
+    faults-length (node r ts) c = ap suc (faultsIn-length ts (k .inner r c))
+
+    pub faultsIn-length : (ts : Trees) (c : C) → length (faultsIn k ts c) ≡ sizes ts
+    faultsIn-length nil c = refl
+    faultsIn-length (cons t ts) c =
+        length-append (faults k t (k .here c ts)) (faultsIn k ts (k .later t c)) ∙
+        ap₂ _+_ (faults-length t (k .here c ts)) (faultsIn-length ts (k .later t c))

@@ -9,12 +9,13 @@ use mathlib.Core.List.{List, _∷_, _++_, []}
 use native.Mathlib.Omega.{arith}
 use borrow.Author.Tests.{lt-ltb, le-ltb}
 use lib.Dec.{ltb}
-use lib.ListN.{length, length-append}
+use lib.ListN.{length}
 use Rattle.model.specs.Lists.{first}
 use Rattle.model.specs.Tree.{Rec, Tree, Trees, node, nil, cons, isNil, many, takeT, dropT, size, sizes}
 use Rattle.model.specs.Faults.{Check, faults, faultsIn}
 use Rattle.model.specs.Forest.{recordCount}
 use Rattle.laws.proofs.Apart.{some-none}
+use Rattle.laws.proofs.Clear.{faults-length}
 use Rattle.walk.specs.declared.Walk.the-variants.{Next}
 use Rattle.walk.specs.Faults.{Ctx, testing}
 use Rattle.walk.specs.Walk.{treesFrom, restAt, treeAt, shift, Comes}
@@ -92,27 +93,11 @@ module _ {C : Type 0} (k : Check C) where
 
   -- ---- trees in a row
 
-  mutual
-    unfolding faults size
-
-    faults-length : (t : Tree) (c : C) → length (faults k t c) ≡ size t
-    faults-length (node r ts) c = ap suc (faultsIn-length ts (k .inner r c))
-
-    pub faultsIn-length : (ts : Trees) (c : C) → length (faultsIn k ts c) ≡ sizes ts
-    faultsIn-length nil c = refl
-    faultsIn-length (cons t ts) c =
-        omega (
-          arith,
-          length-append (faults k t (k .here c ts)) (faultsIn k ts (k .later t c)),
-          faults-length t (k .here c ts),
-          faultsIn-length ts (k .later t c),
-        )
-
   row-passes : (j : ℕ) (t : Tree) (ts : Trees) (c : C) → none ≡ shift j (first (faults k t (k .here c ts))) →
       shift (j + size t) (first (faultsIn k ts (k .later t c))) ≡ shift j (first (faultsIn k (cons t ts) c))
   unfolding faults
   row-passes j t ts c e =
-      ap (λ (n : ℕ). shift (j + n) (first (faultsIn k ts (k .later t c)))) (sym (faults-length t (k .here c ts)))
+      ap (λ (n : ℕ). shift (j + n) (first (faultsIn k ts (k .later t c)))) (sym (faults-length k t (k .here c ts)))
       ∙ sym (shift-shift j (length (faults k t (k .here c ts))) (first (faultsIn k ts (k .later t c))))
       ∙ ap (shift j) (sym (first-later (faults k t (k .here c ts)) (faultsIn k ts (k .later t c)) clear))
     where

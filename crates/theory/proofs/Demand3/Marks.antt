@@ -1,7 +1,7 @@
 -- What a check that marks records finds: the first place that is marked; what the walk of checks 7 to 10 marks.
 -- In order: the first marked place; no place found; what the walk says of each record.
 -- Assumes nothing.
-use mathlib.Core.Path.{_≡_, refl, ap, ap₂, sym, _∙_, subst}
+use mathlib.Core.Path.{_≡_, refl, ap, sym, _∙_, subst}
 use mathlib.Core.Logic.{_↔_}
 use mathlib.Core.Bool.{Bool, true, false}
 use mathlib.Core.Option.{Option, none, some, Option·some-injective}
@@ -9,17 +9,17 @@ use mathlib.Core.List.{List, [], _∷_}
 use Prim.Native.Nat.{ℕ, zero, suc, _+_, _<_}
 use native.Mathlib.Omega.{arith}
 use lib.Dec.{ltb}
-use lib.ListN.{length, getD, length-append, List·getD-eq-default}
+use lib.ListN.{length, getD, List·getD-eq-default}
 use borrow.Author.Tests.{ltb-true, ltb-false}
 use Rattle.model.specs.Lists.{first}
-use Rattle.model.specs.Tree.{Rec, Tree, Trees, node, nil, cons, size, sizes}
+use Rattle.model.specs.Tree.{Rec, Trees, node, cons, sizes}
 use Rattle.model.specs.Faults.{Check, faults, faultsIn}
 use Rattle.model.specs.Places.{First}
 use Rattle.model.specs.Nesting.{recIn}
 use Rattle.laws.specs.Clear.{Clear}
 use Rattle.laws.proofs.Apart.{none-some, false-true}
 use Rattle.laws.proofs.Members.{clash}
-use Rattle.laws.proofs.Clear.{first-clear}
+use Rattle.laws.proofs.Clear.{first-clear, faultsIn-length}
 use Rattle.theory.proofs.Demand3.Nesting.{Spot, top, under, later, spot, by-parts, joined-left, joined-right}
 use Rattle.theory.proofs.Demand3.Nesting.{rec-top, rec-under, rec-later, all-sizes, nil-sizes}
 
@@ -85,20 +85,8 @@ marked-there bs n p e m = go (ltb p n) refl
 -- ---- what the walk says of each record
 
 module _ {C : Type 0} (k : Check C) where
-  mutual
-    unfolding faults size
-
-    fault-length : (t : Tree) (c : C) → length (faults k t c) ≡ size t
-    fault-length (node r ts) c = ap suc (fault-lengths ts (k .inner r c))
-
-    fault-lengths : (ts : Trees) (c : C) → length (faultsIn k ts c) ≡ sizes ts
-    fault-lengths nil c = refl
-    fault-lengths (cons t ts) c =
-        length-append (faults k t (k .here c ts)) (faultsIn k ts (k .later t c)) ∙
-        ap₂ _+_ (fault-length t (k .here c ts)) (fault-lengths ts (k .later t c))
-
   pub fault-there : (ts : Trees) (c : C) (p : ℕ) → Marked (faultsIn k ts c) p → p < sizes ts
-  fault-there ts c p = marked-there (faultsIn k ts c) (sizes ts) p (fault-lengths ts c)
+  fault-there ts c p = marked-there (faultsIn k ts c) (sizes ts) p (faultsIn-length k ts c)
 
   -- d is what the check knows at record p of trees in a row, at which it knows c: `At ts c p d`. It is what it knows at
   -- the first record, or at one below it, or at one of the later trees
@@ -125,7 +113,7 @@ module _ {C : Type 0} (k : Check C) where
             let w = f (k .inner r (k .here c ts)) q j in (
               w .0,
               joined-left (faultsIn k us (k .inner r (k .here c ts))) _ false (sizes us)
-                  (fault-lengths us (k .inner r (k .here c ts))) q j ∙
+                  (faultsIn-length k us (k .inner r (k .here c ts))) q j ∙
                   w .1 ∙ ap (k .offends (w .0)) (sym (rec-under r us ts q j)),
               at-under r us ts c q (w .0) j (w .2),
             )
@@ -133,7 +121,7 @@ module _ {C : Type 0} (k : Check C) where
             let w = g (k .later (node r us) c) q (omega (arith, all-sizes r us ts)) in (
               w .0,
               joined-right (faultsIn k us (k .inner r (k .here c ts))) (faultsIn k ts (k .later (node r us) c)) false
-                  (sizes us) (fault-lengths us (k .inner r (k .here c ts))) q ∙
+                  (sizes us) (faultsIn-length k us (k .inner r (k .here c ts))) q ∙
                   w .1 ∙ ap (k .offends (w .0)) (sym (rec-later r us ts q)),
               at-later r us ts c q (w .0) (w .2),
             )
