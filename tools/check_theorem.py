@@ -13,7 +13,7 @@ fact that no longer holds. For each edit, in a temporary copy of the crates:
 - crate theory is refused. The first refused declaration is printed, with the beginning of what the checker says; it has to be
   the one below. (Folder Bounds, and the laws of building that only code cites, are passed over: the theorem does not need them.)
 
-edit       the fact that fails, and why it is the theorem's
+edit       the fact that fails, and why it is the theorem's: the written tree
 hoist      define-built takes from `member` that a definition's symbol is of the scope that is written. Only then are the arguments
            that it depends on in force there; else it is written outside its lambda.
 one-id     numbered-once: the ids of a lambda's arguments stand once. Else two arguments are one, and check 9 refuses the tree.
@@ -23,12 +23,26 @@ children   isKey-true: a symbol found by its key has the children that were soug
 next-id    ids-def: each id given is in force after its definition. Else a use is written of an id that nothing binds.
 placement  climb-stays: a symbol stays inside each lambda on whose arguments it depends. Else it is written outside of it.
 
+edit       the fact that fails: a number is given exactly where its condition holds
+readings   cut-read, of the log of an interning without limits: the reading that interning refuses is the 2,049th.
+symbols    cut-read, which has the limit of symbols too: none of those up to the 512th is refused.
+inputs     one-fields: the table of opcodes says what the paper says of A4. A forest is computed that is then written.
+depth      too-deep: check 7 marks what is deeper than 64. A forest is computed that then has another number.
+
+The conditions are edited as well, which are no part of what the call does; the check is then not exact for them:
+tuple      agrees-together: 86 and Tuple go together both ways (5).
+parent     stands-under: a definition stands in a block, in no other record (8).
+own-value  force-loose: a definition is not in force in its own value (9, 10).
+past-block force-loose: nor past its block (9, 10).
+
+For the limits no forest is computed (it would take 1,001 readings), nor for an edit of a condition.
+
 And one that must be accepted, so that a refusal says something: `gate` defines symbols that are used once, too. What is hoisted
 within its own scope is no matter of meaning, so the theorem holds (though the tree is then not the one that document 01 defines).
 `hoist` has that edit as well: of the symbols of deeper scopes, a schedule has only lambdas' bodies that depend on an argument not
 in force, and a lambda's body is used once.
 
-Exit status: 0 if each edit is refused with its counterexample and `gate` is accepted, 1 if not, 2 if the checker itself failed."""
+Exit status: 0 if each edit is refused at its fact, with its counterexample if it has one, and `gate` is accepted, 1 if not, 2 if the checker itself failed."""
 import argparse
 import os
 import re
@@ -42,7 +56,7 @@ TOP = os.path.dirname(os.path.dirname(os.path.abspath(__file__)))
 CRATES = ("model", "laws", "theory")
 
 COUNTER = """-- What becomes of a small forest: is the written tree accepted, and does it unfold to what the root unfolds to?
-use Prim.Native.Nat.{ℕ}
+use Prim.Native.Nat.{ℕ, zero, suc}
 use mathlib.Core.Path.{_≡_, refl}
 use mathlib.Core.Bool.{Bool, true, false, _&&_}
 use mathlib.Core.List.{List, [], _∷_, _++_}
@@ -144,16 +158,25 @@ L2 i j b = node (rec 12 0xD9 2 (put32 i ++ (0 ∷ (put32 j ++ (0 ∷ []))))) (co
 B : ℕ → Tree → Tree → Tree
 B i a r = node (rec 11 0xD8 0 []) (cons (node (rec 10 0xD6 0 (put32 i ++ (0 ∷ []))) (cons a nil)) (cons r nil))
 
+-- an operation of one operand under INPUTS, which is Zero
+i : Tree → Tree
+i a = node (rec 3 0xA4 0 []) (cons a nil)
+
+-- n so many times
+deep : ℕ → Tree
+deep zero = z
+deep (suc d) = n (deep d)
+
 -- ---- the forests
 """
 FATE = """
 {name} : fate ({tree}) ≡ {fate}
-unfolding fate called after-call read-back equal equalRecs equalOpts z h k n p u L L2 computing
+unfolding fate called after-call read-back equal equalRecs equalOpts z h k n p u L L2 i deep computing
 {name} = refl
 """
 WRITTEN = """
 {name}-tree : is (called ({tree})) ({written}) ≡ true
-unfolding is called z h k n p u L L2 B computing
+unfolding is called z h k n p u L L2 B i deep computing
 {name}-tree = refl
 """
 
@@ -165,18 +188,22 @@ GIVEN = "theory/proofs/Building/Given"
 NUMBERED = "theory/proofs/Building/Numbered"
 FINISH = "theory/proofs/Interning/Finish"
 INV = "theory/proofs/Interning/Inv"
+NESTING, RULES = (f"model/specs/{name}" for name in ("Nesting", "OpcodeRules"))
+TRACE, COUNTED, TOGETHER, DEPTHS, PLACED, IDS = (
+    f"theory/proofs/Demand3/{name}" for name in ("Trace", "Counted", "OpcodeRules", "Depths", "Placed", "Ids"))
 ONCE = ("shouldHoist (symOf g s) (usage g s)", "shouldHoist (symOf g s) (suc (usage g s))")
 SAME_REC = "(rec ({0} .shape) ({0} .opcode) ({0} .aux) (r .lit)) r"
 NEXT = "suc (suc last)"
 
 
 class Edit:
-    def __init__(self, name, says, edits, words, fact=None, tree=None, fate=None, written=None):
+    def __init__(self, name, says, edits, words, fact=None, tree=None, fate=None, written=None, was="unfolds true"):
         """`edits` are to model and stand once each; `words` are the same words where theory repeats them; `fact` is the
-        declaration that has to be refused first, of those that the theorem needs; `fate` is what
-        becomes of `tree`, which is written as `written`; both in the letters of COUNTER."""
+        declaration that has to be refused first, of those that the theorem needs; `fate` is what becomes of `tree`, if
+        there is one, which is written as `written`, if that is to be shown, both in the letters of COUNTER; `was` is its
+        fate under the definitions as they are."""
         self.name, self.says, self.edits, self.words = name, says, edits, words
-        self.fact, self.tree, self.fate, self.written = fact, tree, fate, written
+        self.fact, self.tree, self.fate, self.written, self.was = fact, tree, fate, written, was
 
 
 EDITS = [
@@ -216,6 +243,43 @@ EDITS = [
          [(INTERN, "elim (anyIn xs deps)", "elim (anyIn xs [])")],
          [(INV, "elim (anyIn xs deps)", "elim (anyIn xs [])"), (INV, "anyIn xs deps ≡ t", "anyIn xs [] ≡ t")],
          "climb-stays", "L 7 (p (n (u 7)) (n (u 7)))", "not-accepted 10 3", "B 1 (n (u 0)) (L 2 (p (u 1) (u 1)))"),
+    Edit("readings", "interning refuses over 1,000 readings",
+         [(INTERN, "ltb (st .readings) 2048", "ltb (st .readings) 1000")],
+         [(f"theory/proofs/{f}", "2048", "1000") for f in
+          ("Promise/Refusals", "Interning/Walk", "Interning/Reread", "Interning/Reread/Walk", "Interning/Reread/Later")]
+         + [(TRACE, "2048", "1000"), (COUNTED, "lt-ltb r 2048", "lt-ltb r 1000"), (COUNTED, "le-ltb r 2048", "le-ltb r 1000")],
+         "cut-read"),
+    Edit("symbols", "interning refuses over 100 symbols",
+         [(INTERN, "ltb (length (st .syms)) 512", "ltb (length (st .syms)) 100")],
+         [(f"theory/proofs/{f}", "512", "100") for f in
+          ("Promise/Refusals", "Interning/Lambda", "Interning/Fresh", "Interning/Finish", "Interning/Reread/Kinds",
+           "Interning/Reread/Finds")]
+         + [(TRACE, "512", "100"), (COUNTED, "lt-ltb s 512", "lt-ltb s 100"), (COUNTED, "le-ltb s 512", "le-ltb s 100")],
+         "cut-read"),
+    Edit("inputs", "A4 is not in the table of opcodes (A3 stands there twice)",
+         [("model/specs/Shape", "(InputsOp, Zero)", "(HeightOp, Zero)")], [],
+         "one-fields", "i z", "unfolds true", "i z", "call-refuses 5 0"),
+    Edit("depth", "check 7 lets a depth of 65 pass",
+         [("model/specs/Forest", "ltb 64 d", "ltb 65 d")],
+         [("theory/proofs/Acceptance/Bytes", "le-ltb 64 d", "le-ltb 65 d"), (DEPTHS, "ltb 64 e", "ltb 65 e"),
+          (DEPTHS, "ltb-true 64", "ltb-true 65"), (DEPTHS, "lt-ltb 64", "lt-ltb 65")],
+         "too-deep", "deep 64", "call-refuses 14 0", None, "call-refuses 7 64"),
+    Edit("tuple", "opcode 86 is for Tuple, which may have another opcode",
+         [(RULES, "(o ≡ 0x86) ↔ (s ≡ 16)", "o ≡ 0x86 → s ≡ 16")], [(TOGETHER, "tuple = x .5;", "tuple = x .5 .0;")],
+         "agrees-together"),
+    Edit("parent", "a definition may stand in any record but a constant",
+         [(NESTING, "(shapeIn ts b ≡ BlockValue) ×", "(1 ≤ shapeIn ts b) ×")],
+         [(PLACED, "ap (λ z. z .shape) (rec-under r us ts b j) ∙ s", "omega (arith, s, ap (λ z. z .shape) (rec-under r us ts b j))"),
+          (PLACED, "ap (λ z. z .shape) (rec-top r us ts) ∙ eqb-true (r .shape) 11 s",
+           "omega (arith, ap (λ z. z .shape) (rec-top r us ts), eqb-true (r .shape) 11 s)"),
+          (PLACED, "shapeIn W b ≡ 11", "1 ≤ shapeIn W b"), (PLACED, "{ℕ, suc, _+_, _<_}", "{ℕ, suc, _+_, _<_, _≤_}")],
+         "stands-under"),
+    Edit("own-value", "a definition is in force in its own value",
+         [(NESTING, "endOf ts d ≤ p →", "d < p →")],
+         [(IDS, "(w .1) (w .2) h (f", "(w .1) (w .2) (omega (arith, h, extent-fits ts d l .0)) (f")], "force-loose"),
+    Edit("past-block", "a definition is in force at the record after its block",
+         [(NESTING, "p < endOf ts b → InForce", "p ≤ endOf ts b → InForce")],
+         [(IDS, "(f (w .0) (w .2 .0) .1)", "(omega (arith, f (w .0) (w .2 .0) .1))")], "force-loose"),
 ]
 GATE = Edit("gate", "symbols that are used once are defined, too", [(MEMBER, *ONCE)], [(SCOPES, *ONCE)])
 
@@ -280,13 +344,16 @@ def judge(edit):
     lines = [f"{edit.name}: {edit.says}"]
     lines += [f"  {place}: {old}  becomes  {new}" for place, old, new in edit.edits]
     words = dict(name="it", tree=edit.tree, fate=edit.fate, written=edit.written)
-    proved, said = checked(edit, [FATE.format(**words), WRITTEN.format(**words)] if edit.tree else [], "theory")
+    proved, said = checked(edit, [text.format(**words) for text, there in ((FATE, edit.tree), (WRITTEN, edit.written)) if there],
+                           "theory")
     if edit is GATE:
         lines.append("  accepted, as it should be" if proved else "  REFUSED: " + said[-800:])
         return lines, proved
     if "rt: model proved" not in said:
         return lines + ["  NO COUNTEREXAMPLE: " + said[-800:]], False
-    lines.append(f"  computed: {edit.tree} is written as {edit.written}, whose fate is: {edit.fate}")
+    if edit.tree:
+        written = f" is written as {edit.written}, whose fate is" if edit.written else ", whose fate is"
+        lines.append(f"  computed: {edit.tree}{written}: {edit.fate}")
     errors = re.findall(r"^(\S+):(\d+):\d+: error: `([^`]*)`: (.*)$", said, re.M)
     errors = [e for e in errors if "was not admitted" not in e[3] and "/Bounds/" not in e[0]]
     if proved or not errors:
@@ -306,18 +373,18 @@ def main():
     known = EDITS + [GATE]
     if set(options.names) - {e.name for e in known} or options.jobs < 1:
         fail("the names are " + ", ".join(e.name for e in known))
-    fates = [FATE.format(name=f"it{i}", tree=e.tree, fate="unfolds true") for i, e in enumerate(EDITS)]
+    fates = [FATE.format(name=f"it{i}", tree=e.tree, fate=e.was) for i, e in enumerate(EDITS) if e.tree]
     proved, said = checked(None, fates, "model")
     if not proved:
         print("the forests, under the definitions as they are: REFUSED\n" + said[-2000:])
         return 1
-    print("the forests, under the definitions as they are: written, accepted, and unfold equally")
+    print("the forests, under the definitions as they are: written, accepted, and unfold equally, or refused as they should be")
     right = True
     with ThreadPoolExecutor(options.jobs) as pool:
         for lines, ok in pool.map(judge, [e for e in known if not options.names or e.name in options.names]):
             print("\n".join(lines))
             right = right and ok
-    print("each edit is refused, with a counterexample" if right else "NOT as it should be")
+    print("each edit is refused at its fact" if right else "NOT as it should be")
     return 0 if right else 1
 
 

@@ -1,4 +1,5 @@
--- Condition 4: what a record of each shape has to be, a line a shape, as the paper lists them.
+-- Condition 4: what a record of each shape has to be, a line a shape, as the paper lists them. It can only be that list
+-- again, as Shape has it; but a literal is said to be parts put together, where the check reads it part by part.
 -- In order: byte strings; the shapes; the condition; the arguments of a lambda.
 -- Assumes nothing.
 use mathlib.Core.Path.{_≡_}

@@ -3,7 +3,8 @@
 -- In order: events; values with their log; interning with a log; conditions 11 and 12.
 --
 -- A primed name is Intern's definition of that name, line for line: `note` stands where Intern has a `guard`. Whatever
--- makes no event (keys, placement, bindings, scopes) is Intern's own.
+-- makes no event (keys, placement, bindings, scopes) is Intern's own. `theory` proves that with the limits put on the log
+-- it is Intern (Demand3/Trace), so one of the two is enough to be read.
 -- Assumes nothing.
 use mathlib.Core.Path.{_≡_}
 use Prim.Native.Nat.{ℕ, suc, _+_, _≤_}
@@ -15,6 +16,7 @@ use lib.ListN.{length, getD}
 use Rattle.model.specs.Lists.{without, last}
 use Rattle.model.specs.Tree.{Rec, rec, Tree, Trees, node, nil, cons, size}
 use Rattle.model.specs.Forest.{treesOf}
+use Rattle.model.specs.Opcodes.{Tuple}
 use Rattle.model.specs.Binding.{Kind, kind, valUse, valDef, block, lambda, field, other, idOf, argsOf}
 use Rattle.model.specs.Intern.{Node, argument, func, operation, State, start, symAt, lookup, unionDeps, push, Env}
 use Rattle.model.specs.Intern.{withOpts, resolve, bindArgs, bindDef, openScope, openThunk, closeThunk, thunked, branch}
@@ -116,7 +118,7 @@ internField′ at cur r env kids ks st =
     let i = getD (r .lit) 0 0 in
     elim (eqb i 1 || eqb i 2) [
       | false ↦ finish′ at cur r ks [] (operation []) st
-      | true ↦ elim (eqb (symAt (st .syms) (last ks) .rec .shape) 16) [
+      | true ↦ elim (eqb (symAt (st .syms) (last ks) .rec .shape) Tuple) [
         | false ↦ pairProjection′ at cur r i (last ks) st
         | true ↦ internGeneral′ at cur r (kids cur env st)
       ]
