@@ -26,11 +26,11 @@ placement  climb-stays: a symbol stays inside each lambda on whose arguments it 
 edit       the fact that fails: a number is given exactly where its condition holds
 readings   cut-read, of the log of an interning without limits: the reading that interning refuses is the 2,049th.
 symbols    cut-read, which has the limit of symbols too: none of those up to the 512th is refused.
-inputs     one-fields: the table of opcodes says what the paper says of A4. A forest is computed that is then written.
+inputs     listed: the tables say the paper's fifteen statements on opcodes, and so the one on A4. A forest is computed that is then written.
 depth      too-deep: check 7 marks what is deeper than 64. A forest is computed that then has another number.
 
 The conditions are edited as well, which are no part of what the call does; the check is then not exact for them:
-tuple      agrees-together: 86 and Tuple go together both ways (5).
+tuple      both-listed: 86 and Tuple go together both ways (5).
 parent     stands-under: a definition stands in a block, in no other record (8).
 own-value  force-loose: a definition is not in force in its own value (9, 10).
 past-block force-loose: nor past its block (9, 10).
@@ -256,17 +256,19 @@ EDITS = [
            "Interning/Reread/Finds")]
          + [(TRACE, "512", "100"), (COUNTED, "lt-ltb s 512", "lt-ltb s 100"), (COUNTED, "le-ltb s 512", "le-ltb s 100")],
          "cut-read"),
-    Edit("inputs", "A4 is not in the table of opcodes (A3 stands there twice)",
-         [("model/specs/Shape", "(InputsOp, Zero)", "(HeightOp, Zero)")], [],
-         "one-fields", "i z", "unfolds true", "i z", "call-refuses 5 0"),
+    Edit("inputs", "A4 is not in the table of opcodes",
+         [("model/specs/Shape", "(InputsOp, Zero) ∷ ", "")], [],
+         "listed", "i z", "unfolds true", "i z", "call-refuses 5 0"),
     Edit("depth", "check 7 lets a depth of 65 pass",
          [("model/specs/Forest", "ltb 64 d", "ltb 65 d")],
          [("theory/proofs/Acceptance/Bytes", "le-ltb 64 d", "le-ltb 65 d"), (DEPTHS, "ltb 64 e", "ltb 65 e"),
           (DEPTHS, "ltb-true 64", "ltb-true 65"), (DEPTHS, "lt-ltb 64", "lt-ltb 65")],
          "too-deep", "deep 64", "call-refuses 14 0", None, "call-refuses 7 64"),
     Edit("tuple", "opcode 86 is for Tuple, which may have another opcode",
-         [(RULES, "(o ≡ 0x86) ↔ (s ≡ 16)", "o ≡ 0x86 → s ≡ 16")], [(TOGETHER, "tuple = x .5;", "tuple = x .5 .0;")],
-         "agrees-together"),
+         [(RULES, "(o ≡ 0x86) ↔ (s ≡ 16)", "o ≡ 0x86 → s ≡ 16")],
+         [(TOGETHER, "tuple = (x .1 .1 .1 .1 .1 .0, y .1 .1 .1 .1 .1 .0)", "tuple = x .1 .1 .1 .1 .1 .0"),
+          (TOGETHER, "t .tuple .0", "t .tuple")],
+         "both-listed"),
     Edit("parent", "a definition may stand in any record but a constant",
          [(NESTING, "(shapeIn ts b ≡ BlockValue) ×", "(1 ≤ shapeIn ts b) ×")],
          [(PLACED, "ap (λ z. z .shape) (rec-under r us ts b j) ∙ s", "omega (arith, s, ap (λ z. z .shape) (rec-under r us ts b j))"),
