@@ -3,13 +3,14 @@
 
 Usage: check_theorem.py [--jobs N] [NAME...]
 
-Each edit below gives the definitions another operand at one place and leaves their operations as they are. Where a proof repeats
-the definition's own words, the proof is given the edited words too: so the checker does not stop at words that differ, but at a
-fact that no longer holds. For each edit, in a temporary copy of the crates:
+Each edit below gives the definitions another operand at one place, or leaves one out of a table, and leaves their operations as they
+are. Where a proof repeats the definition's own words, the proof is given the edited words too: so the checker does not stop at words
+that differ, but at a fact that no longer holds. For each edit, in a temporary copy of the crates:
 
-- `refl` shows, under the edited definitions, how a small forest is written, and what becomes of that tree: it is not accepted
-  (number and place), or it unfolds to something else. So the theorem is false there, however it were proved. (The same forests,
-  under the definitions as they are, are written, accepted and unfold equally: the first thing that is checked.)
+- where there is a forest: `refl` shows, under the edited definitions, how it is written, and what becomes of that tree: it is not
+  accepted (number and place), or it unfolds to something else; or that the call gives another number than it should. So the theorem
+  is false there, however it were proved. (The same forests, under the definitions as they are, are written, accepted and unfold
+  equally, or get the number that they should: the first thing that is checked.)
 - crate theory is refused. The first refused declaration is printed, with the beginning of what the checker says; it has to be
   the one below. (Folder Bounds, and the laws of building that only code cites, are passed over: the theorem does not need them.)
 
@@ -26,8 +27,8 @@ placement  climb-stays: a symbol stays inside each lambda on whose arguments it 
 edit       the fact that fails: a number is given exactly where its condition holds
 readings   cut-read, of the log of an interning without limits: the reading that interning refuses is the 2,049th.
 symbols    cut-read, which has the limit of symbols too: none of those up to the 512th is refused.
-inputs     listed: the tables say the paper's fifteen statements on opcodes, and so the one on A4. A forest is computed that is then written.
-depth      too-deep: check 7 marks what is deeper than 64. A forest is computed that then has another number.
+inputs     listed: the tables say the paper's statements on opcodes, and so the one on A4. Else a forest is written that 5 is for.
+depth      too-deep: check 7 marks what is deeper than 64. Else a forest gets another number.
 
 The conditions are edited as well, which are no part of what the call does; the check is then not exact for them:
 tuple      both-listed: 86 and Tuple go together both ways (5).
@@ -35,14 +36,15 @@ parent     stands-under: a definition stands in a block, in no other record (8).
 own-value  force-loose: a definition is not in force in its own value (9, 10).
 past-block force-loose: nor past its block (9, 10).
 
-For the limits no forest is computed (it would take 1,001 readings), nor for an edit of a condition.
+For the limits there is no forest (it would take 1,001 readings), nor for an edit of a condition.
 
 And one that must be accepted, so that a refusal says something: `gate` defines symbols that are used once, too. What is hoisted
 within its own scope is no matter of meaning, so the theorem holds (though the tree is then not the one that document 01 defines).
 `hoist` has that edit as well: of the symbols of deeper scopes, a schedule has only lambdas' bodies that depend on an argument not
 in force, and a lambda's body is used once.
 
-Exit status: 0 if each edit is refused at its fact, with its counterexample if it has one, and `gate` is accepted, 1 if not, 2 if the checker itself failed."""
+Exit status: 0 if each edit is refused at its fact, the forests fare as said, and `gate` is accepted; 1 if not; 2 if the checker
+itself failed."""
 import argparse
 import os
 import re
