@@ -1,6 +1,6 @@
 //! Writes a copy of the pass in which `free_vars` remembers its answers: the same lists, without the time that doubles
-//! with each nested thunk. The files of the pass stay as they are; the copy is made of them by the edits below, each
-//! of which must find its text.
+//! with each nested thunk. The copy counts how many lists the main call works out, which remembers none. The files of
+//! the pass stay as they are; the copy is made of them by the edits below, each of which must find its text.
 
 use std::path::{Path, PathBuf};
 use std::{env, fs};
@@ -16,23 +16,70 @@ const WORKED_OUT: (&str, &str) = (
 /// ... nothing is remembered of another forest ...
 const FORGOTTEN: (&str, &str) = (
     "        let usage = self.flat_usage_reachable(root);\n",
-    "        FREE.with(|lists| lists.borrow_mut().clear());\n        let usage = self.flat_usage_reachable(root);\n",
+    "        forget();\n        let usage = self.flat_usage_reachable(root);\n",
 );
 
-/// ... and a list that was worked out is given again.
+/// ... an order is counted ...
+const COUNTED: (&str, &str) = (
+    "        let order = self.schedule_order(scope_root, scope);\n",
+    "        let order = self.counted_order(scope_root, scope, env, usage);\n",
+);
+
+/// ... and a list that was worked out is given again, with how many lists it took.
 const REMEMBERED: &str = "
 thread_local! {
-    static FREE: std::cell::RefCell<BTreeMap<SymId, Vec<SymId>>> = const { std::cell::RefCell::new(BTreeMap::new()) };
+    static FREE: std::cell::RefCell<BTreeMap<SymId, (Vec<SymId>, u64)>> = const { std::cell::RefCell::new(BTreeMap::new()) };
+    // Lists worked out for the order at hand, had none been remembered.
+    static LISTS: std::cell::Cell<u64> = const { std::cell::Cell::new(0) };
+    // Those of all orders that the main call makes.
+    static CALLED: std::cell::Cell<u64> = const { std::cell::Cell::new(0) };
+}
+
+fn forget() {
+    FREE.with(|lists| lists.borrow_mut().clear());
+    CALLED.set(0);
+}
+
+pub(crate) fn lists_called() -> u64 {
+    CALLED.get()
 }
 
 impl Interner {
     pub(crate) fn free_vars(&self, compound: SymId) -> Vec<SymId> {
-        if let Some(list) = FREE.with(|lists| lists.borrow().get(&compound).cloned()) {
-            return list;
-        }
-        let list = self.free_vars_anew(compound);
-        FREE.with(|lists| lists.borrow_mut().insert(compound, list.clone()));
+        let before = LISTS.get();
+        let remembered = FREE.with(|lists| lists.borrow().get(&compound).cloned());
+        let (list, lists) = remembered.unwrap_or_else(|| {
+            LISTS.set(0);
+            let list = self.free_vars_anew(compound);
+            let found = (list, LISTS.get().saturating_add(1));
+            FREE.with(|lists| lists.borrow_mut().insert(compound, found.clone()));
+            found
+        });
+        LISTS.set(before.saturating_add(lists));
         list
+    }
+
+    // The main call puts a scope in order only if a symbol up to its root may get a definition there.
+    fn counted_order(
+        &self,
+        root: SymId,
+        scope: ScopeId,
+        env: &BTreeMap<SymId, u32>,
+        usage: &BTreeMap<SymId, usize>,
+    ) -> Vec<SymId> {
+        LISTS.set(0);
+        let order = self.schedule_order(root, scope);
+        let defined = (0..=root.0).map(SymId).any(|s| {
+            let info = &self.syms[s.0 as usize];
+            info.scope == scope
+                && !matches!(info.node, Node::Arg)
+                && self.should_hoist(s, usage)
+                && !env.contains_key(&s)
+        });
+        if defined {
+            CALLED.set(CALLED.get().saturating_add(LISTS.get()));
+        }
+        order
     }
 }
 ";
@@ -46,7 +93,10 @@ fn main() {
     for name in FILES {
         let mut text = read(&source.join(format!("{name}.rs")));
         if name == "materialize" {
-            text = edited(&edited(&text, WORKED_OUT), FORGOTTEN) + REMEMBERED;
+            for edit in [WORKED_OUT, FORGOTTEN, COUNTED] {
+                text = edited(&text, edit);
+            }
+            text += REMEMBERED;
         }
         write(&copy.join(format!("{name}.rs")), &text);
     }
@@ -57,6 +107,7 @@ fn main() {
         );
         root = edited(&root, (&format!("mod {name};\n"), &inline));
     }
+    root += "pub(crate) use materialize::lists_called;\n";
     write(&copy.join("mod.rs"), &root);
 }
 

@@ -4,17 +4,17 @@ use std::collections::BTreeMap;
 use std::thread;
 
 use cse_library::{call, Numbers, MAX_WRITTEN, WORK_WORDS};
-use cse_reference::check::accept;
-use cse_reference::cost::{nesting, MAX_NESTING};
 use cse_reference::generate::Kind;
-use cse_reference::oracle::{answer_by, Answer, NoAnswer, Pass, Skipped};
+use cse_reference::oracle::{answer_deep, Answer, NoAnswer, Skipped, Work};
 use cse_reference::{damage, generate, hex};
 
 /// The stack of a Rust thread by default; every call has to pass in it.
 const STACK: usize = 2 << 20;
 
-/// The main call works free lists out anew as the original does, so its time doubles with nesting too.
-const MAX_CALLED: usize = 20;
+/// The main call works free lists out anew, as the original does, each in 0.06 to 0.2 µs on an AMD EPYC: so many take it
+/// up to a second. Their number doubles with each scope inside one that has a definition.
+const MAX_LISTS: u64 = 5_000_000;
+const TOO_LONG: &str = "over 5,000,000 free lists for the main call";
 
 /// Words past those that the call uses.
 const SPARE: usize = 16;
@@ -22,7 +22,11 @@ const SPARE: usize = 16;
 /// What came of a run.
 #[derive(Default)]
 struct Tally {
-    /// Calls by number and the copy that answered.
+    /// Forests that were compared, by number where plenty is lent.
+    compared: BTreeMap<u32, u64>,
+    /// The most scopes inside one another in these.
+    nesting: usize,
+    /// Calls by number and who made the tree.
     calls: BTreeMap<(u32, &'static str), u64>,
     /// Forests that were not compared, by reason.
     skipped: BTreeMap<&'static str, u64>,
@@ -31,6 +35,10 @@ struct Tally {
 
 impl Tally {
     fn join(&mut self, other: Tally) {
+        for (number, count) in other.compared {
+            *self.compared.entry(number).or_default() += count;
+        }
+        self.nesting = self.nesting.max(other.nesting);
         for (key, count) in other.calls {
             *self.calls.entry(key).or_default() += count;
         }
@@ -40,9 +48,10 @@ impl Tally {
         self.differences.extend(other.differences);
     }
 
-    fn print(&self, name: &str) -> bool {
-        for ((number, pass), count) in &self.calls {
-            println!("{name}: {count} calls with answer {number} ({pass})");
+    /// Prints it all; whether nothing differed and at least so many forests were compared.
+    fn print(&self, name: &str, least: u64) -> bool {
+        for ((number, maker), count) in &self.calls {
+            println!("{name}: {count} calls with answer {number} ({maker})");
         }
         for (reason, count) in &self.skipped {
             println!("{name}: {count} forests passed over: {reason}");
@@ -50,8 +59,17 @@ impl Tally {
         for line in self.differences.iter().take(20) {
             println!("{name}: DIFFERENCE {line}");
         }
-        println!("{name}: {} differences", self.differences.len());
-        self.differences.is_empty()
+        let numbers = self.compared.iter();
+        let numbers: Vec<_> = numbers.map(|(n, count)| format!("{n}: {count}")).collect();
+        let compared: u64 = self.compared.values().sum();
+        println!(
+            "{name}: {compared} forests compared, at least {least} asked for, {} passed over; by answer {}; nested up to {} deep; {} differences",
+            self.skipped.values().sum::<u64>(),
+            numbers.join(", "),
+            self.nesting,
+            self.differences.len()
+        );
+        self.differences.is_empty() && compared >= least
     }
 }
 
@@ -61,20 +79,20 @@ struct Lent {
     work: Vec<u32>,
 }
 
-pub fn accepted(kind: Kind, count: u64, seed: u64) -> bool {
+pub fn accepted(kind: Kind, count: u64, seed: u64, least: u64) -> bool {
     let bytes = |seed| generate::accepted(seed, kind).to_bytes();
     in_two(count, seed, |seed, lent, tally| {
         compare(&bytes(seed), seed, lent, tally)
     })
-    .print(kind.name())
+    .print(kind.name(), least)
 }
 
-pub fn damaged(count: u64, seed: u64) -> bool {
+pub fn damaged(count: u64, seed: u64, least: u64) -> bool {
     in_two(count, seed, |seed, lent, tally| {
         let damaged = damage::damaged(seed);
         compare(&damaged.bytes, seed, lent, tally);
     })
-    .print("damaged")
+    .print("damaged", least)
 }
 
 /// The seeds from `seed` on, every other one in each of two threads with a small stack.
@@ -111,43 +129,12 @@ fn in_two(count: u64, seed: u64, each: impl Fn(u64, &mut Lent, &mut Tally) + Syn
 
 /// One forest: lent plenty, then an output exactly long enough and one a byte shorter, and at times too few words.
 fn compare(forest: &[u8], seed: u64, lent: &mut Lent, tally: &mut Tally) {
-    let deepest = accept(forest).map_or(0, |forest| {
-        forest.trees.iter().map(nesting).max().unwrap_or(0)
-    });
-    let (pass, name) = if deepest > MAX_NESTING {
-        (Pass::Remembering, "free lists remembered")
-    } else {
-        (Pass::Original, "unchanged")
-    };
-    if deepest > MAX_CALLED {
-        *tally.skipped.entry("nested too deep for both").or_default() += 1;
+    let Some(first) = compare_call(forest, MAX_WRITTEN, WORK_WORDS, seed, lent, tally) else {
         return;
-    }
-    let mut one = |out_length: usize, words: usize| -> Option<Answer> {
-        let expected = match answer_by(pass, forest, out_length, words) {
-            Ok(expected) => expected,
-            Err(NoAnswer::Skipped(skipped)) => {
-                *tally.skipped.entry(reason(&skipped)).or_default() += 1;
-                return None;
-            }
-            Err(other) => {
-                tally
-                    .differences
-                    .push(format!("{other}: {}", hex::print(forest)));
-                return None;
-            }
-        };
-        *tally.calls.entry((expected.number, name)).or_default() += 1;
-        if let Some(difference) = difference(forest, out_length, words, &expected, seed, lent) {
-            tally.differences.push(format!(
-                "{difference}: {out_length} {words} {}",
-                hex::print(forest)
-            ));
-        }
-        Some(expected)
     };
-    let Some(first) = one(MAX_WRITTEN, WORK_WORDS) else {
-        return;
+    *tally.compared.entry(first.number).or_default() += 1;
+    let mut one = |out_length: usize, words: usize| {
+        compare_call(forest, out_length, words, seed, lent, tally);
     };
     if first.number == 0 {
         let length = first.written_length as usize;
@@ -156,6 +143,54 @@ fn compare(forest: &[u8], seed: u64, lent: &mut Lent, tally: &mut Tally) {
     }
     if seed % 64 == 0 {
         one(MAX_WRITTEN, WORK_WORDS - 1);
+    }
+}
+
+/// One call; the answer that it has to give, or none if it was not made.
+fn compare_call(
+    forest: &[u8],
+    out_length: usize,
+    words: usize,
+    seed: u64,
+    lent: &mut Lent,
+    tally: &mut Tally,
+) -> Option<Answer> {
+    let told = match answer_deep(forest, out_length, words) {
+        Ok(told) => told,
+        Err(NoAnswer::Skipped(skipped)) => {
+            *tally.skipped.entry(reason(&skipped)).or_default() += 1;
+            return None;
+        }
+        Err(other) => {
+            let difference = format!("{other}: {}", hex::print(forest));
+            tally.differences.push(difference);
+            return None;
+        }
+    };
+    if let Some(work) = told.work {
+        if work.lists > MAX_LISTS {
+            *tally.skipped.entry(TOO_LONG).or_default() += 1;
+            return None;
+        }
+        tally.nesting = tally.nesting.max(work.nesting);
+    }
+    let expected = told.answer;
+    let calls = tally.calls.entry((expected.number, maker(told.work)));
+    *calls.or_default() += 1;
+    if let Some(difference) = difference(forest, out_length, words, &expected, seed, lent) {
+        tally.differences.push(format!(
+            "{difference}: {out_length} {words} {}",
+            hex::print(forest)
+        ));
+    }
+    Some(expected)
+}
+
+fn maker(work: Option<Work>) -> &'static str {
+    match work {
+        None => "no tree needed",
+        Some(work) if work.in_time() => "the unchanged files, and the copy",
+        Some(_) => "the copy that remembers",
     }
 }
 

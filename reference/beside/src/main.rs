@@ -7,14 +7,17 @@ mod measure;
 use std::process::ExitCode;
 
 const USAGE: &str = "\
-usage: beside compare KIND COUNT [SEED]   accepted forests of a kind through both
-       beside damaged COUNT [SEED]        refused forests through both
+usage: beside compare KIND COUNT [SEED [LEAST]]
+                                          accepted forests of a kind through both
+       beside damaged COUNT [SEED [LEAST]]
+                                          refused forests through both
        beside measure COUNT [SEED]        time of both, by class
        beside growth                      time of both, as scripts grow
        beside forests KIND COUNT SEED     the forests whose time is measured, in hex
        beside count SIDE                  forests in hex from standard input, each once through the original or the call,
                                           for tools/count_instructions.py
-A difference is printed with its forest, and the status is 1.";
+A difference is printed with its forest, and the status is 1; so it is where fewer than LEAST forests were compared, which
+is COUNT unless it is said, and not 0.";
 
 fn main() -> ExitCode {
     let arguments: Vec<String> = std::env::args().skip(1).collect();
@@ -29,23 +32,29 @@ fn main() -> ExitCode {
     }
 }
 
-/// Whether there was no difference; none for a wrong command line.
+/// Whether all went well; none for a wrong command line.
 fn run(words: &[&str]) -> Option<bool> {
-    let seed = |word: Option<&&str>| word.map_or(Some(1), |word| word.parse().ok());
+    let number =
+        |word: Option<&&str>, default| word.map_or(Some(default), |word| word.parse().ok());
     match words {
-        ["compare", kind, count, rest @ ..] if rest.len() < 2 => {
+        ["compare", kind, count, rest @ ..] if rest.len() < 3 => {
             let kind = cse_reference::generate::Kind::parse(kind)?;
+            let count = count.parse().ok()?;
+            let least = number(rest.get(1), count).filter(|least| *least > 0)?;
             Some(compare::accepted(
                 kind,
-                count.parse().ok()?,
-                seed(rest.first())?,
+                count,
+                number(rest.first(), 1)?,
+                least,
             ))
         }
-        ["damaged", count, rest @ ..] if rest.len() < 2 => {
-            Some(compare::damaged(count.parse().ok()?, seed(rest.first())?))
+        ["damaged", count, rest @ ..] if rest.len() < 3 => {
+            let count = count.parse().ok()?;
+            let least = number(rest.get(1), count).filter(|least| *least > 0)?;
+            Some(compare::damaged(count, number(rest.first(), 1)?, least))
         }
         ["measure", count, rest @ ..] if rest.len() < 2 => {
-            measure::classes(count.parse().ok()?, seed(rest.first())?);
+            measure::classes(count.parse().ok()?, number(rest.first(), 1)?);
             Some(true)
         }
         ["growth"] => {

@@ -41,6 +41,8 @@ pub enum NoAnswer {
         paper: u32,
         original: u32,
     },
+    /// The copy that remembers free lists made another tree than the original.
+    Copies,
 }
 
 /// Why a forest is not sent through the original.
@@ -72,35 +74,54 @@ impl fmt::Display for NoAnswer {
                     "{paper} symbols by document 01, {original} by the original"
                 )
             }
+            NoAnswer::Copies => write!(f, "the copy made another tree than the original"),
         }
     }
 }
 
 impl std::error::Error for NoAnswer {}
 
-/// Which copy of the pass makes the tree.
+/// An answer and, where a tree was made for it, what that took.
+#[derive(Clone, PartialEq, Eq, Debug)]
+pub struct Told {
+    pub answer: Answer,
+    pub work: Option<Work>,
+}
+
+/// What making a tree took.
 #[derive(Clone, Copy, PartialEq, Eq, Debug)]
-pub enum Pass {
-    /// The files as they came; their time doubles with each nested scope.
-    Original,
-    /// The copy that remembers free lists.
-    Remembering,
+pub struct Work {
+    /// How many scopes lie inside one another.
+    pub nesting: usize,
+    /// How many free lists the main call works out.
+    pub lists: u64,
 }
 
-/// The main call on a forest, lent so many output bytes and work words.
+impl Work {
+    /// Whether the original ends in time. It then made the tree too, and the same one.
+    pub fn in_time(&self) -> bool {
+        self.nesting <= MAX_NESTING
+    }
+}
+
+/// The main call on a forest, lent so many output bytes and work words, by the original.
 pub fn answer(forest: &[u8], out_len: usize, work_words: usize) -> Result<Answer, NoAnswer> {
-    answer_by(Pass::Original, forest, out_len, work_words)
+    let told = answer_deep(forest, out_len, work_words)?;
+    match told.work {
+        Some(work) if !work.in_time() => Err(NoAnswer::Skipped(Skipped::Nesting(work.nesting))),
+        _ => Ok(told.answer),
+    }
 }
 
-/// The main call, with the tree made by that copy of the pass.
-pub fn answer_by(
-    pass: Pass,
-    forest: &[u8],
-    out_len: usize,
-    work_words: usize,
-) -> Result<Answer, NoAnswer> {
+/// The same, however deep scopes are nested: by the copy that remembers free lists and, where it ends in time, by the
+/// original too.
+pub fn answer_deep(forest: &[u8], out_len: usize, work_words: usize) -> Result<Told, NoAnswer> {
+    let without_tree = |refusal| Told {
+        answer: refused(refusal),
+        work: None,
+    };
     if work_words < MIN_WORK_WORDS {
-        return Ok(refused(Refusal {
+        return Ok(without_tree(Refusal {
             number: 1,
             place: 0,
         }));
@@ -108,9 +129,17 @@ pub fn answer_by(
     let counted = accept(forest).and_then(|forest| Ok((count(&forest)?, forest)));
     let (counts, forest) = match counted {
         Ok(counted) => counted,
-        Err(refusal) => return Ok(refused(refusal)),
+        Err(refusal) => return Ok(without_tree(refusal)),
     };
-    let tree = written_tree(pass, &forest, counts)?;
+    let (tree, work) = written_tree(&forest, counts)?;
+    Ok(Told {
+        answer: measured(tree, counts, out_len),
+        work: Some(work),
+    })
+}
+
+/// The answer to a forest with that written tree.
+fn measured(tree: Tree, counts: Counts, out_len: usize) -> Answer {
     let (records, depth) = (tree.size(), tree.depth());
     let bytes = Forest { trees: vec![tree] }.to_bytes();
     let number = if records > MAX_RECORDS || bytes.len() > MAX_OUTPUT.min(out_len) {
@@ -118,16 +147,16 @@ pub fn answer_by(
     } else if depth > MAX_DEPTH {
         14
     } else {
-        return Ok(Answer {
+        return Answer {
             number: 0,
             place: 0,
             written_length: bytes.len() as u32,
             symbols: counts.symbols,
             readings: counts.readings,
             tree: bytes,
-        });
+        };
     };
-    Ok(refused(Refusal { number, place: 0 }))
+    refused(Refusal { number, place: 0 })
 }
 
 fn refused(refusal: Refusal) -> Answer {
@@ -141,9 +170,9 @@ fn refused(refusal: Refusal) -> Answer {
     }
 }
 
-/// What the original makes of an accepted forest within the limits.
-fn written_tree(pass: Pass, forest: &Forest, counts: Counts) -> Result<Tree, NoAnswer> {
-    can_be_run(pass, forest).map_err(NoAnswer::Skipped)?;
+/// What both copies of the pass make of an accepted forest within the limits, the original where it ends in time.
+fn written_tree(forest: &Forest, counts: Counts) -> Result<(Tree, Work), NoAnswer> {
+    one_shape_each(forest).map_err(NoAnswer::Skipped)?;
     on_large_stack(|| {
         let (interner, root) = interned(forest);
         let original = interner.syms.len() as u32;
@@ -158,12 +187,16 @@ fn written_tree(pass: Pass, forest: &Forest, counts: Counts) -> Result<Tree, NoA
             return Err(NoAnswer::Skipped(Skipped::Expansion(size)));
         }
         let (root, env) = exprs(forest);
-        let tree = to_tree(&match pass {
-            Pass::Original => cse(root, &env),
-            Pass::Remembering => remembering::cse(root, &env),
-        });
+        let tree = to_tree(&remembering::cse(root.clone(), &env));
+        let work = Work {
+            nesting: forest.trees.iter().map(nesting).max().unwrap_or(0),
+            lists: remembering::lists_called(),
+        };
+        if work.in_time() && to_tree(&cse(root, &env)) != tree {
+            return Err(NoAnswer::Copies);
+        }
         debug_assert!(tree.size() as u64 <= size, "the cap must hold beforehand");
-        Ok(tree)
+        Ok((tree, work))
     })
 }
 
@@ -179,19 +212,13 @@ pub fn original(root: Expr, env: &[Expr]) -> Expr {
     cse(root, env)
 }
 
-/// The part of the caps that the trees alone decide.
-fn can_be_run(pass: Pass, forest: &Forest) -> Result<(), Skipped> {
+fn one_shape_each(forest: &Forest) -> Result<(), Skipped> {
     let mut shapes = [None; 256];
-    for tree in &forest.trees {
-        if let Some(opcode) = second_shape(tree, &mut shapes) {
-            return Err(Skipped::TwoShapes { opcode });
-        }
+    let second = |tree| second_shape(tree, &mut shapes);
+    match forest.trees.iter().find_map(second) {
+        Some(opcode) => Err(Skipped::TwoShapes { opcode }),
+        None => Ok(()),
     }
-    let depth = forest.trees.iter().map(nesting).max().unwrap_or(0);
-    if pass == Pass::Original && depth > MAX_NESTING {
-        return Err(Skipped::Nesting(depth));
-    }
-    Ok(())
 }
 
 /// The first opcode that had another shape before. Constants and unparsed trees share 00, which
