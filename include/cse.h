@@ -14,8 +14,10 @@ extern "C" {
  * byte of `out` and gives zero for the last three. Fewer than 16,384 work words are refused with 1, and left as they
  * are; after any other answer the first 16,384 are 0 and later ones as they were.
  * The three memories must not overlap one another or the numbers; a length of 0 still wants a pointer that is not null
- * and is aligned. Lengths count bytes, bytes and 32-bit words. The call keeps no pointer, and needs under 2 MiB of
- * stack. */
+ * and is aligned. Lengths count bytes, bytes and 32-bit words. The pointers to the five numbers are distinct, aligned and
+ * not null. The call keeps no pointer.
+ * It takes up to 1.6 MB of stack, so 2 MiB are enough. That is measured on the compiled library and not proved
+ * (docs/ARCHITECTURE.md, "The stack"). */
 void cse_call(
     const uint8_t *forest, size_t forest_length,
     uint8_t *out, size_t out_length,
