@@ -1,14 +1,16 @@
 #!/usr/bin/env python3
-"""Runs the definitions of crate model on forests whose answers come from the Rust side, by computation in the checker.
+"""Runs the definitions of crate model on forests whose answers are known, by computation in the checker.
 
-Usage: check_definitions.py ROWS.tsv [--jobs N] [--batch N]
+Usage: check_definitions.py ROWS.tsv [--least N] [--jobs N] [--batch N]
 
 A row is tab separated: forest, output length, work words, number, place, written length, symbols, readings, tree; or, for the
-lister, forest and text. Byte strings are in hex, '-' for none. `cse-reference rows` and `cse-reference list-rows` write such rows.
+lister, forest and text. Byte strings are in hex, '-' for none. `cse-reference rows` and `cse-reference list-rows` write such rows; those
+of tests/definitions are written by hand.
 
-Each row becomes one declaration, proved by `refl`, in a module beside a copy of the definitions. A row that the checker refuses is
-printed with its line number; a row over the checker's step limit says nothing either way and is named and counted apart.
-Exit status: 0 if no row was refused, 1 if one was, 2 for bad input or if the checker itself failed."""
+Each row becomes one declaration, proved by `refl`, in a module beside a copy of the definitions, and one that is wrong follows them, which
+the checker must refuse. A row that it refuses is printed with its line number; a row over the checker's step limit says nothing either way and
+is named and counted apart. At least N rows have to agree, all of them unless --least says otherwise.
+Exit status: 0 if so many agree and none was refused, 1 if not, 2 for bad input or if the checker itself failed."""
 import argparse
 import os
 import re
@@ -61,6 +63,10 @@ r{i} : same (lister {forest}) {lines} ≡ true
 unfolding bytes computing
 r{i} = refl
 """
+WRONG = """
+wrong : eqb 0 1 ≡ true
+wrong = refl
+"""
 
 
 def bad(line, why):
@@ -99,26 +105,31 @@ def judge(batch):
         for i, (line, fields) in enumerate(batch):
             starts.append((text.count("\n") + 2, line))
             text += declaration(i, line, fields)
+        wrong = text.count("\n") + 2
         with open(os.path.join(copy, "specs", "Rows.antt"), "w") as f:
-            f.write(text)
+            f.write(text + WRONG)
         with open(os.path.join(copy, "specs", "Lib.antt"), "a") as f:
             f.write("pub mod Rows\n")
         run = subprocess.run(["rt", "check", copy], capture_output=True, text=True, env=dict(os.environ, RT_CUT="0"))
     said = run.stdout + run.stderr
-    refused, limit = [], []
-    for at, message in re.findall(r"Rows\.antt:(\d+):\d+: error: (.*)", said):
-        line = [row for start, row in starts if start <= int(at)]
-        if not line:
-            return None, said
-        (limit if "step limit" in message else refused).append(line[-1])
-    if (run.returncode == 0) != (not refused and not limit):
+    found = [(int(at), message) for at, message in re.findall(r"Rows\.antt:(\d+):\d+: error: (.*)", said)]
+    # every error is a row's, and the wrong one is among them
+    if len(found) != said.count(" error: ") or not any(at >= wrong for at, _ in found):
         return None, said
-    return sorted(set(refused)), sorted(set(limit))
+    refused, limit = set(), set()
+    for at, message in found:
+        line = [row for start, row in starts if start <= at < wrong]
+        if line:
+            (limit if "step limit" in message else refused).add(line[-1])
+        elif at < wrong:
+            return None, said
+    return sorted(refused), sorted(limit)
 
 
 def main():
     parser = argparse.ArgumentParser(description=__doc__.split("\n")[0])
     parser.add_argument("rows")
+    parser.add_argument("--least", type=int)
     parser.add_argument("--jobs", type=int, default=2)
     parser.add_argument("--batch", type=int, default=60)
     options = parser.parse_args()
@@ -131,6 +142,9 @@ def main():
         bad(None, str(e))
     if not rows:
         bad(None, "no rows")
+    least = len(rows) if options.least is None else options.least
+    if least < 1:
+        bad(None, "--least takes a number from 1 on")
     for line, fields in rows:
         declaration(0, line, fields)
     batches = [rows[i : i + options.batch] for i in range(0, len(rows), options.batch)]
@@ -147,8 +161,8 @@ def main():
     for line in limit:
         print(f"line {line}: over the checker's step limit, not judged")
     agreed = len(rows) - len(refused) - len(limit)
-    print(f"{len(rows)} rows: {agreed} agree, {len(refused)} differ, {len(limit)} over the step limit")
-    return 1 if refused else 0
+    print(f"{len(rows)} rows: {agreed} agree, {len(refused)} differ, {len(limit)} over the step limit; at least {least} asked for")
+    return 1 if refused or agreed < least else 0
 
 
 if __name__ == "__main__":
