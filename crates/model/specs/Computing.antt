@@ -33,6 +33,9 @@ use Rattle.model.specs.Call.{writtenOf, measured, written, run, numbersO
 use Rattle.model.specs.Text.{text}
 use Rattle.model.specs.Lister.{digits, decimal, hexDigit, hexByte, tagOf, opcodeShown, yesNo, line, linesFrom}
 use Rattle.model.specs.Lister.{symbolLines, refusalLine, linesOf, lister}
+use Rattle.model.specs.Sheet.{named, shapeNames, classNames, opcodeNames, numeral, hexBytes, idTexts, argsText}
+use Rattle.model.specs.Sheet.{idText, classText, ownText, literalText, placeText, opcodeText, recordLine}
+use Rattle.model.specs.Sheet.{treeLines, forestLines, refusal, sheetOf, sheet}
 
 unfoldable pub bytes-and-trees : Unit {0}
 unfolding isIn anyIn twice count same add union without last first u16 u32 put16 put32 _>>=_ unless guard checked
@@ -74,6 +77,11 @@ unfolding text digits decimal hexDigit hexByte tagOf opcodeShown yesNo line line
     linesOf lister
 listing = tt
 
+unfoldable pub showing : Unit {0}
+unfolding named shapeNames classNames opcodeNames numeral hexBytes idTexts argsText idText classText ownText literalText
+    placeText opcodeText recordLine treeLines forestLines refusal sheetOf sheet
+showing = tt
+
 unfoldable pub computing : Unit {0}
-unfolding bytes-and-trees acceptance unfolding-a-tree interning materializing calling listing
+unfolding bytes-and-trees acceptance unfolding-a-tree interning materializing calling listing showing
 computing = tt

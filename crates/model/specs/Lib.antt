@@ -25,5 +25,7 @@ pub mod Conditions
 pub mod Demand3
 pub mod Text
 pub mod Lister
+pub mod Sheet
 pub mod Computing
 pub mod Examples
+pub mod SheetExamples

@@ -13,18 +13,31 @@ use lib.Seq.{take-all, take-suc, take-nil, take-at, take-append-le, take-append-
 use borrow.Author.Tests.{ltb-true, ltb-false}
 use Rattle.model.specs.Lister.{hexByte}
 use Rattle.output.proofs.Over.{over-front}
+use Rattle.model.specs.Sheet.{hexBytes}
 use Rattle.output.specs.Output.{Wrote}
 use Rattle.output.proofs.Wrote.{wrote-none, wrote-as, wrote-length, wrote-then}
-use Rattle.sheet.specs.Clip.{Clipped, hexBytes}
+use Rattle.sheet.specs.Clip.{Clipped}
 
 pub clipped-none : (out : List ℕ) (at : ℕ) → at ≤ length out → Clipped out at [] out at
-clipped-none out at h = wrote-as (sym (take-nil (length out - at))) (wrote-none out at h)
+clipped-none out at h = record { is = wrote-as (sym (take-nil (length out - at))) (wrote-none out at h) }
+
+module _ {out : List ℕ} {at : ℕ} {s out′ : List ℕ} {r : ℕ} (v : Clipped out at s out′ r) where
+  pub clipped-length : length out′ ≡ length out
+  clipped-length = wrote-length (v .is)
+
+  -- the next text may follow
+  pub clipped-room : r ≤ length out′
+  clipped-room = omega (arith, v .is .fits, clipped-length)
+
+  -- the same text
+  pub clipped-as : {t : List ℕ} → s ≡ t → Clipped out at t out′ r
+  clipped-as {t} e = subst (λ (z : List ℕ). Clipped out at z out′ r) e v
 
 -- ---- all of a text
 
 pub clipped-all : {out : List ℕ} {at : ℕ} {s out′ : List ℕ} {r : ℕ} → length s ≤ length out - at →
     Wrote out at s out′ r → Clipped out at s out′ r
-clipped-all {out} {at} {s} l w = wrote-as (sym (take-all (length out - at) s l)) w
+clipped-all {out} {at} {s} l w = record { is = wrote-as (sym (take-all (length out - at) s l)) w }
 
 -- ---- one text after another
 
@@ -43,16 +56,12 @@ take-both s t n = go (ltb n (length s)) refl
         ap (λ (k : ℕ). take k (s ++ t)) z ∙ (take-append-add s t (n - length s)
         ∙ ap (λ (x : List ℕ). x ++ take (n - length x) t) (sym (take-all n s l)))
 
-clipped-then : (s t : List ℕ) {a b c : List ℕ} {i j k : ℕ} → Clipped a i s b j → Clipped b j t c k →
-    Clipped a i (s ++ t) c k
-clipped-then s t {a} {b} {c} {i} {j} {k} v w =
+pub clipped-then : {s t a b c : List ℕ} {i j k : ℕ} → Clipped a i s b j → Clipped b j t c k → Clipped a i (s ++ t) c k
+clipped-then {s} {t} {a} {b} {c} {i} {j} {k} v w =
     let n = length a - i in
-    let e : length b - j ≡ n - length (take n s) = omega (arith, wrote-length v, v .ends) in
-    wrote-as (ap (λ (m : ℕ). take n s ++ take m t) e ∙ sym (take-both s t n)) (wrote-then v w)
-
--- the same text
-pub clipped-as : {s t : List ℕ} {a b : List ℕ} {i j : ℕ} → s ≡ t → Clipped a i s b j → Clipped a i t b j
-clipped-as {s} {t} {a} {b} {i} {j} e = subst (λ (z : List ℕ). Clipped a i z b j) e
+    let e : length b - j ≡ n - length (take n s) = omega (arith, clipped-length v, v .is .ends) in record {
+      is = wrote-as (ap (λ (m : ℕ). take n s ++ take m t) e ∙ sym (take-both s t n)) (wrote-then (v .is) (w .is));
+    }
 
 -- ---- a text from a buffer of its own
 
@@ -70,8 +79,7 @@ more-of (suc m) x = ap (λ (z : List ℕ). x ∷ z) (more-of m x)
 pub spaces-turn : (m : ℕ) {a b c : List ℕ} {i j k : ℕ} → Clipped a i (replicate m 32) b j → Clipped b j (32 ∷ []) c k →
     Clipped a i (replicate (m + 1) 32) c k
 spaces-turn m v w =
-    clipped-as (sym (ap (λ (n : ℕ). replicate n 32) (add-one m) ∙ more-of m 32))
-    (clipped-then (replicate m 32) (32 ∷ []) v w)
+    clipped-as (clipped-then v w) (sym (ap (λ (n : ℕ). replicate n 32) (add-one m) ∙ more-of m 32))
 
 -- ---- bytes in hex
 
@@ -97,4 +105,4 @@ hex-turn s m l v w =
     let f : hexBytes (take (m + 1) s) ≡ hexBytes (take m s) ++ hexByte (getD s m 0) =
     ap hexBytes e ∙ (hex-append (take m s) (getD s m 0 ∷ [])
     ∙ ap (λ (z : List ℕ). hexBytes (take m s) ++ z) (hex-one (getD s m 0))) in
-    clipped-as (sym f) (clipped-then (hexBytes (take m s)) (hexByte (getD s m 0)) v w)
+    clipped-as (clipped-then v w) (sym f)

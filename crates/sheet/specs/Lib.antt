@@ -1,2 +1,4 @@
--- What the contracts cite. Assumes nothing.
+-- What the contracts cite, in reading order. Assumes nothing.
 pub mod Clip
+pub mod Table
+pub mod Shown

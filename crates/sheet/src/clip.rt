@@ -4,8 +4,8 @@ ghost use Prim.Native.Nat.{_≤_};
 ghost use mathlib.Core.List.{[], _∷_};
 ghost use lib.ListN.{length, replicate};
 ghost use Rattle.model.specs.Lister.{hexByte};
-ghost use Rattle.text.specs.Text.{numeral};
-ghost use Rattle.sheet.specs.Clip.{Clipped, hexBytes};
+ghost use Rattle.model.specs.Sheet.{numeral, hexBytes};
+ghost use Rattle.sheet.specs.Clip.{Clipped};
 
 // Bytes in a row. Rules out: none of them where there is room for some; the last ones instead of the first.
 pub fn put_text(out: &mut [u8], at: usize, text: &[u8]) -> usize

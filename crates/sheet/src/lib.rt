@@ -1,20 +1,14 @@
-// A sheet of a forest: a line a record, as text, for a person to hold against the bytes.
-//
-// A line: the record's number, right-aligned in three columns; two spaces a level, a root's level being 1; the shape's
-// name; the opcode in hex, and its name where the Rust names it otherwise than the shape. Then, each after two spaces,
-// what the record has of these: a constant's class; `id N` of a use or a definition; `args N N` of a lambda; `field N`
-// of a selection; `literal` and the literal in hex, if it is not empty.
+// A sheet of a forest: a line a record, as text, for a person to hold against the bytes. Model's `Sheet` says what it is;
+// a lambda's sheet:
 //
 //   0  FuncValue D9  args 7  literal 0700000000
 //   1    Two 9A PLUS
 //   2      ValUse 72  id 7  literal 07000000
 //   3      Const 00  SInt  literal 0402
 //
-// Text goes into a buffer from a place on, as far as there is room, and each function gives the place after it.
-// A forest that a check refuses has one line, as `refused 10 at 0`.
-// The layout is free, so what is proved of it is that it is safe, ends and stays in the buffer; texts, numbers and hex
-// have contracts (clip.rt), and so has the line of a refusal.
-// In order: a record's head; what it has; a line; depths; the sheet; the line of a refusal.
+// Text goes into a buffer from a place on, as far as there is room, and each function gives the place after it; no
+// other byte is touched (`Clipped`). A forest that a check refuses has one line, as `refused 10 at 0`.
+// In order: a record's number and depth; what it has; its line; trees; the sheet; the line of a refusal.
 mod clip;
 mod names;
 
@@ -27,18 +21,27 @@ use names::put_class;
 use names::put_opcode;
 use names::put_shape;
 ghost use mathlib.Core.Path.{_≡_};
-ghost use Prim.Native.Nat.{_<_, _≤_};
-ghost use lib.ListN.{length};
-ghost use Rattle.model.specs.Forest.{recordCount};
+ghost use Prim.Native.Nat.{ℕ, _+_, _-_, _<_, _≤_};
+ghost use mathlib.Core.List.{_++_};
+ghost use lib.ListN.{length, getD, drop};
+ghost use Rattle.model.specs.Text.{text};
+ghost use Rattle.model.specs.Bytes.{u32};
+ghost use Rattle.model.specs.Tree.{rec, many};
+ghost use Rattle.model.specs.Forest.{recordCount, treesOf};
+ghost use Rattle.model.specs.Sheet.{numeral, idTexts, argsText, ownText, literalText, placeText};
+ghost use Rattle.model.specs.Sheet.{recordLine, forestLines, refusal};
 ghost use Rattle.shape.specs.Args.{Left};
-ghost use Rattle.text.specs.Text.{refusal};
-ghost use Rattle.walk.specs.Walk.{WellFormed};
+ghost use Rattle.walk.specs.Words.{argIdsAt};
+ghost use Rattle.walk.specs.Walk.{treesFrom, recAt, WellFormed};
 ghost use Rattle.sheet.specs.Clip.{Clipped};
+ghost use Rattle.sheet.specs.Shown.{Fits, Shown};
 
-// ---- a record's head: its number, its level, its shape and its opcode
+// ---- a record's number and its depth
 
 // How many spaces stand before a record's number, so that it takes three columns.
-fn pad(i: usize) -> usize {
+fn pad(i: usize) -> usize
+    ensures { λ r. ⌜ r ≡ 3 - length (numeral i) ⌝ }
+{
     if i < 10 {
         return 2;
     }
@@ -48,60 +51,62 @@ fn pad(i: usize) -> usize {
     0
 }
 
-// Record i's number and the spaces of its level.
-fn put_place(out: &mut [u8], at: usize, i: usize, level: usize) -> usize
-    requires { ⌜ at ≤ length (now out) ⌝ }
-    ensures { λ r. ⌜ r ≤ length (now (out .entry)) ⌝ }
+// Record i's number, and the spaces of its depth.
+fn put_place(out: &mut [u8], at: usize, i: usize, depth: usize) -> usize
+    requires { ⌜ (at ≤ length (now out)) × (depth ≤ 257) ⌝ }
+    ensures { λ r. ⌜ Clipped (now (out .entry)) at (placeText i depth) (now (out .exit)) r ⌝ }
 {
     let from = put_spaces(out, at, pad(i));
     let end = put_number(out, from, i as u64);
-    let half = put_spaces(out, end, level);
-    put_spaces(out, half, level)
+    put_spaces(out, end, 2 * depth)
 }
 
 // ---- what a record has
+
+// The ids of n arguments, from a place in a lambda's literal on.
+fn put_ids(out: &mut [u8], at: usize, lit: &[u8], from: usize, n: usize) -> usize
+    requires { ⌜ at ≤ length (now out) ⌝ }
+    requires { ⌜ Left n (now lit) from ⌝ }
+    ensures { λ r. ⌜ Clipped (now (out .entry)) at (idTexts (argIdsAt n (drop from (now (lit .entry)))))
+        (now (out .exit)) r ⌝ }
+{
+    if n == 0 {
+        return at;
+    }
+    let space = put(out, at, b' ');
+    let end = put_number(out, space, shape::id_at(lit, from) as u64);
+    put_ids(out, end, lit, shape::arg_end(lit, from), n - 1)
+}
 
 // The ids of a lambda's n arguments, if it has any.
 fn put_args(out: &mut [u8], at: usize, lit: &[u8], n: usize) -> usize
     requires { ⌜ at ≤ length (now out) ⌝ }
     requires { ⌜ Left n (now lit) 0 ⌝ }
-    ensures { λ r. ⌜ r ≤ length (now (out .entry)) ⌝ }
+    ensures { λ r. ⌜ Clipped (now (out .entry)) at (argsText (argIdsAt n (now (lit .entry)))) (now (out .exit)) r ⌝ }
 {
     if n == 0 {
         return at;
     }
-    let mut end = put_text(out, at, b"  args");
-    let mut from = 0;
-    let mut k = 0;
-    while k < n {
-        end = put(out, end, b' ');
-        end = put_number(out, end, shape::id_at(lit, from) as u64);
-        from = shape::arg_end(lit, from);
-        k += 1;
-    }
-    end
+    let end = put_text(out, at, b"  args");
+    put_ids(out, end, lit, 0, n)
 }
 
 // The id of a use or a definition.
 fn put_id(out: &mut [u8], at: usize, lit: &[u8]) -> usize
-    requires { ⌜ at ≤ length (now out) ⌝ }
-    ensures { λ r. ⌜ r ≤ length (now (out .entry)) ⌝ }
+    requires { ⌜ (at ≤ length (now out)) × (4 ≤ length (now lit)) ⌝ }
+    ensures { λ r. ⌜ Clipped (now (out .entry)) at (text "  id " ++ numeral (u32 (now (lit .entry))))
+        (now (out .exit)) r ⌝ }
 {
-    if lit.len() < 4 {
-        return at;
-    }
     let end = put_text(out, at, b"  id ");
     put_number(out, end, shape::id_at(lit, 0) as u64)
 }
 
 // The field that a selection selects.
 fn put_field(out: &mut [u8], at: usize, lit: &[u8]) -> usize
-    requires { ⌜ at ≤ length (now out) ⌝ }
-    ensures { λ r. ⌜ r ≤ length (now (out .entry)) ⌝ }
+    requires { ⌜ (at ≤ length (now out)) × (1 ≤ length (now lit)) ⌝ }
+    ensures { λ r. ⌜ Clipped (now (out .entry)) at (text "  field " ++ numeral (getD (now (lit .entry)) 0 0))
+        (now (out .exit)) r ⌝ }
 {
-    if lit.len() < 1 {
-        return at;
-    }
     let end = put_text(out, at, b"  field ");
     put_number(out, end, record::wide(lit[0]) as u64)
 }
@@ -109,8 +114,9 @@ fn put_field(out: &mut [u8], at: usize, lit: &[u8]) -> usize
 // What a record of a shape has beside its literal.
 fn put_own(out: &mut [u8], at: usize, shape: u8, aux: u8, lit: &[u8]) -> usize
     requires { ⌜ at ≤ length (now out) ⌝ }
-    requires { ⌜ (shape ≡ 12 → Left aux (now lit) 0) ⌝ }
-    ensures { λ r. ⌜ r ≤ length (now (out .entry)) ⌝ }
+    requires { ⌜ Fits shape aux (now lit) ⌝ }
+    ensures { λ r. ⌜ ((op : ℕ) → Clipped (now (out .entry)) at (ownText (rec shape op aux (now (lit .entry))))
+        (now (out .exit)) r) ⌝ }
 {
     match shape {
         0 => put_class(out, at, aux),
@@ -122,10 +128,10 @@ fn put_own(out: &mut [u8], at: usize, shape: u8, aux: u8, lit: &[u8]) -> usize
     }
 }
 
-// A literal in hex.
+// A literal in hex, if it is not empty.
 fn put_literal(out: &mut [u8], at: usize, lit: &[u8]) -> usize
     requires { ⌜ at ≤ length (now out) ⌝ }
-    ensures { λ r. ⌜ r ≤ length (now (out .entry)) ⌝ }
+    ensures { λ r. ⌜ Clipped (now (out .entry)) at (literalText (now (lit .entry))) (now (out .exit)) r ⌝ }
 {
     if lit.len() == 0 {
         return at;
@@ -136,17 +142,18 @@ fn put_literal(out: &mut [u8], at: usize, lit: &[u8]) -> usize
 
 // ---- a line
 
-// Record i's line, at a level.
-fn put_line(out: &mut [u8], at: usize, forest: &[u8], i: usize, level: usize) -> usize
-    requires { ⌜ at ≤ length (now out) ⌝ }
+// Record i's line.
+fn put_line(out: &mut [u8], at: usize, forest: &[u8], i: usize, depth: usize) -> usize
+    requires { ⌜ (at ≤ length (now out)) × (depth ≤ 257) ⌝ }
     requires { ⌜ WellFormed (now forest) ⌝ }
     requires { ⌜ i < recordCount (now forest) ⌝ }
-    ensures { λ r. ⌜ r ≤ length (now (out .entry)) ⌝ }
+    ensures { λ r. ⌜ Clipped (now (out .entry)) at (recordLine i depth (recAt (now (forest .entry)) i))
+        (now (out .exit)) r ⌝ }
 {
     let shape = record::shape(forest, i);
     let aux = record::aux(forest, i);
     let lit = reader::literal_at(forest, i);
-    let placed = put_place(out, at, i, level);
+    let placed = put_place(out, at, i, depth);
     let named = put_shape(out, placed, shape);
     let coded = put_opcode(out, named, record::opcode(forest, i));
     let owned = put_own(out, coded, shape, aux, lit);
@@ -154,64 +161,44 @@ fn put_line(out: &mut [u8], at: usize, forest: &[u8], i: usize, level: usize) ->
     put(out, end, b'\n')
 }
 
-// ---- depths
+// ---- trees
 
-// Depth 0 is a root's. For each depth from 1 on, how many children are left there, the one at hand among them.
-fn none_left() -> [usize; 64] {
-    [0; 64]
+// How far a sheet has come: the next record, and where its text ends.
+pub struct Progress {
+    pub record: usize,
+    pub end: usize,
 }
 
-// The depth of the record after one without children at a depth: each level whose last child it closes is left.
-fn close(left: &mut [usize; 64], depth: usize) -> usize
-    requires { ⌜ depth < 64 ⌝ }
-    ensures { λ r. ⌜ r < 64 ⌝ }
+// The lines of `count` trees, from the next record on: a record is followed by its children's subtrees, in order.
+fn put_trees(forest: &[u8], out: &mut [u8], at: Progress, count: usize, depth: usize) -> Progress
+    requires { ⌜ WellFormed (now forest) ⌝ }
+    requires { ⌜ (count ≤ many (treesFrom (now forest) (at .record))) × (at .end ≤ length (now out))
+        × (depth ≤ at .record + 1) ⌝ }
+    ensures { λ r. ⌜ Shown (now (forest .entry)) (at .record) depth count (now (out .entry)) (at .end)
+        (now (out .exit)) r ⌝ }
 {
-    let mut d = depth;
-    while 0 < d {
-        let n = left[d];
-        if 1 < n {
-            left[d] = n - 1;
-            return d;
-        }
-        d -= 1;
+    if count == 0 {
+        return at;
     }
-    0
-}
-
-// The depth of the record after one with so many children at a depth: no record is deeper than 64.
-fn follow(left: &mut [usize; 64], depth: usize, kids: usize) -> usize
-    requires { ⌜ depth < 64 ⌝ }
-    ensures { λ r. ⌜ r < 64 ⌝ }
-{
-    if kids == 0 {
-        return close(left, depth);
-    }
-    if depth == 63 {
-        return depth;
-    }
-    left[depth + 1] = kids;
-    depth + 1
+    let i = at.record;
+    let end = put_line(out, at.end, forest, i, depth);
+    let kids = record::kids(forest, i);
+    let inside = Progress { record: i + 1, end };
+    let below = put_trees(forest, out, inside, kids, depth + 1);
+    put_trees(forest, out, below, count - 1, depth)
 }
 
 // ---- the sheet
 
 // The sheet of a forest at the start of out, as far as there is room; gives its length.
-// Rules out: a length past the buffer's end.
+// Rules out: another opcode's name; another record's literal; a child no further in; a byte past the text touched.
 pub fn write(forest: &[u8], out: &mut [u8]) -> usize
     requires { ⌜ WellFormed (now forest) ⌝ }
-    ensures { λ r. ⌜ r ≤ length (now (out .entry)) ⌝ }
+    ensures { λ r. ⌜ Clipped (now (out .entry)) 0 (forestLines (treesOf (now (forest .entry)))) (now (out .exit)) r ⌝ }
 {
-    let n = record::record_count(forest);
-    let mut left = none_left();
-    let mut depth = 0;
-    let mut end = 0;
-    let mut i = 0;
-    while i < n {
-        end = put_line(out, end, forest, i, depth + 1);
-        depth = follow(&mut left, depth, record::kids(forest, i));
-        i += 1;
-    }
-    end
+    let start = Progress { record: 0, end: 0 };
+    let all = put_trees(forest, out, start, record::tree_count(forest), 1);
+    all.end
 }
 
 // The one line for a forest that a check refuses, at the start of out, as far as there is room; gives its length.

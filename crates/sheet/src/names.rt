@@ -1,158 +1,124 @@
-// Names: shapes and constants' classes as document 01 has them, opcodes as the Rust does. A list of names is one text
-// with a comma after each but the last; names are counted from 0, and a name may be empty.
+// Names, as model's `Sheet` has them, each table of names in one text: of each entry its number, what is put for it,
+// and a comma. In order: an entry's start and end; an entry; shapes, classes and opcodes.
 use crate::clip::put;
 use crate::clip::put_hex;
 use crate::clip::put_text;
-ghost use Prim.Native.Nat.{_≤_};
-ghost use lib.ListN.{length};
+ghost use mathlib.Core.Path.{_≡_};
+ghost use mathlib.Core.Bool.{true, _&&_};
+ghost use mathlib.Core.List.{[]};
+ghost use Prim.Native.Nat.{_-_, _≤_};
+ghost use lib.Dec.{eqb};
+ghost use lib.ListN.{length, take, drop};
+ghost use Rattle.model.specs.Text.{text};
+ghost use Rattle.model.specs.Sheet.{named, shapeNames, classNames, opcodeNames, opcodeText};
+ghost use Rattle.sheet.specs.Clip.{Clipped};
+ghost use Rattle.sheet.specs.Table.{upTo, entry};
 
-// Where name k of a list starts, or the list's end.
-fn name_start(names: &[u8], k: usize) -> usize {
-    let mut left = k;
+// Whether the entry of a number starts with byte b.
+fn opens(fresh: bool, b: u8, number: u8) -> bool
+    ensures { λ r. ⌜ r ≡ fresh && eqb b number ⌝ }
+{
+    if fresh {
+        return b == number;
+    }
+    false
+}
+
+// Where that starts which is put for a number, or the table's end.
+fn entry_start(table: &[u8], number: u8) -> usize
+    ensures { λ r. ⌜ (r ≤ length (now (table .entry)))
+        × (upTo (drop r (now (table .entry))) ≡ entry number true (now (table .entry))) ⌝ }
+{
+    let mut fresh = true;
     let mut i = 0;
-    while i < names.len() {
-        if left == 0 {
-            return i;
+    while i < table.len() {
+        let b = table[i];
+        if opens(fresh, b, number) {
+            return i + 1;
         }
-        if names[i] == b',' {
-            left -= 1;
-        }
+        fresh = b == b',';
         i += 1;
     }
     i
 }
 
-// Name k of a list.
-fn put_name(out: &mut [u8], at: usize, names: &[u8], k: u8) -> usize
-    requires { ⌜ at ≤ length (now out) ⌝ }
-    ensures { λ r. ⌜ r ≤ length (now (out .entry)) ⌝ }
+// Where it ends: at the next comma.
+fn entry_end(table: &[u8], from: usize) -> usize
+    requires { ⌜ from ≤ length (now table) ⌝ }
+    ensures { λ r. ⌜ (from ≤ r) × (r ≤ length (now (table .entry)))
+        × (take (r - from) (drop from (now (table .entry))) ≡ upTo (drop from (now (table .entry)))) ⌝ }
 {
-    let mut end = at;
-    let mut i = name_start(names, k as usize);
-    while i < names.len() {
-        let b = names[i];
-        if b == b',' {
-            return end;
+    let mut k = from;
+    while k < table.len() {
+        if table[k] == b',' {
+            return k;
         }
-        end = put(out, end, b);
-        i += 1;
+        k += 1;
     }
-    end
+    k
 }
 
-// A shape's name, as far as there is room. Rules out: an end past the buffer; the end of a name that is cut off.
+// What a table has for a number, if it has it.
+fn put_entry(out: &mut [u8], at: usize, table: &[u8], number: u8) -> usize
+    requires { ⌜ at ≤ length (now out) ⌝ }
+    ensures { λ r. ⌜ Clipped (now (out .entry)) at (entry number true (now (table .entry))) (now (out .exit)) r ⌝ }
+{
+    let from = entry_start(table, number);
+    let end = entry_end(table, from);
+    put_text(out, at, &table[from..end])
+}
+
+// A shape's name. Rules out: another shape's; a name for a shape over 26.
 pub fn put_shape(out: &mut [u8], at: usize, shape: u8) -> usize
     requires { ⌜ at ≤ length (now out) ⌝ }
-    ensures { λ r. ⌜ r ≤ length (now (out .entry)) ⌝ }
+    ensures { λ r. ⌜ Clipped (now (out .entry)) at (named [] shapeNames shape) (now (out .exit)) r ⌝ }
 {
-    match shape {
-        0..=9 => put_name(
-            out,
-            at,
-            b"Const,Unparsed,Zero,One,Two,Three,Four,ValUse,ConstPlaceholder,TaggedVar",
-            shape,
-        ),
-        10..=17 => put_name(
-            out,
-            at,
-            b"ValDef,BlockValue,FuncValue,MethodCall,ConcreteCollection,BoolCollection,Tuple,SelectField",
-            shape - 10,
-        ),
-        18..=22 => put_name(
-            out,
-            at,
-            b"ExtractRegisterAs,GetVar,DeserializeContext,DeserializeRegister,SigmaCollection",
-            shape - 18,
-        ),
-        23..=26 => put_name(
-            out,
-            at,
-            b"NoneValue,ByIndex,NumericCast,FuncApply",
-            shape - 23,
-        ),
-        _ => at,
-    }
-}
-
-// A constant's class, by its aux, as far as there is room. Rules out: an end past the buffer; the end of a name that is
-// cut off.
-pub fn put_class(out: &mut [u8], at: usize, aux: u8) -> usize
-    requires { ⌜ at ≤ length (now out) ⌝ }
-    ensures { λ r. ⌜ r ≤ length (now (out .entry)) ⌝ }
-{
-    put_name(
+    put_entry(
         out,
         at,
-        b"  SBoolean,  SByte,  SShort,  SInt,  SLong,  SString,  other",
+        b"\x00Const,\x01Unparsed,\x02Zero,\x03One,\x04Two,\x05Three,\x06Four,\x07ValUse,\x08ConstPlaceholder,\
+          \x09TaggedVar,\x0AValDef,\x0BBlockValue,\x0CFuncValue,\x0DMethodCall,\x0EConcreteCollection,\x0FBoolCollection,\
+          \x10Tuple,\x11SelectField,\x12ExtractRegisterAs,\x13GetVar,\x14DeserializeContext,\x15DeserializeRegister,\
+          \x16SigmaCollection,\x17NoneValue,\x18ByIndex,\x19NumericCast,\x1AFuncApply,",
+        shape,
+    )
+}
+
+// A constant's class, by its aux. Rules out: the class of another aux; a name for an aux over 6.
+pub fn put_class(out: &mut [u8], at: usize, aux: u8) -> usize
+    requires { ⌜ at ≤ length (now out) ⌝ }
+    ensures { λ r. ⌜ Clipped (now (out .entry)) at (named (text "  ") classNames aux) (now (out .exit)) r ⌝ }
+{
+    put_entry(
+        out,
+        at,
+        b"\x00  SBoolean,\x01  SByte,\x02  SShort,\x03  SInt,\x04  SLong,\x05  SString,\x06  other,",
         aux,
     )
 }
 
-// An opcode in hex, and its name, as far as there is room. Opcodes that stand with one shape of their own have none
-// here: the shape says it. Rules out: an end past the buffer; the end of a name that is cut off.
+// An opcode in hex, and its name. Rules out: another opcode's name; the name before the number.
 pub fn put_opcode(out: &mut [u8], at: usize, opcode: u8) -> usize
     requires { ⌜ at ≤ length (now out) ⌝ }
-    ensures { λ r. ⌜ r ≤ length (now (out .entry)) ⌝ }
+    ensures { λ r. ⌜ Clipped (now (out .entry)) at (opcodeText opcode) (now (out .exit)) r ⌝ }
 {
     let space = put(out, at, b' ');
     let end = put_hex(out, space, opcode);
-    if opcode < 0xA8 {
-        return put_low_name(out, end, opcode);
-    }
-    put_high_name(out, end, opcode)
+    put_operation(out, end, opcode)
 }
 
-// The name of an opcode below A8, after a space.
-fn put_low_name(out: &mut [u8], at: usize, opcode: u8) -> usize
+// The name of an opcode, after a space.
+fn put_operation(out: &mut [u8], at: usize, opcode: u8) -> usize
     requires { ⌜ at ≤ length (now out) ⌝ }
-    ensures { λ r. ⌜ r ≤ length (now (out .entry)) ⌝ }
+    ensures { λ r. ⌜ Clipped (now (out .entry)) at (named (text " ") opcodeNames opcode) (now (out .exit)) r ⌝ }
 {
-    match opcode {
-        0x7E..=0x82 => put_name(
-            out,
-            at,
-            b" Upcast, True, False,, GroupGenerator",
-            opcode - 0x7E,
-        ),
-        0x8F..=0x97 => put_name(
-            out,
-            at,
-            b" LT, LE, GT, GE, EQ, NEQ, IF, AND, OR",
-            opcode - 0x8F,
-        ),
-        0x99..=0xA2 => put_name(
-            out,
-            at,
-            b" MINUS, PLUS,, MULTIPLY, DIVISION, MODULO,,, MIN, MAX",
-            opcode - 0x99,
-        ),
-        0xA3..=0xA7 => put_name(
-            out,
-            at,
-            b" HEIGHT, INPUTS, OUTPUTS, LastBlockUtxoRootHash, SELF_BOX",
-            opcode - 0xA3,
-        ),
-        _ => at,
-    }
-}
-
-// The name of an opcode from A8 on, after a space.
-fn put_high_name(out: &mut [u8], at: usize, opcode: u8) -> usize
-    requires { ⌜ at ≤ length (now out) ⌝ }
-    ensures { λ r. ⌜ r ≤ length (now (out .entry)) ⌝ }
-{
-    match opcode {
-        0xAC => put_text(out, at, b" MinerPubkey"),
-        0xB1 => put_text(out, at, b" SIZE_OF"),
-        0xDD => put_text(out, at, b" GLOBAL"),
-        0xE5 => put_text(out, at, b" OptionGetOrElse"),
-        0xEC..=0xF4 => put_name(
-            out,
-            at,
-            b" BIN_OR, BIN_AND,, LOGICAL_NOT, NEGATION,,,, BIN_XOR",
-            opcode - 0xEC,
-        ),
-        0xFE => put_text(out, at, b" Context"),
-        _ => at,
-    }
+    put_entry(
+        out,
+        at,
+        b"\x7E Upcast,\x7F True,\x80 False,\x82 GroupGenerator,\x8F LT,\x90 LE,\x91 GT,\x92 GE,\x93 EQ,\x94 NEQ,\
+          \x95 IF,\x96 AND,\x97 OR,\x99 MINUS,\x9A PLUS,\x9C MULTIPLY,\x9D DIVISION,\x9E MODULO,\xA1 MIN,\xA2 MAX,\
+          \xA3 HEIGHT,\xA4 INPUTS,\xA5 OUTPUTS,\xA6 LastBlockUtxoRootHash,\xA7 SELF_BOX,\xAC MinerPubkey,\xB1 SIZE_OF,\
+          \xDD GLOBAL,\xE5 OptionGetOrElse,\xEC BIN_OR,\xED BIN_AND,\xEF LOGICAL_NOT,\xF0 NEGATION,\xF4 BIN_XOR,\xFE Context,",
+        opcode,
+    )
 }

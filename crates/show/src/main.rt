@@ -1,11 +1,13 @@
-// Shows the forest on standard input as a sheet, a line a record (crate `sheet` has the layout), or, where a check from
-// 2 to 10 refuses it, as the one line `refused N at P`. At most 65,536 bytes are read: one more than a forest may have.
+// Shows the forest on standard input as a sheet, a line a record (model's `Sheet` says what it is), or, where a check
+// from 2 to 10 refuses it, as the one line `refused N at P`. At most 65,536 bytes are read: one more than a forest may
+// have.
 use codec::Verdict;
 use libc::STDIN_FILENO;
 use libc::STDOUT_FILENO;
 ghost use mathlib.Core.Path.{_≡_};
-ghost use Prim.Native.Nat.{_≤_};
 ghost use lib.ListN.{length};
+ghost use Rattle.model.specs.Sheet as model;
+ghost use Rattle.sheet.specs.Clip.{Clipped};
 
 // More than any sheet takes: 131,070 hex digits of literals, and 256 lines with less than 400 bytes beside.
 fn room() -> [u8; 262144]
@@ -14,9 +16,9 @@ fn room() -> [u8; 262144]
     [0; 262144]
 }
 
-// What is shown for a forest, put into text; gives its length.
+// What is shown for a forest, put at the start of text, as far as there is room; gives its length.
 fn shown(forest: &[u8], work: &mut [u32; 3840], text: &mut [u8]) -> usize
-    ensures { λ r. ⌜ r ≤ length (now (text .entry)) ⌝ }
+    ensures { λ r. ⌜ Clipped (now (text .entry)) 0 (model.sheet (now (forest .entry))) (now (text .exit)) r ⌝ }
 {
     match codec::check(forest, work) {
         Verdict::Accepted => sheet::write(forest, text),

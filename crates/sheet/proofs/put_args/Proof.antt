@@ -1,53 +1,28 @@
 -- `sheet::put_args` meets its contract. Assumes nothing.
-use Prim.Native.Nat.{_≤_, _-_}
-use mathlib.Core.Path.{_≡_, refl, _∙_}
-use native.Mathlib.Omega.{arith}
-use lib.ListN.{length}
 use borrow.Author.Needs.{needs}
-use Rattle.shape.specs.Args.{Left}
-use Rattle.shape.proofs.Args.{left-first, turn-id, turn-stands, turn-next}
+use denote.Ref.{now}
+use Rattle.model.specs.Text.{text}
+use Rattle.sheet.proofs.Clipping.{clipped-none, clipped-then, clipped-as}
+use Rattle.sheet.proofs.Lines.{args-none-text, args-text}
 use Rattle.sheet.proofs.put_args.Statement.{statement}
 use Rattle.sheet.proofs.put_args.Tie as tie
 
-abbrev Inv-loop : tie.InvT-loop
-Inv-loop out₀ at lit n end₀ from₀ k₀ out end from k =
-    (k ≤ n) × (length out ≡ length out₀) × (end ≤ length out₀) × Left (n - k) lit from
+returns : tie.Need-returns
+returns c =
+    let s = c .before .before .before in
+    clipped-as (clipped-none _ _ (s .pre .0)) (args-none-text _ _ (c .if1 .taken))
 
-abbrev μ-loop : tie.MeasureT-loop
-μ-loop out₀ at lit n end₀ from₀ k₀ out end from k = n - k
-
-loop-holds : tie.Need-loop-holds Inv-loop μ-loop
-loop-holds c =
-    let t = c .before .before .before .before in
-    (omega arith, refl, omega arith, left-first (t .before .before .before .before .pre .1))
-
-id-at-requires : tie.Need-id-at-requires Inv-loop μ-loop
-id-at-requires c κs =
-    let b = c .before .before .before .before .before in
-    turn-id (b .loop-test .taken) (b .before .loop .inv .3)
-
-arg-end-requires : tie.Need-arg-end-requires Inv-loop μ-loop
-arg-end-requires c κs =
-    let b = c .before .before .before .before .before .before .before .before .before in
-    turn-stands (b .loop-test .taken) (b .before .loop .inv .3)
-
-loop-again : tie.Need-loop-again Inv-loop μ-loop
-loop-again c =
-    let w = c .before .before .before in
-    let p = w .before .before .before .before .before in
-    let b = p .before .before in
-    let l = b .before .loop in (
-      omega arith,
-      w .put-number .kept .0 ∙ (p .put .kept .0 ∙ l .inv .1),
-      omega (arith, w .put-number .ensures .fits, p .put .kept .0, l .inv .1),
-      turn-next (b .loop-test .taken) (l .inv .3) (c .arg-end .ensures),
-    )
-
-same-length : tie.Need-same-length Inv-loop μ-loop
-same-length c = c .before .loop .inv .1 ∙ c .before .before .before .before .put-text .kept .0
+returns-2 : tie.Need-returns-2
+unfolding text
+returns-2 c =
+    let u = c .before .before in
+    let t = u .before .before .before .before in
+    let i = t .before .before .before in
+    let a = i .before .before .before .args in
+    clipped-as (clipped-then (t .put-text .ensures) (u .put-ids .ensures))
+    (args-text (a .n) (now (a .lit)) (i .if1 .left))
 
 pub put-args-spec : {M : Type 1} → statement M
 put-args-spec =
-    tie.close (tie.spec Inv-loop μ-loop (λ c. search needs) (λ c. search needs) (λ c κs. search needs) loop-holds
-    (λ c κs. search needs) id-at-requires (λ c. search needs) (λ c κs. search needs) arg-end-requires
-    (λ c. omega arith) (λ c. omega arith) loop-again same-length (λ c. search needs))
+    tie.close (tie.spec returns (λ c. search needs) (λ c κs. search needs) (λ c κs. search needs) (λ c. search needs)
+    returns-2)

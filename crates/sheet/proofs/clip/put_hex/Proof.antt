@@ -13,7 +13,7 @@ slice-aggregate-put-text c = sym (length-take-le _ _ (omega arith))
 returns : tie.Need-returns
 returns c =
     let p = c .before .before in
-    clipped-as (scratch-text (p .before .before .before .before .put-hex .ensures)) (p .put-text .ensures)
+    clipped-as (p .put-text .ensures) (scratch-text (p .before .before .before .before .put-hex .ensures))
 
 pub put-hex-spec : {M : Type 1} → statement M
 put-hex-spec =

@@ -4,9 +4,9 @@ use mathlib.Core.Path.{ap}
 use native.Mathlib.Omega.{arith}
 use lib.ListN.{length, take}
 use lib.Seq.{take-all}
-use Rattle.output.proofs.Wrote.{wrote-length}
-use Rattle.sheet.specs.Clip.{Clipped, hexBytes}
-use Rattle.sheet.proofs.Clipping.{clipped-as, hex-start, hex-turn}
+use Rattle.model.specs.Sheet.{hexBytes}
+use Rattle.sheet.specs.Clip.{Clipped}
+use Rattle.sheet.proofs.Clipping.{clipped-length, clipped-room, clipped-as, hex-start, hex-turn}
 use Rattle.sheet.proofs.clip.put_hexes.Statement.{statement}
 use Rattle.sheet.proofs.clip.put_hexes.Tie as tie
 
@@ -21,7 +21,7 @@ loop-holds : tie.Need-loop-holds Inv-loop μ-loop
 loop-holds c = (omega arith, hex-start _ _ (omega arith))
 
 put-hex-requires : tie.Need-put-hex-requires Inv-loop μ-loop
-put-hex-requires c κs = let w = c .before .before .before .loop .inv .1 in omega (arith, w .fits, wrote-length w)
+put-hex-requires c κs = clipped-room (c .before .before .before .loop .inv .1)
 
 loop-again : tie.Need-loop-again Inv-loop μ-loop
 loop-again c =
@@ -30,9 +30,9 @@ loop-again c =
     (omega arith, hex-turn _ _ (b .loop-test .taken) (b .before .loop .inv .1) (p .put-hex .ensures))
 
 returns : tie.Need-returns Inv-loop μ-loop
-returns c = clipped-as (ap hexBytes (take-all _ _ (c .loop-test .left))) (c .before .loop .inv .1)
+returns c = clipped-as (c .before .loop .inv .1) (ap hexBytes (take-all _ _ (c .loop-test .left)))
 
 pub put-hexes-spec : {M : Type 1} → statement M
 put-hexes-spec =
     tie.close (tie.spec Inv-loop μ-loop loop-holds (λ c. omega arith) put-hex-requires (λ c. omega arith)
-    (λ c. omega arith) loop-again (λ c. wrote-length (c .before .loop .inv .1)) returns)
+    (λ c. omega arith) loop-again (λ c. clipped-length (c .before .loop .inv .1)) returns)

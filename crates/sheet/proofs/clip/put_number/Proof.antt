@@ -17,7 +17,7 @@ slice-aggregate-put-text c = sym (length-take-le _ _ (omega arith))
 returns : tie.Need-returns
 returns c =
     let p = c .before .before in
-    clipped-as (scratch-text (p .before .before .before .before .put-decimal .ensures)) (p .put-text .ensures)
+    clipped-as (p .put-text .ensures) (scratch-text (p .before .before .before .before .put-decimal .ensures))
 
 pub put-number-spec : {M : Type 1} → statement M
 put-number-spec =

@@ -3,9 +3,8 @@ use Prim.Native.Nat.{ℕ, _≤_, _-_}
 use mathlib.Core.Path.{_≡_, ap}
 use native.Mathlib.Omega.{arith}
 use lib.ListN.{replicate}
-use Rattle.output.proofs.Wrote.{wrote-length}
 use Rattle.sheet.specs.Clip.{Clipped}
-use Rattle.sheet.proofs.Clipping.{clipped-none, clipped-as, spaces-turn}
+use Rattle.sheet.proofs.Clipping.{clipped-none, clipped-length, clipped-room, clipped-as, spaces-turn}
 use Rattle.sheet.proofs.clip.put_spaces.Statement.{statement}
 use Rattle.sheet.proofs.clip.put_spaces.Tie as tie
 
@@ -20,7 +19,7 @@ loop-holds : tie.Need-loop-holds Inv-loop μ-loop
 loop-holds c = (omega arith, clipped-none _ _ (omega arith))
 
 put-requires : tie.Need-put-requires Inv-loop μ-loop
-put-requires c κs = let w = c .before .before .loop .inv .1 in omega (arith, w .fits, wrote-length w)
+put-requires c κs = clipped-room (c .before .before .loop .inv .1)
 
 loop-again : tie.Need-loop-again Inv-loop μ-loop
 loop-again c =
@@ -32,9 +31,9 @@ returns : tie.Need-returns Inv-loop μ-loop
 returns c =
     let l = c .before .loop in
     let e : l .k ≡ c .before .before .before .args .n = omega arith in
-    clipped-as (ap (λ (k : ℕ). replicate k 32) e) (l .inv .1)
+    clipped-as (l .inv .1) (ap (λ (k : ℕ). replicate k 32) e)
 
 pub put-spaces-spec : {M : Type 1} → statement M
 put-spaces-spec =
     tie.close (tie.spec Inv-loop μ-loop loop-holds put-requires (λ c. omega arith) (λ c. omega arith)
-    loop-again (λ c. wrote-length (c .before .loop .inv .1)) returns)
+    loop-again (λ c. clipped-length (c .before .loop .inv .1)) returns)

@@ -18,10 +18,13 @@ put-bytes-requires c κs =
     let a = c .before .before .before .before .before .args in
     omega (arith, length-take-le (length (now (a .out)) - a .at) (now (a .text)) (omega arith))
 
+returns : tie.Need-returns
+returns c = record { is = c .before .before .put-bytes .ensures }
+
 returns-2 : tie.Need-returns-2
 returns-2 c = clipped-all (omega arith) (c .before .before .put-bytes2 .ensures)
 
 pub put-text-spec : {M : Type 1} → statement M
 put-text-spec =
     tie.close (tie.spec (λ c. search needs) slice-aggregate-put-bytes put-bytes-requires (λ c. search needs)
-    (λ c. search needs) (λ c κs. search needs) (λ c. search needs) returns-2)
+    returns (λ c κs. search needs) (λ c. search needs) returns-2)
