@@ -4,8 +4,8 @@
 Usage: check_definitions.py ROWS.tsv [--least N] [--jobs N] [--batch N]
 
 A row is tab separated: forest, output length, work words, number, place, written length, symbols, readings, tree; or, for the
-lister, forest and text. Byte strings are in hex, '-' for none. `cse-reference rows` and `cse-reference list-rows` write such rows; those
-of tests/definitions are written by hand.
+lister, forest and text; or, for the sheet, the word `sheet`, forest and text. Byte strings are in hex, '-' for none.
+`cse-reference rows` and `cse-reference list-rows` write rows of the first two kinds; those of tests/definitions are written by hand.
 
 Each row becomes one declaration, proved by `refl`, in a module beside a copy of the definitions, and one that is wrong follows them, which
 the checker must refuse. A row that it refuses is printed with its line number; a row over the checker's step limit says nothing either way and
@@ -34,6 +34,7 @@ use {SPECS}.Lists.{{same}}
 use {SPECS}.Answer.{{Answer, refused, good}}
 use {SPECS}.Call.{{Written, Numbers, run, numbersOf}}
 use {SPECS}.Lister.{{lister}}
+use {SPECS}.Sheet.{{sheet}}
 use {SPECS}.Computing.{{computing}}
 
 -- so many bytes of a number, the lowest first
@@ -59,7 +60,7 @@ unfolding gives written bytes computing
 r{i} = refl
 """
 LIST = """
-r{i} : same (lister {forest}) {lines} ≡ true
+r{i} : same ({text} {forest}) {lines} ≡ true
 unfolding bytes computing
 r{i} = refl
 """
@@ -85,10 +86,11 @@ def numeral(text, line):
 
 
 def declaration(i, line, fields):
-    if len(fields) == 2:
-        return LIST.format(i=i, forest=numeral(fields[0], line), lines=numeral(fields[1], line))
+    if len(fields) == 2 or len(fields) == 3 and fields[0] == "sheet":
+        text = "lister" if len(fields) == 2 else "sheet"
+        return LIST.format(i=i, text=text, forest=numeral(fields[-2], line), lines=numeral(fields[-1], line))
     if len(fields) != 9:
-        bad(line, f"{len(fields)} fields, not 9 or 2")
+        bad(line, f"{len(fields)} fields, not 9, 2, or 3 with the first `sheet`")
     names = ("room", "words", "number", "place", "len", "symbols", "readings")
     for name, value in zip(names, fields[1:8]):
         if not re.fullmatch(r"[0-9]+", value):
