@@ -1,5 +1,9 @@
 // What a record gives once its children's symbols are pending (intern.rs): the symbol of its key, a lambda's, a
-// projection's, a use's, or that of its last child. The pending symbols of the children start `held` words into their region.
+// projection's, a use's, or that of its last child. The pending symbols of the children start `held` words into their
+// region. All but `reads_again` give a step: the symbol and the state after it, or refusal 12 at the record, as the
+// definition has it. Then the words hold the state of the step (`Answers`), after a refusal the one in which it was met;
+// the words of symbols, slots, entries and remembered pairs may have changed, and no others (`Leaves`). A function that
+// only reads the words gives the state as it was, and refuses nothing.
 use interner::State;
 use interner::Step;
 use key::Func;
@@ -64,7 +68,7 @@ fn node_for(forest: &[u8], i: usize, b: Branches) -> Node
     })
 }
 
-// The symbol of record i's key, whose thunks have the scopes b. Rules out: an unparsed record's symbol as a constant's;
+// Gives the symbol of record i's key, whose thunks have the scopes b, or refusal 12. Rules out: an unparsed record's symbol as a constant's;
 // a symbol whose thunks are in the scope of its parent.
 pub fn general(
     forest: &[u8],
@@ -92,8 +96,9 @@ pub fn general(
     interner::finish(forest, work, t, st, cur, node, held, count)
 }
 
-// The symbol of the lambda of record i, whose arguments are the symbols from `first` on, and whose body was read in
-// scope `body`. Rules out: a lambda that depends on its own arguments; one whose body's scope is that of the record.
+// Gives the symbol of the lambda of record i, whose arguments are the symbols from `first` on, and whose body was read in
+// scope `body`, or refusal 12. Rules out: a lambda that depends on its own arguments; one whose body's scope is that of
+// the record.
 pub fn lambda(
     forest: &[u8],
     work: &mut [u32],
@@ -178,8 +183,8 @@ pub fn reads_again(forest: &[u8], work: &[u32], i: usize, held: usize) -> bool
     false
 }
 
-// The symbol of the SelectField of record i, whose input is not read again. Rules out: field 1 of a pair made without
-// field 2; the other field.
+// Gives the symbol of the SelectField of record i, whose input is not read again, or refusal 12. Rules out: field 1 of a
+// pair made without field 2; the other field.
 pub fn field(
     forest: &[u8],
     work: &mut [u32],
@@ -211,7 +216,7 @@ pub fn field(
     general(forest, work, t, st, i, cur, held, 1, none)
 }
 
-// The symbol of the last of `count` pending children. Rules out: that of a block's first definition; a new symbol.
+// Gives the symbol of the last of `count` pending children. Rules out: that of a block's first definition; a new symbol.
 pub fn last(work: &[u32], st: State, held: usize, count: usize) -> Step
     requires { ⌜ (0 < count) × (held + count ≤ PENDING .size) × (WORDS ≤ length (now work)) ⌝ }
     ensures { λ r. ⌜ r ≡ given st (last (pendingFrom (now (work .entry)) held count)) ⌝ }
@@ -219,7 +224,7 @@ pub fn last(work: &[u32], st: State, held: usize, count: usize) -> Step
     interner::given(st, work[PENDING + held + count - 1])
 }
 
-// The symbol of the id that record i uses, among `top` bindings. Rules out: an older binding's; the id itself.
+// Gives the symbol of the id that record i uses, among `top` bindings. Rules out: an older binding's; the id itself.
 pub fn value_use(forest: &[u8], work: &[u32], st: State, i: usize, top: usize) -> Step
     requires { ⌜ WellFormed (now forest) ⌝ }
     requires { ⌜ Uses (now forest) (now work) i top ⌝ }

@@ -163,6 +163,8 @@ module _ {bs ws ws₁ : List ℕ} {t : Tables} {st : State} {count : ℕ} (h : B
           ∙ sym (interned-is (refused (k .number) (k .place))
           (sym (v .is ∙ all-read) ∙ kids-refused bs ws₂ first 0 count k n));
       low = λ e. absurd (n e);
+      no-place = λ e. absurd (n e);
+      no-symbol = λ z. refl;
       frame = frame₂;
     }
 
@@ -196,5 +198,7 @@ module _ {bs ws ws₁ : List ℕ} {t : Tables} {st : State} {count : ℕ} (h : B
             out-good bs ws₂ first (given (k .st) (last (pendingFrom ws₂ 0 count))) refl
             ∙ sym (interned-is _ (sym (v .is ∙ all-read) ∙ kids-good bs ws₂ first 0 count k ok));
         low = λ z. root-low;
+        no-place = λ z. refl;
+        no-symbol = λ n. absurd (n refl);
         frame = frame₂;
       })

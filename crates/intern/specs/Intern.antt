@@ -256,9 +256,12 @@ pub record Enters (bs ws : List ℕ) (t : Tables) (st : State) (i : ℕ) (at : H
 
 -- ---- a forest
 
--- the root's symbol and the state after it, or a refusal
+-- the root's symbol and the state after it, or a refusal and the state in which it was met, which is free but for what
+-- holds of it; the words hold that state, and of those that interning may write the rest is free
 pub record Interned (bs ws ws′ : List ℕ) (r : Step) : Type 0 where
   pub rep : Rep bs ws′ (r .st)
   pub is : outOf bs ws′ first r ≡ interned bs
   pub low : r .number ≡ 0 → r .symbol < r .st .symbols
+  pub no-place : r .number ≡ 0 → r .place ≡ 0
+  pub no-symbol : (r .number ≡ 0 → ⊥) → r .symbol ≡ 0
   pub frame : Frame (INTERNING .first) (end INTERNING) ws ws′

@@ -335,7 +335,12 @@ fn in_thunk(forest: &[u8], work: &mut [u32], t: Tables, i: usize, at: Here, st: 
 
 // ---- a forest
 
-// The root's symbol: the last tree is the root. Rules out: the first tree's symbol; words after the bindings changed.
+// Gives the symbol of the root, the last tree, with the state after the whole forest; or the definition's refusal, 11 or
+// 12 with its place, with symbol 0 and the state in which it was met. Either way the words hold the state that is given,
+// region by region: symbols, slots, scopes, entries and remembered pairs, each up to its count (`Rep`); after a root's
+// symbol that state stands for the definition's. What else interning may write (`INTERNING`) is left free: pending
+// symbols, bindings, and words of a region past its count. All other words are as they were. Rules out: the first tree's
+// symbol; a symbol with a refusal; words after the bindings changed.
 pub fn forest(forest: &[u8], work: &mut [u32]) -> Step
     requires { ⌜ accept (now forest) ≡ good (treesOf (now forest)) ⌝ }
     requires { ⌜ WORDS ≤ length (now work) ⌝ }

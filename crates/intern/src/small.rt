@@ -39,7 +39,7 @@ pub fn child_at(at: Here, j: usize, top: usize) -> Here
 }
 
 // The scopes of thunks, with one more where there is one or none. Rules out: a second in place of the first; a third.
-pub fn one_more(b: Branches, scope: usize) -> Branches
+fn one_more(b: Branches, scope: usize) -> Branches
     requires { ⌜ scope ≤ 2049 ⌝ }
     ensures { λ r. ⌜ r ≡ noted true b scope ⌝ }
 {
@@ -59,7 +59,7 @@ pub fn one_more(b: Branches, scope: usize) -> Branches
 
 // The scopes of thunks, after a child that was or was not read in one. Rules out: the scope of a child that has no
 // thunk; a thunk not noted.
-pub fn note(thunk: bool, b: Branches, scope: usize) -> Branches
+fn note(thunk: bool, b: Branches, scope: usize) -> Branches
     requires { ⌜ scope ≤ 2049 ⌝ }
     ensures { λ r. ⌜ r ≡ noted thunk b scope ⌝ }
 {

@@ -1,5 +1,6 @@
 // What interning does to its state beside making symbols: readings counted, thunks opened and closed, bodies of lambdas
-// opened (intern.rs).
+// opened (intern.rs). Each function gives the state after it; none refuses. Those that are lent the words write the word
+// of the new scope, and no other.
 use interner::State;
 ghost use mathlib.Core.Path.{_≡_};
 ghost use Prim.Native.Nat.{_+_, _<_, _≤_};
@@ -8,7 +9,7 @@ ghost use Rattle.regions.specs.Regions.{WORDS};
 ghost use Rattle.scopes.specs.Scopes.{scopeWord, levelOf, withThunk, withLambda};
 ghost use Rattle.opening.specs.Opening.{withReadings, withReading, withScope, thunkClosed};
 
-// n readings more. Rules out: one more; the count as it was.
+// The state with n readings more. Rules out: one more; the count as it was.
 pub fn count_readings(st: State, n: u32) -> State
     requires { ⌜ st .readings + n ≤ 2048 ⌝ }
     ensures { λ r. ⌜ r ≡ withReadings st n ⌝ }
@@ -23,7 +24,7 @@ pub fn count_readings(st: State, n: u32) -> State
     }
 }
 
-// One reading more. Rules out: the count as it was; a reading that counts twice.
+// The state with one reading more. Rules out: the count as it was; a reading that counts twice.
 pub fn count_reading(st: State) -> State
     requires { ⌜ st .readings < 2048 ⌝ }
     ensures { λ r. ⌜ r ≡ withReading st ⌝ }
@@ -31,7 +32,7 @@ pub fn count_reading(st: State) -> State
     count_readings(st, 1)
 }
 
-// One scope more.
+// The state with one scope more.
 fn with_scope(st: State) -> State
     requires { ⌜ st .scopes ≤ 2048 ⌝ }
     ensures { λ r. ⌜ r ≡ withScope st ⌝ }
@@ -46,8 +47,8 @@ fn with_scope(st: State) -> State
     }
 }
 
-// A thunk inside scope `cur` is opened; the table of its own is pushed by the caller. Rules out: a thunk inside another
-// scope; a lambda's body.
+// A thunk inside scope `cur` is opened: gives the state with its scope counted, and writes that scope's word. The table
+// of its own is pushed by the caller. Rules out: a thunk inside another scope; a lambda's body.
 pub fn open_thunk(work: &mut [u32], st: State, cur: usize) -> State
     requires { ⌜ WORDS ≤ length (now work) ⌝ }
     requires { ⌜ (cur < st .scopes) × (st .scopes ≤ 2048) ⌝ }
@@ -59,8 +60,8 @@ pub fn open_thunk(work: &mut [u32], st: State, cur: usize) -> State
     with_scope(st)
 }
 
-// A thunk's table is dropped: of the entries the first `top` are left, those from before it. Rules out: its symbols
-// found after it; entries around it dropped too.
+// A thunk's table is dropped: gives the state with the first `top` of its entries, those from before the thunk. Rules
+// out: its symbols found after it; entries around it dropped too.
 pub fn close_thunk(st: State, top: u32) -> State
     ensures { λ r. ⌜ r ≡ thunkClosed st top ⌝ }
 {
@@ -74,8 +75,9 @@ pub fn close_thunk(st: State, top: u32) -> State
     }
 }
 
-// The body of a lambda inside scope `cur` is opened, with `count` arguments from symbol `first` on. Rules out: a thunk,
-// out of which no symbol moves; a scope that is not counted.
+// The body of a lambda inside scope `cur` is opened, with `count` arguments from symbol `first` on: gives the state with
+// its scope counted, and writes that scope's word. Rules out: a thunk, out of which no symbol moves; a scope that is not
+// counted.
 pub fn open_body(work: &mut [u32], st: State, cur: usize, first: u32, count: u32) -> State
     requires { ⌜ WORDS ≤ length (now work) ⌝ }
     requires { ⌜ (cur < st .scopes) × (st .scopes ≤ 2048) ⌝ }
