@@ -12,9 +12,11 @@ use lib.ListN.{length}
 use Rattle.model.specs.Answer.{refused, good, _>>=_}
 use Rattle.model.specs.Tree.{Tree, Trees, nil, cons, size}
 use Rattle.model.specs.Intern.{State, Env, Out, Outs, bindDef, thunked, internScoped, branch, intern, internAll}
+use Rattle.laws.proofs.Members.{clash}
 use Rattle.tables.specs.declared.Tables.{Tables}
 use Rattle.concluding.specs.declared.Branches.{Branches}
 use Rattle.concluding.specs.Concluding.{branchesOf, Branched}
+use Rattle.standing.proofs.Next.{thunked-not}
 use Rattle.intern.specs.declared.Kids.{Kids}
 use Rattle.intern.specs.Steps.{oneMore, noted}
 use Rattle.intern.specs.Intern.{kidsAnswer, kidsOf}
@@ -107,19 +109,13 @@ unfolding thunked
 none-thunked j h = let z : _≡_ {A = ℕ} 0 1 = cc in omega arith
 
 thunked-place : (op j : ℕ) → thunked op j ≡ true → (1 ≤ j) × (j ≤ 2)
-unfolding thunked
 thunked-place op j h = go (eqb j 1) (eqb j 2) refl refl
   where
     go : (a b : Bool) → eqb j 1 ≡ a → eqb j 2 ≡ b → (1 ≤ j) × (j ≤ 2)
     go true b e f = (omega (arith, eqb-true j 1 e), omega (arith, eqb-true j 1 e))
     go false true e f = (omega (arith, eqb-true j 2 f), omega (arith, eqb-true j 2 f))
-    go false false e f = absurd (never (eqb op 0x95) (eqb op 0xED || eqb op 0xEC) (rw (e, f) at h))
-      where
-        never : (a b : Bool) → (a && false) || (b && false) ≡ true → ⊥
-        never true true h = let z : _≡_ {A = ℕ} 0 1 = cc in omega arith
-        never true false h = let z : _≡_ {A = ℕ} 0 1 = cc in omega arith
-        never false true h = let z : _≡_ {A = ℕ} 0 1 = cc in omega arith
-        never false false h = let z : _≡_ {A = ℕ} 0 1 = cc in omega arith
+    go false false e f =
+        absurd (clash (thunked op j) h (thunked-not op j (eqb-false j 1 e) (eqb-false j 2 f)))
 
 pub noted-some : (t : Bool) (b z : Branches) (scope : ℕ) → t ≡ true → z ≡ noted true b scope → z ≡ noted t b scope
 noted-some t b z scope e h = rw e h

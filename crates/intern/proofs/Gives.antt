@@ -12,7 +12,7 @@ use Rattle.model.specs.Answer.{refused}
 use Rattle.model.specs.Tree.{Rec}
 use Rattle.model.specs.Forest.{recordCount}
 use Rattle.model.specs.Binding.{field, isBlock}
-use Rattle.model.specs.Intern.{Out, Env, internGeneral, internField, internKind}
+use Rattle.model.specs.Intern.{Out, Env, internField, internKind}
 use Rattle.record.specs.Record.{rowAt}
 use Rattle.shape.proofs.Fitting.{fits-field}
 use Rattle.walk.specs.Walk.{recAt, WellFormed}
@@ -23,7 +23,7 @@ use Rattle.bindings.proofs.Laws.{env-words}
 use Rattle.tables.specs.declared.Tables.{Tables}
 use Rattle.interner.specs.declared.State.{State}
 use Rattle.interner.specs.declared.Step.{Step}
-use Rattle.interner.specs.State.{absOf, Rep}
+use Rattle.interner.specs.State.{absOf}
 use Rattle.interner.specs.Step.{Answers}
 use Rattle.concluding.specs.Concluding.{readsAgain, Selects, Input}
 use Rattle.concluding.proofs.Selecting.{selects-input, field-again}
@@ -204,16 +204,11 @@ module _ {bs ws : List ℕ} {t : Tables} {st : State} {i : ℕ} {at : Here} (h :
               × (k .st .readings + k .st .readings ≤ 2048 + st .readings)
           recount-asks = (repeated-more (h .parent .well) gave₁ calm, repeats-few st (k .st) calm)
 
-          recount-rep : Rep bs ws₁ (repeated st k .st)
-          recount-rep = repeated-rep (h .parent .well) gave₁ calm (v .rep)
-
           recount-is : kidsAnswer bs ws₁ t (at .held) (rowAt bs i .kids) (repeated st k)
               ≡ kidsRead bs i (at .scope) (envOf ws₁ (at .top)) (absOf bs ws₁ t (k .st))
           recount-is =
-              ap (λ (n : ℕ). kidsAnswer bs ws₁ t (at .held) n (repeated st k)) (sym field-one)
-              ∙ sym (repeated-is (h .parent .well) gave₁ calm)
-              ∙ ap (λ (x : Env). kidsRead bs i (at .scope) x (absOf bs ws₁ t (k .st)))
-              (sym (env-words ws₁ ws (at .top) (v .kept .words .bound)))
+              rw (← field-one, env-words ws₁ ws (at .top) (v .kept .words .bound))
+              (sym (repeated-is (h .parent .well) gave₁ calm))
 
           recount-concluding : Concluding bs ws₁ i at (repeated st k)
           recount-concluding =
@@ -230,7 +225,7 @@ module _ {bs ws : List ℕ} {t : Tables} {st : State} {i : ℕ} {at : Here} (h :
 
           recount-ready : Completable bs ws₁ t i at (repeated st k)
           recount-ready = record {
-            rep = recount-rep;
+            rep = repeated-rep (h .parent .well) gave₁ calm (v .rep);
             opened = v .opened;
             branched = v .branched;
             concludes = λ z. recount-concluding;
@@ -266,11 +261,9 @@ module _ {bs ws : List ℕ} {t : Tables} {st : State} {i : ℕ} {at : Here} (h :
                 (kidsRead bs i (at .scope) (envOf ws₁ (at .top)) (absOf bs ws₁ t (k .st))) ≡ fieldOut
             again-is =
                 concluded-other i (at .scope) r _ (λ q. omega (arith, h .shape, q)) (λ q. omega (arith, h .shape, q))
-                ∙ ap (λ (x : Env). internGeneral i (at .scope) r
-                (kidsRead bs i (at .scope) x (absOf bs ws₁ t (k .st)))) (env-words ws₁ ws (at .top)
-                (v .kept .words .bound))
-                ∙ sym (field-again bs ws₁ t (k .st) i (at .scope) (at .held) env (kidsRead bs i)
-                (sym (told (k .st .symbols) input-low) ∙ e))
+                ∙ rw (env-words ws₁ ws (at .top) (v .kept .words .bound))
+                (sym (field-again bs ws₁ t (k .st) i (at .scope) (at .held) env (kidsRead bs i)
+                (sym (told (k .st .symbols) input-low) ∙ e)))
                 ∙ sym field-is
 
             recount-incomplete : repeats st (k .st) ≡ true → Incomplete bs ws t st i at fieldOut ws₁ (repeated st k)

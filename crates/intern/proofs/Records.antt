@@ -281,16 +281,11 @@ module _ {bs ws : List ℕ} {t : Tables} {st : State} {i : ℕ} {at : Here} {b :
         forced = union-forced (absOf bs ws₁ t (k .st)) (at .scope) (pendingFrom ws₁ (at .held) n) (kids-all .results);
       }
 
-      -- they may be read again
-      kids-again : WellAll (kidTreesAt bs i) b (recAt bs i .opcode) 0 (at .scope) (envOf ws₁ (at .top))
-          (absOf bs ws₁ t (k .st)) 1
-      kids-again = rw (env-words ws₁ ws (at .top) (v .kept .words .bound)) (again-well well (suc i) _ kids-give)
-
       pub kids-gave : Gave bs ws t st i at b n ws₁ k
       kids-gave = record {
         is = kids-give;
         past = kids-past;
         slots = kids-slots;
         conclude = kids-conclude;
-        again = kids-again;
+        again = rw (env-words ws₁ ws (at .top) (v .kept .words .bound)) (again-well well (suc i) _ kids-give);
       }

@@ -96,8 +96,9 @@ module _ {bs ws : List ℕ} {t : Tables} {st : State} {i : ℕ} {at : Here} (lt 
     omega (arith, h .stands .rep .entries .few, h .stands .rep .arena .scoped .few),
   )
 
-  module _ {ws₁ : List ℕ} {inside : State}
-      (made : (ws₁ ≡ withThunk ws (st .scopes) (at .scope)) × (inside ≡ withScope st)) {inner : Tables} (pushed : inner ≡ opened t (st .entries)) where
+  module _ {ws₁ : List ℕ} {inside : State} {inner : Tables}
+      (made : (ws₁ ≡ withThunk ws (st .scopes) (at .scope)) × (inside ≡ withScope st))
+      (pushed : inner ≡ opened t (st .entries)) where
     abbrev own : Here
     own = record { scope = st .scopes; held = at .held; top = at .top }
 

@@ -68,7 +68,7 @@ module _ {t : Tree} {ts : Trees} {b : Bool} {op j cur : ℕ} {env : Env} {st : S
 -- ---- how many thunks
 
 -- no opcode has a thunk at operand 0, nor from operand 3 on
-thunked-not : (op j : ℕ) → (j ≡ 1 → ⊥) → (j ≡ 2 → ⊥) → thunked op j ≡ false
+pub thunked-not : (op j : ℕ) → (j ≡ 1 → ⊥) → (j ≡ 2 → ⊥) → thunked op j ≡ false
 unfolding thunked
 thunked-not op j a b =
     rw (ne-eqb j 1 a, ne-eqb j 2 b, and-false (eqb op 0x95), and-false (eqb op 0xED || eqb op 0xEC))

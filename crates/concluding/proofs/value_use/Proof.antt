@@ -16,10 +16,11 @@ use Rattle.concluding.proofs.value_use.Tie as tie
 id-at-requires : tie.Need-id-at-requires
 id-at-requires c κs =
     let start = c .before .before .before in
+    let uses = start .pre .1 in
     omega (
       arith,
       ap length (c .literal .ensures),
-      use-literal (now (start .args .forest)) (start .args .i) (start .pre .0) (start .pre .1 .from) (start .pre .1 .shape),
+      use-literal (now (start .args .forest)) (start .args .i) (start .pre .0) (uses .from) (uses .shape),
     )
 
 returns : tie.Need-returns
