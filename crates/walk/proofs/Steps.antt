@@ -112,7 +112,8 @@ module _ {C : Type 0} (k : Check C) where
       go : (o : Option ℕ) → first (faults k t (k .here c ts)) ≡ o → some q ≡ shift j o →
           some q ≡ shift j (first (faults k t (k .here c ts) ++ faultsIn k ts (k .later t c)))
       go none f g = some-none g
-      go (some r) f g = g ∙ ap (shift j) (sym (first-sooner (faults k t (k .here c ts)) (faultsIn k ts (k .later t c)) r f))
+      go (some r) f g =
+          g ∙ ap (shift j) (sym (first-sooner (faults k t (k .here c ts)) (faultsIn k ts (k .later t c)) r f))
 
 take-cons : (n : ℕ) (t : Tree) (ts : Trees) → 0 < n → takeT n (cons t ts) ≡ cons t (takeT (n - 1) ts)
 unfolding takeT

@@ -63,12 +63,17 @@ put-row-spec =
     (λ c κs. let s = c .before .before .before .before .before .before in let e = c .before .before .p5 .given .1 in
     (omega (arith, room s e), writable s e))
     (λ c. search needs) put-lambda-requires (λ c. search needs)
-    (λ c. as-row (c .before .before .before .before .before .before .before .before .before) (c .before .before .before .before .before .p .given .1) refl (c .before .before .put-copy .ensures))
+    (λ c. let m = c .before .before .before .before .before in
+    as-row (m .before .before .before .before) (m .p .given .1) refl (c .before .before .put-copy .ensures))
     (λ c. search needs) returns-2 (λ c. search needs)
-    (λ c. as-row (c .before .before .before .before .before .before .before .before .before) (c .before .before .before .before .before .p3 .given .1) refl (c .before .before .put-val-use .ensures))
+    (λ c. let m = c .before .before .before .before .before in
+    as-row (m .before .before .before .before) (m .p3 .given .1) refl (c .before .before .put-val-use .ensures))
     (λ c. search needs)
-    (λ c. as-row (c .before .before .before .before .before .before .before .before .before) (c .before .before .before .before .before .p4 .given .1) refl (c .before .before .put-val-def .ensures))
+    (λ c. let m = c .before .before .before .before .before in
+    as-row (m .before .before .before .before) (m .p4 .given .1) refl (c .before .before .put-val-def .ensures))
     (λ c. search needs)
-    (λ c. as-row (c .before .before .before .before .before .before .before .before .before) (c .before .before .before .before .before .p5 .given .1) refl (c .before .before .put-block .ensures))
+    (λ c. let m = c .before .before .before .before .before in
+    as-row (m .before .before .before .before) (m .p5 .given .1) refl (c .before .before .put-block .ensures))
     (λ c. search needs)
-    (λ c. as-row (c .before .before .before .before .before .before .before .before .before) (c .before .before .before .before .before .p6 .given .1) refl (c .before .before .put-lambda .ensures)))
+    (λ c. let m = c .before .before .before .before .before in
+    as-row (m .before .before .before .before) (m .p6 .given .1) refl (c .before .before .put-lambda .ensures)))

@@ -7,12 +7,14 @@ use Rattle.walk.proofs.offends.Tie as tie
 
 returns-3 : tie.Need-returns-3
 returns-3 c =
-    misplaced-told _ _ _ (c .misplaced .ensures) (c .before .shape .ensures) ∙ test-8 _ _ _ (c .before .before .if3 .taken)
+    misplaced-told _ _ _ (c .misplaced .ensures) (c .before .shape .ensures)
+    ∙ test-8 _ _ _ (c .before .before .if3 .taken)
 
 returns-5 : tie.Need-returns-5
 returns-5 c =
+    let s = c .before .before .before in
     c .unbound .ensures
-    ∙ test-10 _ _ _ (c .before .before .before .before .if1 .left) (c .before .before .before .if2 .left) (c .before .before .if3 .left) (c .before .if4 .left)
+    ∙ test-10 _ _ _ (s .before .if1 .left) (s .if2 .left) (c .before .before .if3 .left) (c .before .if4 .left)
 
 pub offends-spec : {M : Type 1} → statement M
 offends-spec =

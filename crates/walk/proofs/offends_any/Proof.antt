@@ -9,20 +9,23 @@ use Rattle.walk.proofs.Tests.{any-deep, any-misplaced, any-rebound, any
 use Rattle.walk.proofs.offends_any.Statement.{statement}
 use Rattle.walk.proofs.offends_any.Tie as tie
 
--- what the answer of `misplaced` is
-placed : (c : tie.After-misplaced) →
-    c .misplaced .result ≡ misplacedAt (c .before .before .before .before .before .before .args .at .def) (recAt (now (c .before .before .before .before .before .before .args .forest)) (c .before .before .before .before .before .before .args .i))
+-- the function's start, from where `misplaced` has answered, and what it answered
+abbrev start : tie.After-misplaced → tie.Start
+start c = c .before .before .before .before .before .before
+
+placed : (c : tie.After-misplaced) → c .misplaced .result ≡
+    misplacedAt (start c .args .at .def) (recAt (now (start c .args .forest)) (start c .args .i))
 placed c = misplaced-told _ _ _ (c .misplaced .ensures) (c .before .shape .ensures)
 
 returns-3 : tie.Need-returns-3
 returns-3 c =
-    let m = c .before .before .before in
-    any-rebound _ _ (omega arith) _ (placed m) (c .before .before .if2 .left) _ (c .before .rebound .ensures) (c .if3 .taken)
+    let b = c .before .before in
+    any-rebound _ _ (omega arith) _ (placed (b .before)) (b .if2 .left) _ (c .before .rebound .ensures) (c .if3 .taken)
 
 returns-4 : tie.Need-returns-4
 returns-4 c =
-    let m = c .before .before .before .before in
-    any-unbound _ _ (omega arith) _ (placed m) (c .before .before .before .if2 .left) _ (c .before .before .rebound .ensures) _
+    let b = c .before .before .before in
+    any-unbound _ _ (omega arith) _ (placed (b .before)) (b .if2 .left) _ (c .before .before .rebound .ensures) _
     (c .unbound .ensures) (c .before .if3 .left)
 
 pub offends-any-spec : {M : Type 1} → statement M

@@ -13,5 +13,6 @@ arg-part-spec =
     (λ c. search needs)
     (λ c κs. end-is (c .before .k .given .1) (c .before .before .before .id-part .ensures) .within .1)
     (λ c. search needs)
-    (λ c. then-end (c .before .before .k .given .1) (c .before .before .before .before .id-part .ensures) (c .opt-part .ensures))
+    (λ c. let k = c .before .before in
+    then-end (k .k .given .1) (k .before .before .id-part .ensures) (c .opt-part .ensures))
     (λ c. then-broken _ (c .enum-told .given .1) (c .before .before .id-part .ensures)))
