@@ -1,4 +1,5 @@
-// Text written over an output, front to back.
+// Text written over an output, front to back. Each function gives the place after its text; the rest of the output is
+// as it was.
 // In order: two bytes; a number in decimal; a byte in hexadecimal; the line of a refusal.
 ghost use mathlib.Core.Path.{_≡_};
 ghost use mathlib.Core.List.{[], _∷_};
@@ -8,7 +9,7 @@ ghost use Rattle.model.specs.Lister.{hexDigit, hexByte};
 ghost use Rattle.output.specs.Output.{Wrote};
 ghost use Rattle.text.specs.Text.{numeral, refusal};
 
-// Two bytes. Rules out: the second first; the first alone.
+// Two bytes at `at`; the answer is the place after them. Rules out: the second first; the first alone.
 pub fn put_two(out: &mut [u8], at: usize, first: u8, second: u8) -> usize
     requires { ⌜ at + 2 ≤ length (now out) ⌝ }
     ensures { λ r. ⌜ Wrote (now (out .entry)) at (first ∷ second ∷ []) (now (out .exit)) r ⌝ }
@@ -26,7 +27,8 @@ fn digit(n: u64) -> u8
     (48 + n) as u8
 }
 
-// n in decimal. Rules out: the lowest digit first; a number of one digit with a 0 before it.
+// n in decimal at `at`, without leading zeros; the answer is the place after it.
+// Rules out: the lowest digit first; a number of one digit with a 0 before it.
 pub fn put_decimal(out: &mut [u8], at: usize, n: u64) -> usize
     requires { ⌜ at + length (numeral n) ≤ length (now out) ⌝ }
     ensures { λ r. ⌜ Wrote (now (out .entry)) at (numeral n) (now (out .exit)) r ⌝ }
@@ -50,7 +52,8 @@ fn hex_digit(n: u8) -> u8
     b'A' + (n - 10)
 }
 
-// A byte as two hexadecimal digits. Rules out: small letters; one digit for a byte below 16.
+// A byte as two hexadecimal digits at `at`; the answer is the place after them.
+// Rules out: small letters; one digit for a byte below 16.
 pub fn put_hex(out: &mut [u8], at: usize, b: u8) -> usize
     requires { ⌜ at + 2 ≤ length (now out) ⌝ }
     ensures { λ r. ⌜ Wrote (now (out .entry)) at (hexByte b) (now (out .exit)) r ⌝ }
@@ -63,7 +66,8 @@ pub fn put_hex(out: &mut [u8], at: usize, b: u8) -> usize
 // The length of the longest line: its two numbers have twenty digits each.
 pub const LINE: usize = 53;
 
-// The line of a refusal, over the output's start. Rules out: the place before the number; the newline left out.
+// The line of a refusal, over the output's start; the answer is its length.
+// Rules out: the place before the number; the newline left out.
 pub fn put_refusal(out: &mut [u8], number: u64, place: u64) -> usize
     requires { ⌜ 53 ≤ length (now out) ⌝ }
     ensures { λ r. ⌜ Wrote (now (out .entry)) 0 (refusal number place) (now (out .exit)) r ⌝ }

@@ -1,4 +1,5 @@
 // Records written over an output: a record's fixed bytes, a record of the forest, and the records that a plan makes.
+// Each function gives the place after its bytes; the rest of the output is as it was.
 use shape::BLOCK_VALUE;
 use shape::BLOCK_VALUE_OP;
 use shape::SELECT_FIELD;
@@ -18,7 +19,7 @@ ghost use Rattle.plan.specs.Plan.{rowFor};
 ghost use Rattle.output.specs.Output.{Wrote};
 ghost use Rattle.writer.specs.Writer.{fixed};
 
-// A record's five fixed bytes: shape, opcode, 16-bit child count, aux.
+// A record's five fixed bytes at `at`: shape, opcode, 16-bit child count, aux. The answer is the place after them.
 // Rules out: opcode before shape; a child count of one byte.
 pub fn put_fixed(out: &mut [u8], at: usize, shape: u8, opcode: u8, kids: usize, aux: u8) -> usize
     requires { ⌜ at + 5 ≤ length (now out) ⌝ }
@@ -31,7 +32,8 @@ pub fn put_fixed(out: &mut [u8], at: usize, shape: u8, opcode: u8, kids: usize, 
     output::put_byte(out, d, aux)
 }
 
-// The forest's record i, as it stands. Rules out: its literal alone; the record after it.
+// The forest's record i at `at`, as it stands; the answer is the place after it.
+// Rules out: its literal alone; the record after it.
 pub fn put_copy(forest: &[u8], out: &mut [u8], at: usize, i: u32) -> usize
     requires { ⌜ Laid (now forest) ⌝ }
     requires { ⌜ i < recordCount (now forest) ⌝ }
@@ -48,7 +50,8 @@ pub fn put_copy(forest: &[u8], out: &mut [u8], at: usize, i: u32) -> usize
     output::put_bytes(out, next, record::literal(forest, j))
 }
 
-// A SelectField of this field. Rules out: the field as aux; the record without a child.
+// A SelectField of this field at `at`; the answer is the place after it.
+// Rules out: the field as aux; the record without a child.
 pub fn put_field(out: &mut [u8], at: usize, field: u8) -> usize
     requires { ⌜ at + 6 ≤ length (now out) ⌝ }
     ensures { λ r. ⌜ Wrote (now (out .entry)) at (rowBytes (rowFor [] (Field field))) (now (out .exit)) r ⌝ }
@@ -57,7 +60,7 @@ pub fn put_field(out: &mut [u8], at: usize, field: u8) -> usize
     output::put_byte(out, b, field)
 }
 
-// A use of this id. Rules out: a definition's shape; the id in two bytes.
+// A use of this id at `at`; the answer is the place after it. Rules out: a definition's shape; the id in two bytes.
 pub fn put_val_use(out: &mut [u8], at: usize, id: u32) -> usize
     requires { ⌜ at + 9 ≤ length (now out) ⌝ }
     ensures { λ r. ⌜ Wrote (now (out .entry)) at (rowBytes (rowFor [] (ValUse id))) (now (out .exit)) r ⌝ }
@@ -66,7 +69,8 @@ pub fn put_val_use(out: &mut [u8], at: usize, id: u32) -> usize
     output::put_32(out, b, id)
 }
 
-// A definition of this id, without type. Rules out: a use's shape; the byte of the absent type left out.
+// A definition of this id at `at`, without type; the answer is the place after it.
+// Rules out: a use's shape; the byte of the absent type left out.
 pub fn put_val_def(out: &mut [u8], at: usize, id: u32) -> usize
     requires { ⌜ at + 10 ≤ length (now out) ⌝ }
     ensures { λ r. ⌜ Wrote (now (out .entry)) at (rowBytes (rowFor [] (ValDef id))) (now (out .exit)) r ⌝ }
@@ -76,7 +80,8 @@ pub fn put_val_def(out: &mut [u8], at: usize, id: u32) -> usize
     output::put_byte(out, c, 0)
 }
 
-// A block of so many children. Rules out: the count as aux; a count of one child whatever is given.
+// A block of so many children at `at`: its record alone; the answer is the place after it.
+// Rules out: the count as aux; a count of one child whatever is given.
 pub fn put_block(out: &mut [u8], at: usize, kids: usize) -> usize
     requires { ⌜ at + 5 ≤ length (now out) ⌝ }
     requires { ⌜ kids < 65536 ⌝ }
