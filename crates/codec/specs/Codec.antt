@@ -1,7 +1,7 @@
 -- What checks of a forest answer.
 -- In order: one pair of the directory; verdicts; what checks 2 to 6 leave, and say; all checks.
 -- Assumes nothing.
-use Prim.Native.Nat.{ℕ, _+_}
+use Prim.Native.Nat.{ℕ, _+_, _≤_}
 use mathlib.Core.Path.{_≡_}
 use mathlib.Core.Bool.{Bool, not, _&&_, _||_}
 use mathlib.Core.Option.{none}
@@ -36,7 +36,19 @@ abbrev pub Layout : List ℕ → Verdict → Type 0
 Layout bs Accepted = Shaped bs
 Layout bs (Refused n p) = refused n p ≡ accept bs
 
--- the answer of all checks, and no word changed but those of IDS
+-- a refusal by one of checks 2 to 6, which look at the forest alone
+abbrev pub Early : Verdict → Type 0
+Early Accepted = ⊥
+Early (Refused n p) = n ≤ 6
+
+-- the answer of all checks, where 2 to 6 pass: no word changed but those of IDS
 pub record Answered (bs ws ws′ : List ℕ) (r : Verdict) : Type 0 where
   pub is : answerOf r (treesOf bs) ≡ accept bs
+  pub late : Early r → ⊥
+  pub kept : Frame (IDS .first) (end IDS) ws ws′
+
+-- the answer of all checks: no word changed but those of IDS, and none where 2 to 6 refuse
+pub record Judged (bs ws ws′ : List ℕ) (r : Verdict) : Type 0 where
+  pub is : answerOf r (treesOf bs) ≡ accept bs
+  pub early : Early r → ws′ ≡ ws
   pub kept : Frame (IDS .first) (end IDS) ws ws′

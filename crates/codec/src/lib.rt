@@ -10,7 +10,7 @@ ghost use Rattle.model.specs.Shape as table;
 ghost use Rattle.record.specs.Record.{Laid, rowAt};
 ghost use Rattle.walk.specs.Walk.{placeOf};
 ghost use Rattle.regions.specs.Regions.{IDS, end};
-ghost use Rattle.codec.specs.Codec.{badPair, Layout, Shaped, Answered};
+ghost use Rattle.codec.specs.Codec.{badPair, Layout, Shaped, Answered, Judged};
 
 // What the checks say of a forest: accepted, or the number of the first check that fails and its place.
 pub enum Verdict {
@@ -20,7 +20,7 @@ pub enum Verdict {
 
 // Check 2: the forest's length, and the header's counts.
 // Rules out: a place for 65,535 bytes whose counts are right; nowhere for 257 records.
-pub fn check2(forest: &[u8]) -> Place
+fn check2(forest: &[u8]) -> Place
     ensures { λ r. ⌜ placeOf r ≡ model.check2 (now (forest .entry)) ⌝ }
 {
     let size = forest.len();
@@ -66,7 +66,7 @@ fn bad_pair(total: usize, from: usize, at: usize, size: usize, last: bool) -> bo
 
 // Check 3: the directory.
 // Rules out: nowhere where bytes stand after the last record; the record after the one that offends.
-pub fn check3(forest: &[u8]) -> Place
+fn check3(forest: &[u8]) -> Place
     requires { ⌜ model.check2 (now forest) ≡ none ⌝ }
     ensures { λ r. ⌜ placeOf r ≡ model.check3 (now (forest .entry)) ⌝ }
 {
@@ -103,7 +103,7 @@ fn fits(forest: &[u8], i: usize) -> bool
 }
 
 // Check 4: records against their shapes. Rules out: the last record that does not fit; nowhere for shape 27.
-pub fn check4(forest: &[u8]) -> Place
+fn check4(forest: &[u8]) -> Place
     requires { ⌜ Laid (now forest) ⌝ }
     ensures { λ r. ⌜ placeOf r ≡ model.check4 (now (forest .entry)) ⌝ }
 {
@@ -131,7 +131,7 @@ fn agrees(forest: &[u8], i: usize) -> bool
 
 // Check 5: opcodes against shapes.
 // Rules out: the last record that does not agree; nowhere for opcode 00 with shape 2.
-pub fn check5(forest: &[u8]) -> Place
+fn check5(forest: &[u8]) -> Place
     requires { ⌜ Laid (now forest) ⌝ }
     ensures { λ r. ⌜ placeOf r ≡ model.check5 (now (forest .entry)) ⌝ }
 {
@@ -147,7 +147,7 @@ pub fn check5(forest: &[u8]) -> Place
 }
 
 // Check 6: the trees close. Rules out: the last record for one left over; the tree count where records lack.
-pub fn check6(forest: &[u8]) -> Place
+fn check6(forest: &[u8]) -> Place
     requires { ⌜ Laid (now forest) ⌝ }
     ensures { λ r. ⌜ placeOf r ≡ model.check6 (now (forest .entry)) ⌝ }
 {
@@ -231,12 +231,13 @@ fn bindings(forest: &[u8], work: &mut [u32]) -> Verdict
     }
 }
 
-// Checks 2 to 10, "in that order, each over the whole forest before the next". The words of IDS
-// held the ids in force and may hold anything; the others are as they were.
+// Checks 2 to 10, "in that order, each over the whole forest before the next": accepted, or the first that fails with
+// its place. After a refusal by 2 to 6 no word has changed; else the words of IDS held the ids in force and may hold
+// anything, and the others are as they were.
 // Rules out: 9 where 8 fails in a later record; accepted where a definition's value uses it.
 pub fn check(forest: &[u8], work: &mut [u32]) -> Verdict
     requires { ⌜ end IDS ≤ length (now work) ⌝ }
-    ensures { λ r. ⌜ Answered (now (forest .entry)) (now (work .entry)) (now (work .exit)) r ⌝ }
+    ensures { λ r. ⌜ Judged (now (forest .entry)) (now (work .entry)) (now (work .exit)) r ⌝ }
 {
     match layout(forest) {
         Verdict::Refused(n, p) => Verdict::Refused(n, p),

@@ -40,7 +40,7 @@ pub fn record_count(forest: &[u8]) -> usize
 }
 
 // Where record i starts. Rules out: its length; the pair of the record after it.
-pub fn start(forest: &[u8], i: usize) -> usize
+fn start(forest: &[u8], i: usize) -> usize
     requires { ⌜ Laid (now forest) ⌝ }
     requires { ⌜ i < recordCount (now forest) ⌝ }
     ensures { λ r. ⌜ (r ≡ startOf (now (forest .entry)) i) × Lies (now (forest .entry)) i ⌝ }

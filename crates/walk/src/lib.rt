@@ -50,7 +50,7 @@ pub struct Context {
 // ---- ids in force
 
 // Whether an id is in force. Rules out: true of an id that stands from top on only; false of the oldest id.
-pub fn in_force(work: &[u32], top: usize, id: u32) -> bool
+fn in_force(work: &[u32], top: usize, id: u32) -> bool
     requires { ⌜ top ≤ length (now work) ⌝ }
     ensures { λ r. ⌜ r ≡ isIn id (idsOf (now (work .entry)) top) ⌝ }
 {
@@ -239,9 +239,10 @@ fn child(at: Context, left: usize, top: usize) -> Context
     }
 }
 
-// The walk of record i's subtree.
+// The walk of record i's subtree: the record after it, or the first that offends. The words of IDS from top on held the
+// ids in force below it, and may hold anything; the others are as they were.
 // Rules out: a fault of a later record where this one offends; the record after i's first child.
-pub fn subtree(forest: &[u8], work: &mut [u32], number: u32, i: usize, at: Context) -> Walk
+fn subtree(forest: &[u8], work: &mut [u32], number: u32, i: usize, at: Context) -> Walk
     requires { ⌜ WellFormed (now forest) ⌝ }
     requires { ⌜ (i < recordCount (now forest)) × (end IDS ≤ length (now work)) × CanStand i at ⌝ }
     ensures { λ r. ⌜ Walked (now (forest .entry)) number i at (now (work .entry)) (now (work .exit)) r ⌝ }
@@ -264,9 +265,9 @@ pub fn subtree(forest: &[u8], work: &mut [u32], number: u32, i: usize, at: Conte
     subtrees(forest, work, number, i + 1, count, inner)
 }
 
-// The walk of `count` trees from record i on.
+// The walk of `count` trees from record i on: the record after them, or the first that offends; of words as `subtree`.
 // Rules out: an id in force past its block's end; a fault in a tree past the last.
-pub fn subtrees(
+fn subtrees(
     forest: &[u8],
     work: &mut [u32],
     number: u32,
@@ -294,8 +295,9 @@ pub fn subtrees(
     Walk::Next(j)
 }
 
-// Check 7, 8, 9 or 10 of a forest, by its number, or all four at once where the number is ANY: then a place says only
-// that one of them fails.
+// Where check 7, 8, 9 or 10 of a forest fails, by the check's number, or all four at once where the number is ANY: then
+// a place says only that one of them fails. The words of IDS held the ids in force and may hold anything, whatever the
+// answer; the others are as they were.
 // Rules out: the place counted in one tree and not in the forest; a check of the first tree only.
 pub fn trees(forest: &[u8], work: &mut [u32], number: u32) -> Place
     requires { ⌜ WellFormed (now forest) ⌝ }

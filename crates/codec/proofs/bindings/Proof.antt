@@ -14,6 +14,7 @@ returns c =
     let w = f .before .before .before .before .before .before in
     record {
       is = f .fault .ensures .is;
+      late = f .fault .ensures .late;
       kept = frame-then _ _ _ _ _ (w .trees .ensures .kept) (f .fault .ensures .kept);
     }
 
@@ -24,6 +25,7 @@ returns-2 c =
     let nothing = passed _ _ (w .trees .ensures .place) (c .enum-told2 .given .1) in
     record {
       is = all-passed (now (b .args .forest)) (b .pre .0) nothing;
+      late = λ e. e;
       kept = w .trees .ensures .kept;
     }
 

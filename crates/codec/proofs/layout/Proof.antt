@@ -14,18 +14,21 @@ use Rattle.codec.proofs.layout.Tie as tie
 two : (c : tie.After-enum-told) → check2 (now (c .before .before .before .before .args .forest)) ≡ none
 two c = passed _ _ (c .before .before .check2 .ensures) (c .enum-told .given .1)
 
-laid : (c : tie.After-enum-told2) → Laid (now (c .before .before .before .before .before .before .before .args .forest))
+-- the function's start, from where check 3 has passed
+abbrev start : tie.After-enum-told2 → tie.Start
+start c = c .before .before .before .before .before .before .before
+
+laid : (c : tie.After-enum-told2) → Laid (now (start c .args .forest))
 laid c = record {
   header = two (c .before .before .before);
   directory = passed _ _ (c .before .before .check3 .ensures) (c .enum-told2 .given .1);
 }
 
-four : (c : tie.After-enum-told3) →
-    check4 (now (c .before .before .before .before .before .before .before .before .before .before .args .forest)) ≡ none
+four : (c : tie.After-enum-told3) → check4 (now (start (c .before .before .before) .args .forest)) ≡ none
 four c = passed _ _ (c .before .before .check4 .ensures) (c .enum-told3 .given .1)
 
 five : (c : tie.After-enum-told4) →
-    check5 (now (c .before .before .before .before .before .before .before .before .before .before .before .before .before .args .forest)) ≡ none
+    check5 (now (start (c .before .before .before .before .before .before) .args .forest)) ≡ none
 five c = passed _ _ (c .before .before .check5 .ensures) (c .enum-told4 .given .1)
 
 -- ---- the answers; `cN` is the place where check N has passed
@@ -47,7 +50,8 @@ returns-4 : tie.Need-returns-4
 returns-4 c =
     let c4 = c .before .before .before .before in
     let c3 = c4 .before .before .before in
-    refused-5 _ _ (laid c3) (four c4) (failed _ _ _ (c .before .before .before .check5 .ensures) (c .before .p4 .given .1))
+    let fails = failed _ _ _ (c .before .before .before .check5 .ensures) (c .before .p4 .given .1) in
+    refused-5 _ _ (laid c3) (four c4) fails
 
 returns-5 : tie.Need-returns-5
 returns-5 c =
