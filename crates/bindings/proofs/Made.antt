@@ -18,7 +18,7 @@ use Rattle.walk.specs.Walk.{recAt, treeAt, WellFormed}
 use Rattle.walk.proofs.Bridge.{func-literal}
 use Rattle.regions.specs.Regions.{BINDINGS}
 use Rattle.bindings.specs.Bindings.{envOf, bound, boundAll}
-use Rattle.bindings.specs.Made.{ArgsBound, DefBound}
+use Rattle.bindings.specs.Made.{topAfter, wordsAfter, ArgsBound, DefBound}
 use Rattle.bindings.proofs.Laws.{bound-frame, env-bound, all-frame, env-args}
 use Rattle.bindings.proofs.Args.{argPairs, arg-pairs-length}
 
@@ -32,6 +32,7 @@ module _ (bs : List ℕ) (i n first a : ℕ) (lit ws ws′ : List ℕ) (h : Well
       let few = func-literal bs i h l a lit e f g .0 in
       record {
         is = omega arith;
+        words = rw (← e, ← f) is;
         most = omega arith;
         env = rw (is, ← e, ← f) (env (omega arith));
         kept =
@@ -62,6 +63,8 @@ module _ (bs : List ℕ) (i n symbol : ℕ) (ws : List ℕ) where
   pub def-bound : (id : ℕ) (ws′ : List ℕ) → recAt bs i .shape ≡ 10 → id ≡ idOf (recAt bs i)
       → BINDINGS .first + 2 * n + 1 < length ws → ws′ ≡ bound ws n id symbol → DefBound bs i n symbol ws ws′ (n + 1)
   def-bound id ws′ e f room is = record {
+    is = rw (eq-eqb (recAt bs i .shape) 10 e, topAfter);
+    words = rw (eq-eqb (recAt bs i .shape) 10 e, wordsAfter, ← f) is;
     least = omega arith;
     most = omega arith;
     env = rw (is, env-bound ws n id symbol room, f) (sym (bind-def (treeAt bs i) symbol (envOf ws n) e));
@@ -70,6 +73,8 @@ module _ (bs : List ℕ) (i n symbol : ℕ) (ws : List ℕ) where
 
   pub def-none : (recAt bs i .shape ≡ 10 → ⊥) → DefBound bs i n symbol ws ws n
   def-none h = record {
+    is = rw (ne-eqb (recAt bs i .shape) 10 h, topAfter);
+    words = rw (ne-eqb (recAt bs i .shape) 10 h, wordsAfter);
     least = omega arith;
     most = omega arith;
     env = sym (bind-other (treeAt bs i) symbol (envOf ws n) h);

@@ -33,7 +33,7 @@ pub fn resolve(work: &[u32], n: usize, id: u32) -> u32
 
 // An id and its symbol become entry k.
 // Rules out: the symbol under the next id; a word changed beside the entry's two.
-pub fn bind(work: &mut [u32], k: usize, id: u32, symbol: u32)
+fn bind(work: &mut [u32], k: usize, id: u32, symbol: u32)
     requires { ⌜ BINDINGS .first + 2 * k + 1 < length (now work) ⌝ }
     ensures { λ _. ⌜ now (work .exit) ≡ bound (now (work .entry)) k id symbol ⌝ }
 {
@@ -62,8 +62,8 @@ fn bind_all(lit: &[u8], work: &mut [u32], n: usize, top: usize, first: u32)
     }
 }
 
-// Binds the arguments of lambda i to the symbols from `first` on, above top entries, the first argument newest.
-// Rules out: the last argument newest; every argument bound to the first symbol.
+// Binds the arguments of lambda i to the symbols from `first` on, above top entries, the first argument newest; gives
+// how many entries there are then. Rules out: the last argument newest; every argument bound to the first symbol.
 pub fn bind_args(forest: &[u8], work: &mut [u32], i: usize, top: usize, first: u32) -> usize
     requires { ⌜ WellFormed (now forest) ⌝ }
     requires { ⌜ (i < recordCount (now forest)) × (recAt (now forest) i .shape ≡ FuncValue) ⌝ }
@@ -76,7 +76,8 @@ pub fn bind_args(forest: &[u8], work: &mut [u32], i: usize, top: usize, first: u
     top + n
 }
 
-// Binds what record i's subtree, whose symbol is given, binds in its later siblings.
+// Binds what record i's subtree, whose symbol is given, binds in its later siblings: a definition's id, above top
+// entries, and otherwise nothing; gives how many entries there are then.
 // Rules out: a lambda's arguments bound; the symbol under another record's id.
 pub fn bind_def(forest: &[u8], work: &mut [u32], i: usize, top: usize, symbol: u32) -> usize
     requires { ⌜ WellFormed (now forest) ⌝ }

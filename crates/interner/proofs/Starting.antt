@@ -17,12 +17,8 @@ use Rattle.tables.proofs.Stack.{first-open, first-tables}
 use Rattle.scopes.specs.Scopes.{scopeWord, argsIn}
 use Rattle.scopes.proofs.Open.{scopes-outermost, nested-outermost}
 use Rattle.memo.specs.Memo.{memoOf}
-use Rattle.interner.specs.declared.State.{State}
 use Rattle.interner.specs.Levels.{ArgLevels}
-use Rattle.interner.specs.State.{absOf, Rep, Started}
-
-abbrev pub firstState : State
-firstState = record { entries = 0; symbols = 0; slots = 0; scopes = 1; memo = 0; readings = 0 }
+use Rattle.interner.specs.State.{absOf, Rep, firstState, Started}
 
 module _ (ws : List ℕ) (words : WORDS ≤ length ws) where
   abbrev ws₁ : List ℕ
@@ -66,6 +62,8 @@ module _ (ws : List ℕ) (words : WORDS ≤ length ws) where
 
   pub started : (ws′ : List ℕ) → ws′ ≡ ws₁ → Started ws ws′ firstState
   started ws′ e = subst (λ (z : List ℕ). Started ws z firstState) (sym e) (record {
+    state = refl;
+    words = refl;
     rep = rep-start;
     is = abs-start;
     opened = first-open;

@@ -4,7 +4,8 @@
 use Prim.Native.Nat.{ℕ, _≤_}
 use mathlib.Core.Path.{_≡_}
 use mathlib.Core.List.{List}
-use Rattle.regions.specs.Regions.{SYMBOLS, SLOTS, PENDING}
+use lib.ListN.{set}
+use Rattle.regions.specs.Regions.{SYMBOLS, SLOTS, SCOPES, PENDING}
 use Rattle.model.specs.Intern as intern
 use Rattle.laws.specs.Frame.{Frame}
 use Rattle.laws.specs.Slots.{slotsIn}
@@ -57,9 +58,15 @@ pub record Rep (bs ws : List ℕ) (st : State) : Type 0 where
   pub memo : Remembered ws (st .memo) (st .symbols)
   pub few-readings : st .readings ≤ 2048
 
--- the state before any record is read, whatever the forest, with one open table; pending symbols and later words are
--- as they were
+-- no record is read, and there is the outermost scope
+abbrev pub firstState : State
+firstState = record { entries = 0; symbols = 0; slots = 0; scopes = 1; memo = 0; readings = 0 }
+
+-- the state before any record is read, whatever the forest, with one open table; the outermost scope's word is 0, and
+-- all others are as they were
 pub record Started (ws ws′ : List ℕ) (st : State) : Type 0 where
+  pub state : st ≡ firstState
+  pub words : ws′ ≡ set ws (SCOPES .first) 0
   pub rep : (bs : List ℕ) → Rep bs ws′ st
   pub is : (bs : List ℕ) → absOf bs ws′ first st ≡ intern.start
   pub opened : Open first (st .entries)

@@ -33,6 +33,8 @@ ghost use Rattle.interner.specs.Levels.{anyHas};
 
 // How many entries the open tables have; how many symbols, child slots, scopes and projections there are; the readings
 // so far. The stack of open tables goes beside it, and is handed down only: a thunk's table is dropped at its end.
+// What it counts stands in the words up to PENDING. A function that makes symbols changes some of these words, though
+// none of a scope, and no other words.
 // The order of the fields matters for speed: those that are stored one by one are not loaded two at a time.
 pub struct State {
     pub readings: u32,
@@ -51,7 +53,8 @@ pub struct Step {
     pub place: u32,
 }
 
-// Nothing is read yet: the outermost scope is open. Rules out: a scope's word left as it was; an entry.
+// The state in which nothing is read yet and the outermost scope is open; its word is 0, and no other word changes.
+// Rules out: a scope's word left as it was; an entry.
 pub fn start(work: &mut [u32]) -> State
     requires { ⌜ WORDS ≤ length (now work) ⌝ }
     ensures { λ r. ⌜ Started (now (work .entry)) (now (work .exit)) r ⌝ }
@@ -134,7 +137,7 @@ fn over_full(st: State, node: Node) -> Step
 
 // A new symbol that can be found again; 512 where there is no room for one. Rules out: one that is in no table, or in
 // the oldest; a 513th symbol.
-pub fn alloc(
+fn alloc(
     forest: &[u8],
     work: &mut [u32],
     st: State,
@@ -201,7 +204,7 @@ fn key_levels(work: &[u32], node: Node, held: usize, count: usize) -> u64
 
 // The symbol of a node over the pending children from `held` on: the one that has its key, or a new one, or 512. Rules
 // out: a second symbol for a key that an open table has; a symbol placed inside a lambda that it does not depend on.
-pub fn find_or_make(
+fn find_or_make(
     forest: &[u8],
     work: &mut [u32],
     t: Tables,
@@ -242,7 +245,7 @@ pub fn find_or_make(
 
 // The step to symbol s, which was found or made for a node over `count` children. Rules out: a symbol that is found
 // counted as a new one; a symbol where there was no room for one.
-pub fn step_to(st: State, node: Node, count: usize, s: u32) -> Step
+fn step_to(st: State, node: Node, count: usize, s: u32) -> Step
     requires { ⌜ (st .entries ≤ 512) × (st .symbols ≤ 512) × (st .slots + count ≤ SLOTS .size) ⌝ }
     ensures { λ r. ⌜ r ≡ stepTo st node count s ⌝ }
 {
@@ -263,8 +266,9 @@ pub fn step_to(st: State, node: Node, count: usize, s: u32) -> Step
     over_full(st, node)
 }
 
-// The symbol of a node over the pending children from `held` on, and the state after it. Rules out: a new symbol's
-// state for one that is found; a refusal where the key is found and there are 512 symbols.
+// The symbol of a node over the pending children from `held` on, and the state after it; or refusal 12, where there is
+// no room for a new one. Rules out: a new symbol's state for one that is found; a refusal where the key is found and
+// there are 512 symbols.
 pub fn finish(
     forest: &[u8],
     work: &mut [u32],
@@ -297,8 +301,9 @@ fn level_inside(work: &[u32], cur: usize) -> u64
     scopes::levels::with(scopes::levels::empty(), depth + 1)
 }
 
-// `count` argument symbols for the lambda of record `at`, made in scope `cur`. Rules out: an argument in a table, where
-// it could be found again; arguments that count as those of the lambda around.
+// `count` argument symbols for the lambda of record `at`, made in scope `cur`: the first of them and the state after
+// them, or refusal 12. Rules out: an argument in a table, where it could be found again; arguments that count as those
+// of the lambda around.
 pub fn alloc_args(
     forest: &[u8],
     work: &mut [u32],
@@ -328,8 +333,8 @@ pub fn alloc_args(
     given(s, n)
 }
 
-// Field `field` of the pending symbol at `held`, for record `at`. Rules out: the other field; a projection that is not
-// remembered, and would be made again after its thunk.
+// Field `field` of the pending symbol at `held`, for record `at`, and the state after it; or refusal 12. Rules out: the
+// other field; a projection that is not remembered, and would be made again after its thunk.
 pub fn pair_projection(
     forest: &[u8],
     work: &mut [u32],

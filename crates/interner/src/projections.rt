@@ -19,7 +19,7 @@ ghost use Rattle.interner.specs.Step.{Answers, Projects, fieldOf, withPa
 
 // Field `field` of the pending symbol at `held`, a projection made for record `at`. Rules out: another field; a
 // projection of another symbol.
-pub fn projection(
+fn projection(
     forest: &[u8],
     work: &mut [u32],
     t: Tables,
@@ -62,7 +62,7 @@ pub fn picked(st: State, field: u32, a: u32, b: u32) -> Step
 
 // The projections a and b of p are remembered, and `field` is picked. Rules out: a pair that is not counted; a and b
 // exchanged.
-pub fn remember(work: &mut [u32], st: State, p: u32, a: u32, b: u32, field: u32) -> Step
+fn remember(work: &mut [u32], st: State, p: u32, a: u32, b: u32, field: u32) -> Step
     requires { ⌜ (st .memo < 512) × (WORDS ≤ length (now work)) ⌝ }
     requires { ⌜ (p < 512) × (a < 512) × (b < 512) ⌝ }
     ensures { λ r.

@@ -23,12 +23,6 @@ use Rattle.scopes.proofs.Laws.{scope-args, scope-around, scope-level, o
 
 -- ---- what a scope's word says
 
-pub args-none : (w : ℕ) → codeOf w ≡ 0 → none ≡ argsIn w
-args-none w e = rw e
-
-pub args-some : (w : ℕ) → (codeOf w ≡ 0 → ⊥) → some (range (firstOf w) (codeOf w - 1)) ≡ argsIn w
-args-some w n = let e : codeOf w ≡ suc (codeOf w - 1) = omega arith in sym (ap (λ (x : ℕ). argsFrom (firstOf w) x) e)
-
 module _ (levels w : ℕ) where
   pub left-thunk : codeOf w ≡ 0 → false ≡ leftBy levels w
   unfolding leftBy

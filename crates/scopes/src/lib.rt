@@ -9,15 +9,9 @@ ghost use lib.ListN.{length, set};
 ghost use Rattle.model.specs.Lists.{isIn};
 ghost use Rattle.model.specs.Intern.{scopeAt};
 ghost use Rattle.regions.specs.Regions.{SCOPES};
-ghost use Rattle.scopes.specs.Scopes.{scopeWord, packedOf, parentOf, levelOf, argsIn, withThunk, withLambda};
+ghost use Rattle.scopes.specs.Scopes.{scopeWord, packedOf, parentOf, levelOf, withThunk, withLambda};
 ghost use Rattle.scopes.specs.Scopes.{scopesOf, Nested, leftBy, Placed};
-ghost use Rattle.scopes.specs.Relation.{symbolsOf, Classified};
-
-// A lambda's argument symbols: the first of them, and how many.
-pub enum Arguments {
-    From(u32, u32),
-    Nothing,
-}
+ghost use Rattle.scopes.specs.Relation.{Classified};
 
 // Where a scope lies, seen from another.
 pub enum Rel {
@@ -72,7 +66,7 @@ pub fn open_lambda(work: &mut [u32], m: usize, cur: usize, first: u32, count: u3
 // ---- the parts of a scope
 
 // The scope around scope k. Rules out: k itself; the outermost.
-pub fn parent(work: &[u32], k: usize) -> usize
+fn parent(work: &[u32], k: usize) -> usize
     requires { ⌜ SCOPES .first + k < length (now work) ⌝ }
     ensures { λ r. ⌜ r ≡ parentOf (scopeWord (now (work .entry)) k) ⌝ }
 {
@@ -85,19 +79,6 @@ pub fn level(work: &[u32], k: usize) -> u32
     ensures { λ r. ⌜ (r ≡ levelOf (scopeWord (now (work .entry)) k)) × (r < 64) ⌝ }
 {
     work[SCOPES + k] / 67108864
-}
-
-// The arguments of scope k. Rules out: those of the nearest lambda; no arguments for a lambda that has none.
-pub fn args(work: &[u32], k: usize) -> Arguments
-    requires { ⌜ SCOPES .first + k < length (now work) ⌝ }
-    ensures { λ r. ⌜ symbolsOf r ≡ argsIn (scopeWord (now (work .entry)) k) ⌝ }
-{
-    let w = work[SCOPES + k];
-    let code = w / 2097152 % 32;
-    if code == 0 {
-        return Arguments::Nothing;
-    }
-    Arguments::From(w / 4096 % 512, code - 1)
 }
 
 // ---- placement
@@ -135,7 +116,7 @@ pub fn placement(work: &[u32], cur: usize, levels: u64) -> usize
 // ---- where a scope lies
 
 // Whether scope `ancestor` is around scope `sc`. Rules out: true of `sc` itself; true of a scope inside `sc`.
-pub fn is_ancestor(work: &[u32], ancestor: usize, sc: usize) -> bool
+fn is_ancestor(work: &[u32], ancestor: usize, sc: usize) -> bool
     requires { ⌜ SCOPES .first + sc < length (now work) ⌝ }
     requires { ⌜ Nested (now work) (sc + 1) ⌝ }
     ensures { λ r. ⌜ ((m : ℕ) → sc < m → r ≡ isIn ancestor (scopeAt (scopesOf (now (work .entry)) m) sc .around)) ⌝ }
