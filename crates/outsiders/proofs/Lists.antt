@@ -1,7 +1,7 @@
 -- Lists of symbols in slots: a search; one symbol more; what becomes of a list, step by step.
--- In order: numbers below a bound; a search; `Held`; `Listed`.
+-- In order: numbers below a bound; a search; `Held`; `Appended`; `Listed`.
 -- Assumes nothing.
-use Prim.Native.Nat.{ℕ, zero, suc, _+_, _<_, _≤_}
+use Prim.Native.Nat.{ℕ, zero, suc, _+_, _-_, _<_, _≤_}
 use mathlib.Core.Path.{_≡_, refl, sym, ap, subst, _∙_}
 use mathlib.Core.Bool.{true, false}
 use mathlib.Core.Logic.{inl, inr}
@@ -10,7 +10,7 @@ use native.Mathlib.Omega.{arith}
 use native.Mathlib.Numerals.{add-one}
 use borrow.Author.Tests.{eq-eqb, ne-eqb}
 use lib.ListN.{length, getD, set, take, drop, length-append, drop-of-length-le}
-use lib.Seq.{length-take-le, take-suc-set, getD-take, drop-cons}
+use lib.Seq.{length-take-le, take-suc-set, getD-take, drop-cons, drop-set-lt, drop-drop}
 use Rattle.model.specs.Lists.{isIn}
 use Rattle.model.specs.Gate.{Graph}
 use Rattle.laws.specs.Members.{In, Every, Once}
@@ -19,7 +19,7 @@ use Rattle.laws.proofs.Walks.{every-join}
 use Rattle.laws.proofs.Once.{snoc-once}
 use Rattle.laws.proofs.Short.{once-short}
 use Rattle.graph.specs.Graph.{graphOf}
-use Rattle.outsiders.specs.Outsiders.{Held, Listed}
+use Rattle.outsiders.specs.Outsiders.{Held, Appended, Listed}
 
 -- ---- numbers below a bound
 
@@ -89,20 +89,40 @@ module _ (n : ℕ) (list : List ℕ) (k : ℕ) (h : Held n list k) (d : ℕ) (lt
 pub take-put : (list : List ℕ) (k d : ℕ) → k < length list → take (k + 1) (set list k d) ≡ take k list ++ (d ∷ [])
 take-put list k d lt = rw (add-one, take-suc-set list k d lt)
 
+-- ---- lists that grow at their end
+
+pub appended-none : (list : List ℕ) (k : ℕ) → Appended list k list k
+appended-none list k = record { more = omega arith; rest = refl }
+
+pub appended-put : (list : List ℕ) (k d : ℕ) → Appended list k (set list k d) (k + 1)
+appended-put list k d = record { more = omega arith; rest = drop-set-lt (k + 1) list k d (omega arith) }
+
+pub appended-then : (a : List ℕ) (i : ℕ) (b : List ℕ) (j : ℕ) (c : List ℕ) (k : ℕ) → Appended a i b j →
+    Appended b j c k → Appended a i c k
+appended-then a i b j c k p q = record {
+  more = omega (arith, p .more, q .more);
+  rest = q .rest ∙ (sym (from b) ∙ (ap (drop (k - j)) (p .rest) ∙ from a));
+}
+  where
+    from : (l : List ℕ) → drop (k - j) (drop j l) ≡ drop k l
+    from l = let e : j + (k - j) ≡ k = omega (arith, q .more) in drop-drop (k - j) j l ∙ ap (λ (x : ℕ). drop x l) e
+
 -- ---- what becomes of a list
 
 module _ (bs ws : List ℕ) (n m : ℕ) where
   pub listed-none : (list : List ℕ) (k : ℕ) → Held n list k → Listed bs ws n m (λ g o. o) list k list k
-  listed-none list k h = record { held = h; is = λ slots. refl }
+  listed-none list k h = record { held = h; appended = appended-none list k; is = λ slots. refl }
 
   pub listed-then : (f h : Graph → List ℕ → List ℕ) (a : List ℕ) (i : ℕ) (b : List ℕ) (j : ℕ) (c : List ℕ) (k : ℕ) →
       Listed bs ws n m f a i b j → Listed bs ws n m h b j c k → Listed bs ws n m (λ g o. h g (f g o)) a i c k
   listed-then f h a i b j c k p q = record {
     held = q .held;
+    appended = appended-then a i b j c k (p .appended) (q .appended);
     is = λ slots. q .is slots ∙ ap (h (graphOf bs ws n m slots)) (p .is slots);
   }
 
   pub listed-as : (f h : Graph → List ℕ → List ℕ) (a : List ℕ) (i : ℕ) (b : List ℕ) (j : ℕ) →
       ((slots o : List ℕ) → f (graphOf bs ws n m slots) o ≡ h (graphOf bs ws n m slots) o) →
       Listed bs ws n m f a i b j → Listed bs ws n m h a i b j
-  listed-as f h a i b j e p = record { held = p .held; is = λ slots. p .is slots ∙ e slots (take i a) }
+  listed-as f h a i b j e p =
+      record { held = p .held; appended = p .appended; is = λ slots. p .is slots ∙ e slots (take i a) }

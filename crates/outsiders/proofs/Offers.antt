@@ -26,7 +26,8 @@ use Rattle.symbols.proofs.Words.{words-length, words-more}
 use Rattle.symbols.proofs.Laws.{rec-at, kids-at}
 use Rattle.graph.specs.Graph.{Arena, graphOf, Tests, isOutsider}
 use Rattle.outsiders.specs.Outsiders.{offered, WordsBelow, Held, Listed}
-use Rattle.outsiders.proofs.Lists.{held-room, held-more, take-put, listed-none, listed-then, listed-as}
+use Rattle.outsiders.proofs.Lists.{held-room, held-more, take-put, appended-none, appended-put}
+use Rattle.outsiders.proofs.Lists.{listed-none, listed-then, listed-as}
 
 -- ---- one symbol
 
@@ -40,13 +41,17 @@ module _ (ws : List ℕ) (n m cs d : ℕ) (b : Bool) (test : Tests ws n m (isOut
   one-is slots o = ap (λ (t : Bool). after t o) (test bs slots)
 
   pub offer-no : b ≡ false → Listed bs ws n m (offered cs (d ∷ [])) list k list k
-  offer-no e =
-      record { held = h; is = λ slots. ap (λ (t : Bool). after t (take k list)) (sym e) ∙ one-is slots (take k list) }
+  offer-no e = record {
+    held = h;
+    appended = appended-none list k;
+    is = λ slots. ap (λ (t : Bool). after t (take k list)) (sym e) ∙ one-is slots (take k list);
+  }
 
   pub offer-old : b ≡ true → isIn d (take k list) ≡ true → Listed bs ws n m (offered cs (d ∷ [])) list k list k
   unfolding add
   offer-old e i = record {
     held = h;
+    appended = appended-none list k;
     is = λ slots.
         ap (λ (t : Bool). elim t [ true ↦ take k list | false ↦ take k list ++ (d ∷ []) ]) (sym i)
         ∙ (ap (λ (t : Bool). after t (take k list)) (sym e) ∙ one-is slots (take k list));
@@ -61,6 +66,7 @@ module _ (ws : List ℕ) (n m cs d : ℕ) (b : Bool) (test : Tests ws n m (isOut
       let long : length (set list k d) ≡ 512 = simp length-set (h .long) in
       record {
         held = held-more n list k h d lt i few (set list k d) (k + 1) long refl is;
+        appended = appended-put list k d;
         is = λ slots.
             is ∙ (ap (λ (t : Bool). elim t [ true ↦ take k list | false ↦ take k list ++ (d ∷ []) ]) (sym i)
             ∙ (ap (λ (t : Bool). after t (take k list)) (sym e) ∙ one-is slots (take k list)));
@@ -169,6 +175,7 @@ module _ (bs ws : List ℕ) (n m s : ℕ) (arena : Arena bs ws n m) (lt : s < n)
       (operands false op 0 (slotsFrom ws (y .kids) (y .count))) _ refl l₁ k₁ l₂ k₂ a b in
       record {
         held = both .held;
+        appended = both .appended;
         is = λ slots.
             let g = graphOf bs ws n m slots in
             both .is slots ∙ ap (λ (ds : List ℕ). outsiders g cs ds (take k l)) (kids-is p e op f slots);

@@ -1,10 +1,11 @@
 -- Lists of symbols in slots of 16 bits, and what becomes of one that is offered more.
--- In order: numbers below a bound; lists that hold each symbol once; what the functions give.
+-- In order: numbers below a bound; lists that hold each symbol once, and that grow at their end; what the functions
+-- give.
 -- Assumes nothing.
 use Prim.Native.Nat.{ℕ, _+_, _<_, _≤_}
 use mathlib.Core.Path.{_≡_}
 use mathlib.Core.List.{List}
-use lib.ListN.{length, getD, take}
+use lib.ListN.{length, getD, take, drop}
 use Rattle.model.specs.Gate.{Graph}
 use Rattle.model.specs.Schedule.{outsiders}
 use Rattle.laws.specs.Members.{Every, Once}
@@ -27,6 +28,11 @@ pub record Held (n : ℕ) (list : List ℕ) (k : ℕ) : Type 0 where
   pub once : Once (take k list)
   pub low : Every (λ s. s < n) (take k list)
 
+-- of k entries there are r then: what stands past them is as it was
+pub record Appended (list : List ℕ) (k : ℕ) (list′ : List ℕ) (r : ℕ) : Type 0 where
+  pub more : k ≤ r
+  pub rest : drop r list′ ≡ drop r list
+
 -- the outsiders among ds
 abbrev pub offered : ℕ → List ℕ → Graph → List ℕ → List ℕ
 offered cs ds g out = outsiders g cs ds out
@@ -35,4 +41,5 @@ offered cs ds g out = outsiders g cs ds out
 pub record Listed (bs ws : List ℕ) (n m : ℕ) (f : Graph → List ℕ → List ℕ) (list : List ℕ) (k : ℕ) (list′ : List ℕ)
     (r : ℕ) : Type 0 where
   pub held : Held n list′ r
+  pub appended : Appended list k list′ r
   pub is : (slots : List ℕ) → take r list′ ≡ f (graphOf bs ws n m slots) (take k list)

@@ -43,7 +43,7 @@ fn has(list: &[u16], n: usize, d: usize) -> bool
     false
 }
 
-// With d, if it is an outsider that the list has not.
+// With d, if it is an outsider that the list has not; how many there are then.
 fn offer(work: &[u32], g: Graph, cs: usize, d: usize, list: &mut [u16], n: usize) -> usize
     requires { ⌜ Scoped (now work) (g .symbols) (g .scopes) ⌝ }
     requires { ⌜ d < g .symbols ⌝ }
@@ -63,7 +63,7 @@ fn offer(work: &[u32], g: Graph, cs: usize, d: usize, list: &mut [u16], n: usize
 }
 
 // With the outsiders of scope `cs` among the first `count` of `own`, each once; how many there are then.
-// Rules out: an argument among them; one that the list has already, put there again.
+// Rules out: an argument among them; one that the list has already, put there again; a change past the list's end.
 pub fn offer_list(
     work: &[u32],
     g: Graph,
@@ -149,8 +149,8 @@ fn offer_words(
     at
 }
 
-// With the outsiders of scope `cs` among the children of s, thunks first (`local_dep_order`).
-// Rules out: the children in the order in which they stand; an argument among them.
+// With the outsiders of scope `cs` among the children of s, thunks first (`local_dep_order`); how many there are then.
+// Rules out: the children in the order in which they stand; an argument among them; a change past the list's end.
 pub fn offer_kids(
     forest: &[u8],
     work: &[u32],

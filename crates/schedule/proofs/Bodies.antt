@@ -77,7 +77,8 @@ module _ (bs ws : List ℕ) (n m : ℕ) (arena : Arena bs ws n m) (c : ℕ) (lt 
       -- ---- the free list
 
       pub free-done : (list list′ : List ℕ) (r : ℕ) →
-          Listed bs ws n m (λ h. collect h (freeVars h) cs (take k₂ body₂)) list 0 list′ r → Freed bs ws n m c list′ r
+          Listed bs ws n m (λ h. collect h (freeVars h) cs (take k₂ body₂)) list 0 list′ r →
+          Freed bs ws n m c list list′ r
       unfolding freeStep
       free-done list list′ r h = record {
         fit = h .held .fit;
@@ -85,6 +86,7 @@ module _ (bs ws : List ℕ) (n m : ℕ) (arena : Arena bs ws n m) (c : ℕ) (lt 
         low = λ j l.
             every-at (λ x. x < c) list′ r j (omega (arith, h .held .fit, h .held .long)) l
             (rw (all []) (free-falls (G []) (low []) c));
+        rest = h .appended .rest;
       }
         where
           all : (slots : List ℕ) → take r list′ ≡ freeVars (G slots) c

@@ -16,7 +16,7 @@ use Rattle.model.specs.Gate.{Graph}
 use Rattle.laws.proofs.Members.{in-isIn, in-right, isIn-last}
 use Rattle.graph.specs.Graph.{graphOf}
 use Rattle.outsiders.specs.Outsiders.{Held}
-use Rattle.outsiders.proofs.Lists.{held-room, held-more}
+use Rattle.outsiders.proofs.Lists.{held-room, held-more, appended-none, appended-then}
 use Rattle.schedule.specs.Schedule.{Lent, Put, Walked}
 
 -- ---- an empty list
@@ -81,16 +81,19 @@ module _ (n : ℕ) (seen list : List ℕ) (k : ℕ) (h : Lent n seen list k) (s 
 module _ (bs ws : List ℕ) (n m : ℕ) where
   pub walked-none : (f : Graph → List ℕ → List ℕ) (seen list : List ℕ) (k : ℕ) → Lent n seen list k →
       ((slots o : List ℕ) → o ≡ f (graphOf bs ws n m slots) o) → Walked bs ws n m f list k seen list k
-  walked-none f seen list k h e = record { lent = h; is = λ slots. e slots (take k list) }
+  walked-none f seen list k h e =
+      record { lent = h; appended = appended-none list k; is = λ slots. e slots (take k list) }
 
   pub walked-then : (f h : Graph → List ℕ → List ℕ) (a : List ℕ) (i : ℕ) (t b : List ℕ) (j : ℕ) (u c : List ℕ) (k : ℕ) →
       Walked bs ws n m f a i t b j → Walked bs ws n m h b j u c k → Walked bs ws n m (λ g o. h g (f g o)) a i u c k
   walked-then f h a i t b j u c k p q = record {
     lent = q .lent;
+    appended = appended-then a i b j c k (p .appended) (q .appended);
     is = λ slots. q .is slots ∙ ap (h (graphOf bs ws n m slots)) (p .is slots);
   }
 
   pub walked-as : (f h : Graph → List ℕ → List ℕ) (a : List ℕ) (i : ℕ) (t b : List ℕ) (j : ℕ) →
       ((slots o : List ℕ) → f (graphOf bs ws n m slots) o ≡ h (graphOf bs ws n m slots) o) →
       Walked bs ws n m f a i t b j → Walked bs ws n m h a i t b j
-  walked-as f h a i t b j e p = record { lent = p .lent; is = λ slots. p .is slots ∙ e slots (take i a) }
+  walked-as f h a i t b j e p =
+      record { lent = p .lent; appended = p .appended; is = λ slots. p .is slots ∙ e slots (take i a) }

@@ -24,7 +24,7 @@ use Rattle.scopes.specs.declared.Rel as code
 use Rattle.scopes.specs.Relation.{relIn}
 use Rattle.graph.specs.Graph.{Arena, graphOf, Related, Tests}
 use Rattle.graph.proofs.Laws.{kids-low}
-use Rattle.outsiders.proofs.Lists.{every-at}
+use Rattle.outsiders.proofs.Lists.{every-at, appended-none, appended-then}
 use Rattle.schedule.specs.Schedule.{orderOf, passed, stops, nearOf, stepOf, Lent, Put, Walked, Scheduled}
 use Rattle.schedule.proofs.Neighbours.{near-low, step-passed, step-visit, step-seen, visit-after, steps-fresh}
 use Rattle.schedule.proofs.Neighbours.{near-end, near-rel, told}
@@ -44,6 +44,7 @@ module _ (bs ws : List ℕ) (n m : ℕ) (arena : Arena bs ws n m) (b : Bool) (cs
       Walked bs ws n m (λ g. stepOf g b cs s) list k seen list k
   visit-seen s lt seen list k h ne = record {
     lent = h;
+    appended = appended-none list k;
     is = λ slots.
         let g = graphOf bs ws n m slots in
         go g (passed g b cs s) refl
@@ -79,6 +80,8 @@ module _ (bs ws : List ℕ) (n m : ℕ) (arena : Arena bs ws n m) (b : Bool) (cs
           Step seen₂ list₂ k₂
       visit-new seen₂ list₂ k₂ q long = record {
         lent = lent-put n seen₁ list₁ k₁ (near .lent) s lt (arena .scoped .few) near-fresh seen₂ list₂ k₂ q long;
+        appended = appended-then list k list₁ k₁ list₂ k₂ (near .appended)
+            (record { more = omega (arith, q .one-more); rest = q .rest });
         is = λ slots.
             let g = graphOf bs ws n m slots in
             q .is ∙ (ap (λ (l : List ℕ). l ++ (s ∷ [])) (near .is slots)
@@ -177,7 +180,7 @@ kids-down bs ws n m s arena lt y e = rw e (arena .sound s lt .lower)
 -- ---- a scope's schedule
 
 pub schedule-done : (bs ws : List ℕ) (n m : ℕ) → Arena bs ws n m → (root sc : ℕ) (list seen′ list′ : List ℕ) (r : ℕ) →
-    Walked bs ws n m (λ g. stepOf g false sc root) list 0 seen′ list′ r → Scheduled bs ws n m root sc list′ r
+    Walked bs ws n m (λ g. stepOf g false sc root) list 0 seen′ list′ r → Scheduled bs ws n m root sc list list′ r
 unfolding stepOf passed orderOf schedule
 schedule-done bs ws n m arena root sc list seen′ list′ r h = record {
   fit = h .lent .held .fit;
@@ -188,4 +191,5 @@ schedule-done bs ws n m arena root sc list seen′ list′ r h = record {
       rw (h .is []) (schedule-low g (kids-low bs ws n m arena []) root sc) in
       let le : r ≤ length list′ = omega (arith, h .lent .held .fit, h .lent .held .long) in
       omega (arith, every-at (λ x. x < suc root) list′ r k le lt low);
+  rest = h .appended .rest;
 }

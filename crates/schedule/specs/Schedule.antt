@@ -6,13 +6,13 @@ use mathlib.Core.Path.{_≡_}
 use mathlib.Core.Bool.{Bool, true, false, not, _||_}
 use mathlib.Core.List.{List, [], _∷_, _++_}
 use lib.Dec.{eqb}
-use lib.ListN.{length, getD, set, take}
+use lib.ListN.{length, getD, set, take, drop}
 use Rattle.model.specs.Lists.{isIn}
 use Rattle.model.specs.Gate.{Graph, symOf}
 use Rattle.model.specs.Schedule.{isArg, local, deeper, outside, isOutside, relOf, visit, bodyNeighbours, neighbours}
 use Rattle.model.specs.Schedule.{freeVars, schedule, localDepOrder}
 use Rattle.graph.specs.Graph.{graphOf}
-use Rattle.outsiders.specs.Outsiders.{Held}
+use Rattle.outsiders.specs.Outsiders.{Held, Appended}
 
 -- ---- the two orders seen from scope `cs`: a body's order (true), a scope's schedule (false)
 
@@ -61,21 +61,25 @@ pub record Put (seen list : List ℕ) (k s : ℕ) (seen′ list′ : List ℕ) (
   pub one-more : r ≡ k + 1
   pub seen-too : seen′ ≡ set seen s 1
   pub is : take r list′ ≡ take k list ++ (s ∷ [])
+  pub rest : drop r list′ ≡ drop r list
 
 -- the list has become what f makes of it
 pub record Walked (bs ws : List ℕ) (n m : ℕ) (f : Graph → List ℕ → List ℕ) (list : List ℕ) (k : ℕ)
     (seen′ list′ : List ℕ) (r : ℕ) : Type 0 where
   pub lent : Lent n seen′ list′ r
+  pub appended : Appended list k list′ r
   pub is : (slots : List ℕ) → take r list′ ≡ f (graphOf bs ws n m slots) (take k list)
 
--- the free list of symbol c
-pub record Freed (bs ws : List ℕ) (n m c : ℕ) (list′ : List ℕ) (r : ℕ) : Type 0 where
+-- the free list of symbol c, from the list's start; what stands past it is as it was
+pub record Freed (bs ws : List ℕ) (n m c : ℕ) (list list′ : List ℕ) (r : ℕ) : Type 0 where
   pub fit : r ≤ 512
   pub is : (slots : List ℕ) → take r list′ ≡ freeVars (graphOf bs ws n m slots) c
   pub low : (k : ℕ) → k < r → getD list′ k 0 < c
+  pub rest : drop r list′ ≡ drop r list
 
--- the schedule of scope `sc` from `root`
-pub record Scheduled (bs ws : List ℕ) (n m root sc : ℕ) (order′ : List ℕ) (r : ℕ) : Type 0 where
+-- the schedule of scope `sc` from `root`, from the list's start; what stands past it is as it was
+pub record Scheduled (bs ws : List ℕ) (n m root sc : ℕ) (order order′ : List ℕ) (r : ℕ) : Type 0 where
   pub fit : r ≤ 512
   pub is : (slots : List ℕ) → take r order′ ≡ schedule (graphOf bs ws n m slots) root sc
   pub low : (k : ℕ) → k < r → getD order′ k 0 ≤ root
+  pub rest : drop r order′ ≡ drop r order

@@ -210,14 +210,15 @@ fn across(
 }
 
 // What symbol c refers to outside its scope (`free_vars`), into the list; how many there are.
-// Rules out: a symbol twice; the eager children of an IF before its arms.
-pub fn free(forest: &[u8], work: &[u32], g: Graph, c: usize, list: &mut [u16]) -> usize
+// Rules out: a symbol twice; the eager children of an IF before its arms; a change past the list's end.
+fn free(forest: &[u8], work: &[u32], g: Graph, c: usize, list: &mut [u16]) -> usize
     requires { ⌜ Laid (now forest) ⌝ }
     requires { ⌜ Arena (now forest) (now work) (g .symbols) (g .scopes) ⌝ }
     requires { ⌜ c < g .symbols ⌝ }
     requires { ⌜ length (now list) ≡ 512 ⌝ }
     ensures { λ r.
-        ⌜ Freed (now (forest .entry)) (now (work .entry)) (g .symbols) (g .scopes) c (now (list .exit)) r ⌝ }
+        ⌜ Freed (now (forest .entry)) (now (work .entry)) (g .symbols) (g .scopes) c (now (list .entry))
+        (now (list .exit)) r ⌝ }
 {
     let mut seen = zeros8();
     let mut body = zeros16();
@@ -316,7 +317,8 @@ fn borrowed(
 // ---- a scope's schedule
 
 // The symbols that scope `sc` needs for `root`, each after its neighbours (`schedule_order`), into `order`; how many.
-// Rules out: a symbol before one that it needs; what stands inside a lambda in place of what the lambda needs.
+// Rules out: a symbol before one that it needs; what stands inside a lambda in place of what the lambda needs; a change
+// past the order's end.
 pub fn schedule(
     forest: &[u8],
     work: &[u32],
@@ -330,7 +332,8 @@ pub fn schedule(
     requires { ⌜ (root < g .symbols) × (sc < g .scopes) ⌝ }
     requires { ⌜ length (now order) ≡ 512 ⌝ }
     ensures { λ r.
-        ⌜ Scheduled (now (forest .entry)) (now (work .entry)) (g .symbols) (g .scopes) root sc (now (order .exit)) r ⌝ }
+        ⌜ Scheduled (now (forest .entry)) (now (work .entry)) (g .symbols) (g .scopes) root sc (now (order .entry))
+        (now (order .exit)) r ⌝ }
 {
     let mut seen = zeros8();
     let o = Order {

@@ -3,7 +3,7 @@ use mathlib.Core.Path.{refl}
 use denote.Ref.{now}
 use native.Mathlib.Omega.{arith}
 use borrow.Author.Needs.{needs}
-use Rattle.outsiders.proofs.Lists.{take-put}
+use Rattle.outsiders.proofs.Lists.{take-put, appended-put}
 use Rattle.schedule.proofs.put.Statement.{statement}
 use Rattle.schedule.proofs.put.Tie as tie
 
@@ -14,6 +14,7 @@ returns c =
       one-more = refl;
       seen-too = refl;
       is = take-put (now (a .list)) (a .n) (a .s) (omega (arith, c .pre .0, c .pre .3));
+      rest = appended-put (now (a .list)) (a .n) (a .s) .rest;
     }
 
 pub put-spec : {M : Type 1} → statement M
