@@ -2,7 +2,7 @@
 -- downward; the whole, from words cleared and the root stored as reached; what `visit` requires and shows.
 -- Assumes nothing.
 use Prim.Native.Nat.{ℕ, zero, suc, _+_, _-_, _<_, _≤_}
-use mathlib.Core.Path.{_≡_, refl, sym, ap₂, _∙_}
+use mathlib.Core.Path.{_≡_, refl, sym, ap, ap₂, _∙_}
 use mathlib.Core.Bool.{Bool, true, false, _||_}
 use mathlib.Core.List.{List, [], _∷_}
 use native.Mathlib.Omega.{arith}
@@ -13,15 +13,16 @@ use borrow.Author.Tests.{eq-eqb, ne-eqb, eqb-true, eqb-false}
 use Rattle.model.specs.Lists.{isIn, count, union}
 use Rattle.model.specs.Intern.{Sym, symAt}
 use Rattle.model.specs.Gate.{reach, reachable, usage}
-use Rattle.laws.proofs.Frame.{frame-none, frame-then, frame-store}
+use Rattle.laws.proofs.Frame.{frame-store}
 use Rattle.regions.specs.Regions.{SLOTS, USES, REACHED, WORDS}
 use Rattle.laws.proofs.Members.{isIn-true, in-isIn, union-left}
 use Rattle.symbols.specs.Symbols.{kidsAt, symsOf}
 use Rattle.symbols.proofs.Laws.{kids-at}
-use Rattle.gate.specs.Gate.{usesAt, reachedAt, cleared, allNoted, visited, visitedDown, Countable, CountsOnly, Reached}
+use Rattle.gate.specs.Gate.{usesAt, reachedAt, cleared, allNoted, visited, visitedDown, Countable, CountsOnly}
+use Rattle.gate.specs.Gate.{bit, Reached}
 use Rattle.laws.specs.Members.{Under}
-use Rattle.gate.proofs.Words.{cleared-frame, cleared-zero}
-use Rattle.gate.proofs.Words.{allNoted-frame, allNoted-uses, allNoted-reached}
+use Rattle.gate.proofs.Words.{OnlyBelow, below-none, below-then, cleared-below, cleared-zero}
+use Rattle.gate.proofs.Words.{allNoted-below, allNoted-frame, allNoted-uses, allNoted-reached}
 use Rattle.gate.proofs.Reach.{reach-keeps, reach-misses, total, slots-total}
 use Rattle.gate.proofs.Run.{kids-under, kids-kept, countable-kept, countable-less}
 
@@ -42,14 +43,17 @@ module _ (kids : ℕ → List ℕ) (ws : List ℕ) (s : ℕ) where
   pub visited-other : (reachedAt ws s ≡ 1 → ⊥) → ws ≡ visited kids ws s
   visited-other h = sym (visited-by false (kids s) (ne-eqb (reachedAt ws s) 1 h) refl)
 
+  visited-below : (n : ℕ) → n ≤ 512 → Under n (kids s) → OnlyBelow n ws (visited kids ws s)
+  unfolding visited
+  visited-below n few under = go (eqb (reachedAt ws s) 1)
+    where
+      go : (t : Bool) → OnlyBelow n ws (byReached t ws (kids s))
+      go true = allNoted-below n few ws (kids s) under
+      go false = below-none n ws
+
   module _ (under : Under 512 (kids s)) where
     pub visited-frame : CountsOnly ws (visited kids ws s)
-    unfolding visited
-    visited-frame = go (eqb (reachedAt ws s) 1)
-      where
-        go : (t : Bool) → CountsOnly ws (byReached t ws (kids s))
-        go true = allNoted-frame ws (kids s) under
-        go false = frame-none _ _ ws
+    visited-frame = visited-below 512 (omega arith) under .kept
 
     -- a count goes up by at most the slots
     pub visited-bound : WORDS ≤ length ws → (t : ℕ) → t < 512 → count t (kids s) ≤ SLOTS .size →
@@ -77,13 +81,18 @@ down-step kids ws ws′ (suc s) l e =
     let f : ws′ ≡ visited kids ws s = rw q at e in
     rw (q, f)
 
-down-frame : (kids : ℕ → List ℕ) (m : ℕ) → ((t : ℕ) → t < m → Under 512 (kids t)) → (ws : List ℕ) →
-    CountsOnly ws (visitedDown kids ws m)
+down-below : (kids : ℕ → List ℕ) (n : ℕ) → n ≤ 512 → (m : ℕ) → ((t : ℕ) → t < m → Under n (kids t)) → (ws : List ℕ) →
+    OnlyBelow n ws (visitedDown kids ws m)
 unfolding visitedDown
-down-frame kids zero h ws = frame-none _ _ ws
-down-frame kids (suc m) h ws =
-    frame-then _ _ ws (visited kids ws m) (visitedDown kids (visited kids ws m) m)
-    (visited-frame kids ws m (h m (omega arith))) (down-frame kids m (λ t l. h t (omega arith)) (visited kids ws m))
+down-below kids n few zero h ws = below-none n ws
+down-below kids n few (suc m) h ws =
+    below-then n ws (visited kids ws m) (visitedDown kids (visited kids ws m) m)
+    (visited-below kids ws m n few (h m (omega arith)))
+    (down-below kids n few m (λ t l. h t (omega arith)) (visited kids ws m))
+
+bit-is : (b : Bool) → eqb (bit b) 1 ≡ b
+bit-is true = refl
+bit-is false = refl
 
 module _ (ss : List Sym) (n : ℕ) (few : n ≤ 512) (low : (t : ℕ) → t < n → Under t (symAt ss t .kids))
     (kids : ℕ → List ℕ) (same : (t : ℕ) → t < n → kids t ≡ symAt ss t .kids) (s : ℕ) where
@@ -91,17 +100,19 @@ module _ (ss : List Sym) (n : ℕ) (few : n ≤ 512) (low : (t : ℕ) → t < n 
   abbrev Result : ℕ → List ℕ → List ℕ → List ℕ → Type 0
   Result m ws is ws′ =
       (usesAt ws′ s ≡ usesAt ws s + total (λ t. count s (symAt ss t .kids)) is m) ×
-      (eqb (reachedAt ws′ s) 1 ≡ isIn s is)
+      (reachedAt ws′ s ≡ bit (isIn s is))
 
   down-result : (m : ℕ) → m ≤ n → (ws seen : List ℕ) → WORDS ≤ length ws →
-      ((t : ℕ) → t < n → eqb (reachedAt ws t) 1 ≡ isIn t seen) → s < n →
+      ((t : ℕ) → t < n → reachedAt ws t ≡ bit (isIn t seen)) → s < n →
       Result m ws (reach ss m seen) (visitedDown kids ws m)
   unfolding visitedDown reach
   down-result zero l ws seen long known lt = (omega arith, known s lt)
   down-result (suc m) l ws seen long known lt =
       let ks = symAt ss m .kids in
       let u : Under 512 ks = λ a i. omega (arith, low m (omega arith) a i) in
-      rw (visited-by kids ws m (isIn m seen) ks (known m (omega arith)) (same m (omega arith)))
+      let met : eqb (reachedAt ws m) 1 ≡ isIn m seen =
+      ap (λ (x : ℕ). eqb x 1) (known m (omega arith)) ∙ bit-is (isIn m seen) in
+      rw (visited-by kids ws m (isIn m seen) ks met (same m (omega arith)))
       (go (isIn m seen) refl u
       (down-result m (omega arith) (allNoted ws ks) (union seen ks) (omega (arith, allNoted-frame ws ks u .long))
       (λ t k. allNoted-reached ws ks u long t (omega arith) seen (known t k)) lt)
@@ -130,11 +141,17 @@ module _ (ws : List ℕ) (n root : ℕ) (st : Countable ws n) (lt : root < n) wh
   abbrev pub rooted : List ℕ
   rooted = set (cleared ws n) (REACHED .first + root) 1
 
-  rooted-frame : CountsOnly ws rooted
-  rooted-frame =
+  rooted-below : OnlyBelow n ws rooted
+  rooted-below =
       let few : root < 512 = omega (arith, st .few) in
-      frame-then _ _ ws (cleared ws n) rooted (cleared-frame ws n (st .few))
-      (frame-store _ _ (REACHED .first + root) 1 (cleared ws n) (omega arith) (omega arith))
+      below-then n ws (cleared ws n) rooted (cleared-below ws n n (omega arith) (st .few))
+      (record {
+        kept = frame-store _ _ (REACHED .first + root) 1 (cleared ws n) (omega arith) (omega arith);
+        others = λ s ge l. (
+          getD-set-other (cleared ws n) (REACHED .first + root) (USES .first + s) 1 0 (λ e. omega arith),
+          getD-set-other (cleared ws n) (REACHED .first + root) (REACHED .first + s) 1 0 (λ e. omega arith),
+        );
+      })
 
   rooted-uses : (s : ℕ) → s < n → usesAt rooted s ≡ 0
   rooted-uses s l =
@@ -142,31 +159,36 @@ module _ (ws : List ℕ) (n root : ℕ) (st : Countable ws n) (lt : root < n) wh
       getD-set-other (cleared ws n) (REACHED .first + root) (USES .first + s) 1 0 (λ e. omega arith)
       ∙ cleared-zero ws n s (st .few) (st .words) l .0
 
-  rooted-reached : (s : ℕ) → s < n → eqb (reachedAt rooted s) 1 ≡ isIn s (root ∷ [])
+  rooted-reached : (s : ℕ) → s < n → reachedAt rooted s ≡ bit (isIn s (root ∷ []))
   unfolding isIn
   rooted-reached s l = go (eqb s root) refl
     where
-      go : (t : Bool) → eqb s root ≡ t → eqb (reachedAt rooted s) 1 ≡ (t || false)
+      go : (t : Bool) → eqb s root ≡ t → reachedAt rooted s ≡ bit (t || false)
       go true e =
           let q : s ≡ root = eqb-true s root e in
           let few : root < 512 = omega (arith, st .few) in
           rw q
-          (eq-eqb (reachedAt rooted root) 1
-          (getD-set-same (cleared ws n) (REACHED .first + root) 1 0 (omega (arith, cleared-frame ws n (st .few) .long, st .words))))
+          (getD-set-same (cleared ws n) (REACHED .first + root) 1 0
+          (omega (arith, cleared-below ws n n (omega arith) (st .few) .kept .long, st .words)))
       go false e =
           let h : s ≡ root → ⊥ = eqb-false s root e in
-          let z : reachedAt rooted s ≡ 0 =
           getD-set-other (cleared ws n) (REACHED .first + root) (REACHED .first + s) 1 0 (λ q. h (omega arith))
-          ∙ cleared-zero ws n s (st .few) (st .words) l .1 in
-          ne-eqb (reachedAt rooted s) 1 (λ q. omega arith)
+          ∙ cleared-zero ws n s (st .few) (st .words) l .1
 
   module _ (ws′ : List ℕ) (is : ws′ ≡ visitedDown (kidsAt rooted) rooted (suc root)) where
     same-kids : (bs : List ℕ) (t : ℕ) → t < n → kidsAt rooted t ≡ symAt (symsOf bs ws n) t .kids
     same-kids bs t l =
-        kids-kept ws rooted rooted-frame t (omega (arith, st .few)) (st .kids t l) ∙ sym (kids-at bs ws n t l)
+        kids-kept ws rooted (rooted-below .kept) t (omega (arith, st .few)) (st .kids t l) ∙ sym (kids-at bs ws n t l)
 
     low : (bs : List ℕ) (t : ℕ) → t < n → Under t (symAt (symsOf bs ws n) t .kids)
     low bs t l = rw (kids-at bs ws n t l) (kids-under ws t (st .kids t l))
+
+    all-below : OnlyBelow n ws ws′
+    all-below =
+        rw is
+        (below-then n ws rooted (visitedDown (kidsAt rooted) rooted (suc root)) rooted-below
+        (down-below (kidsAt rooted) n (st .few) (suc root)
+        (λ t k a i. omega (arith, low [] t (omega arith) a (rw (same-kids [] t (omega arith)) at i))) rooted))
 
     pub reached : Reached ws ws′ n root
     unfolding usage reachable
@@ -176,11 +198,8 @@ module _ (ws : List ℕ) (n root : ℕ) (st : Countable ws n) (lt : root < n) wh
           (result bs s l .0
           ∙ rw (rooted-uses s l) (omega (arith, slots-total (symsOf bs ws n) n (low bs) root lt s)));
       reached = λ bs s l. rw is (result bs s l .1);
-      kept = rw is
-          (frame-then _ _ ws rooted (visitedDown (kidsAt rooted) rooted (suc root)) rooted-frame
-          (down-frame (kidsAt rooted) (suc root)
-          (λ t k a i.
-          omega (arith, st .few, low [] t (omega arith) a (rw (same-kids [] t (omega arith)) at i))) rooted));
+      kept = all-below .kept;
+      others = all-below .others;
     }
       where
         result : (bs : List ℕ) (s : ℕ) → s < n →
@@ -188,7 +207,7 @@ module _ (ws : List ℕ) (n root : ℕ) (st : Countable ws n) (lt : root < n) wh
             (reach (symsOf bs ws n) (suc root) (root ∷ [])) (visitedDown (kidsAt rooted) rooted (suc root))
         result bs s l =
             down-result (symsOf bs ws n) n (st .few) (low bs) (kidsAt rooted) (same-kids bs) s (suc root) (omega arith)
-            rooted (root ∷ []) (omega (arith, st .words, rooted-frame .long)) rooted-reached l
+            rooted (root ∷ []) (omega (arith, st .words, rooted-below .kept .long)) rooted-reached l
 
 -- what `visit` requires of these words, and what it shows of them
 module _ (ws ws₁ : List ℕ) (n root : ℕ) (st : Countable ws n) (lt : root < n) (clears : ws₁ ≡ cleared ws n) where
@@ -198,7 +217,7 @@ module _ (ws ws₁ : List ℕ) (n root : ℕ) (st : Countable ws n) (lt : root <
       let vs = rooted ws n root st lt in
       rw clears (
         countable-less vs (suc root) n lt
-            (countable-kept ws vs (rooted-frame ws n root st lt) n st),
+            (countable-kept ws vs (rooted-below ws n root st lt .kept) n st),
         λ s l. rooted-uses ws n root st lt s (omega arith),
       )
 

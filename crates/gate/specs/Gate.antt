@@ -4,7 +4,7 @@
 -- Assumes nothing.
 use Prim.Native.Nat.{ℕ, zero, suc, _+_, _<_, _≤_}
 use mathlib.Core.Path.{_≡_}
-use mathlib.Core.Bool.{true, false}
+use mathlib.Core.Bool.{Bool, true, false}
 use mathlib.Core.List.{List, [], _∷_}
 use lib.Dec.{eqb}
 use lib.ListN.{length, getD, set}
@@ -82,15 +82,26 @@ pub record Notable (ws : List ℕ) (at n : ℕ) : Type 0 where
 abbrev pub CountsOnly : List ℕ → List ℕ → Type 0
 CountsOnly ws ws′ = Frame (USES .first) (end REACHED) ws ws′
 
+-- the counts of symbols from n on are as they were, and whether they are reached
+abbrev pub OthersKept : ℕ → List ℕ → List ℕ → Type 0
+OthersKept n ws ws′ = (s : ℕ) → n ≤ s → s < 512 → (usesAt ws′ s ≡ usesAt ws s) × (reachedAt ws′ s ≡ reachedAt ws s)
+
+-- whether a symbol is reached, as its word says
+abbrev pub bit : Bool → ℕ
+bit true = 1
+bit false = 0
+
 -- the symbols below n that are reached from the root are known, and the slots of these are counted
 pub record Reached (ws ws′ : List ℕ) (n root : ℕ) : Type 0 where
   pub uses : (bs : List ℕ) (scs : List Scope) (s : ℕ) → s < n →
       usesAt ws′ s ≡ usage (reachable (symsOf bs ws n) scs root) s
   pub reached : (bs : List ℕ) (s : ℕ) → s < n →
-      eqb (reachedAt ws′ s) 1 ≡ isIn s (reach (symsOf bs ws n) (suc root) (root ∷ []))
+      reachedAt ws′ s ≡ bit (isIn s (reach (symsOf bs ws n) (suc root) (root ∷ [])))
   pub kept : CountsOnly ws ws′
+  pub others : OthersKept n ws ws′
 
 -- the slots of all symbols below n are counted
 pub record Tallied (ws ws′ : List ℕ) (n : ℕ) : Type 0 where
   pub uses : (bs : List ℕ) (s : ℕ) → s < n → usesAt ws′ s ≡ count s (allSlots (symsOf bs ws n))
   pub kept : CountsOnly ws ws′
+  pub others : OthersKept n ws ws′

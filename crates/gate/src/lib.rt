@@ -97,7 +97,8 @@ fn visit(work: &mut [u32], root: usize)
 }
 
 // Finds the symbols that are reached from the root, and counts their uses (`flat_usage_reachable`), among n symbols.
-// Rules out: the slots of a symbol that nothing reaches counted; one use for a symbol that is a child twice.
+// Rules out: the slots of a symbol that nothing reaches counted; one use for a symbol that is a child twice; a word of
+// a symbol after the last changed.
 pub fn reach_and_count(work: &mut [u32], n: usize, root: usize)
     requires { ⌜ Countable (now work) n ⌝ }
     requires { ⌜ root < n ⌝ }
@@ -121,7 +122,8 @@ fn tally(work: &mut [u32], n: usize)
 }
 
 // Counts the uses of each of n symbols by all of them (`flat_usage`), as the lister shows them.
-// Rules out: the slots of a symbol that nothing reaches left out; counts added to what the words held before.
+// Rules out: the slots of a symbol that nothing reaches left out; counts added to what the words held before; a word of
+// a symbol after the last changed.
 pub fn count_all(work: &mut [u32], n: usize)
     requires { ⌜ Countable (now work) n ⌝ }
     ensures { λ _. ⌜ Tallied (now (work .entry)) (now (work .exit)) n ⌝ }
