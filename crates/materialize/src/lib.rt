@@ -328,8 +328,9 @@ fn definition(
 
 // ---- the root
 
-// Plans the written tree of a root's symbol, in region PLAN. The uses are counted (gate).
-// Rules out: a tree for a symbol that is used twice written twice; a plan of the rows past the 256th.
+// Plans the written tree of a root's symbol, in region PLAN; how many rows, and how deep. The uses are counted (gate).
+// Rules out: a tree for a symbol that is used twice written twice; a plan of the rows past the 256th; a word of the
+// region past the rows changed.
 pub fn materialize(forest: &[u8], work: &mut [u32], g: Graph, root: usize) -> Plan
     requires { ⌜ Laid (now forest) ⌝ }
     requires { ⌜ Buildable (now forest) (now work) (g .symbols) (g .scopes) ⌝ }

@@ -1,10 +1,10 @@
--- How plans grow. In order: no rows; one row more; rows and then rows; a plan that is full; a node over
--- its children, and trees side by side.
+-- How plans grow. In order: no rows; one row more; a plan that is full; what putting a row gives; rows and then rows.
 -- Assumes nothing.
 use Prim.Native.Nat.{ℕ, _+_, _*_, _≤_, _<_, max}
-use mathlib.Core.Path.{_≡_, sym, ap, _∙_}
+use mathlib.Core.Path.{_≡_, refl, sym, ap, _∙_}
 use mathlib.Core.List.{List, [], _∷_, _++_, append-assoc, append-nil}
 use native.Mathlib.Omega.{arith}
+use borrow.Author.Tests.{lt-ltb, le-ltb}
 use lib.ListN.{length, length-append}
 use Rattle.model.specs.Tree.{Row}
 use Rattle.laws.proofs.Frame.{frame-none, frame-then, frame-wider}
@@ -13,7 +13,7 @@ use Rattle.plan.specs.Plan.{storePlanned, planFrom, rowFor, rowsFor, Writable, 
 use Rattle.plan.specs.declared.Planned.{Planned}
 use Rattle.plan.proofs.Laws.{stored-frame, plan-more, rows-append, writable-append}
 use Rattle.planner.specs.declared.Plan.{Plan}
-use Rattle.planner.specs.Grew.{Grew}
+use Rattle.planner.specs.Grew.{Grew, withRow, oneMore, RowPut}
 
 module _ (bs ws : List ℕ) (p : Plan) where
   -- ---- no rows
@@ -25,6 +25,7 @@ module _ (bs ws : List ℕ) (p : Plan) where
     writable = λ l w. w;
     deepest = λ l. omega arith;
     kept = frame-none _ _ ws;
+    rest = λ k lo hi. refl;
   }
 
   -- ---- one row more
@@ -44,6 +45,7 @@ module _ (bs ws : List ℕ) (p : Plan) where
           deepest = λ l. g;
           kept = rw e
               (frame-wider _ _ _ _ _ _ (stored-frame ws (PLAN .first + 3 * p .rows) row) (omega arith) (omega arith));
+          rest = λ k lo hi. rw e (stored-frame ws (PLAN .first + 3 * p .rows) row .after k (omega arith));
         }
 
   -- ---- a plan that is full: more rows only are more
@@ -56,6 +58,28 @@ module _ (bs ws : List ℕ) (p : Plan) where
     writable = λ l. absurd (omega arith);
     deepest = λ l. absurd (omega arith);
     kept = frame-none _ _ ws;
+    rest = λ k lo hi. refl;
+  }
+
+-- ---- what putting a row gives
+
+module _ (ws : List ℕ) (p : Plan) (row : Planned) (d : ℕ) where
+  pub put-stored : WORDS ≤ length ws → p .rows < 256 → (ws′ : List ℕ)
+      → ws′ ≡ storePlanned ws (PLAN .first + 3 * p .rows) row → (deep : ℕ) → deep ≡ max (p .deepest) d
+      → RowPut ws p row d ws′ (record { rows = p .rows + 1; deepest = deep })
+  unfolding withRow oneMore
+  put-stored long room ws′ e deep f = record {
+    words = rw (lt-ltb (p .rows) 256 room, withRow) e;
+    plan = rw (lt-ltb (p .rows) 256 room, oneMore) (ap (λ (x : ℕ). record { rows = p .rows + 1; deepest = x }) f);
+    grew = λ bs w. grew-row bs ws p row d long w room ws′ _ e refl f;
+  }
+
+  pub put-full : 256 ≤ p .rows → p .rows ≤ 257 → RowPut ws p row d ws (record { rows = 257; deepest = p .deepest })
+  unfolding withRow oneMore
+  put-full lo hi = record {
+    words = rw (le-ltb (p .rows) 256 lo, withRow);
+    plan = rw (le-ltb (p .rows) 256 lo, oneMore);
+    grew = λ bs w. grew-full bs ws p (rowFor bs row ∷ []) d _ lo hi (omega arith) refl;
   }
 
 -- ---- rows, and then rows
@@ -72,6 +96,7 @@ module _ {bs ws : List ℕ} {p : Plan} {rs : List Row} {d : ℕ} {ws₁ : List �
     writable = λ l w. b .writable l (a .writable (first l) w);
     deepest = λ l. omega (arith, a .deepest (first l), b .deepest l);
     kept = frame-then _ _ _ _ _ (a .kept) (b .kept);
+    rest = λ k lo hi. b .rest k lo hi ∙ a .rest k (omega (arith, a .count, b .count)) hi;
   }
     where
       first : r .rows ≤ 256 → q .rows ≤ 256

@@ -4,15 +4,13 @@ use graph::Graph;
 use key::Operation;
 use plan::Planned;
 ghost use mathlib.Core.Path.{_≡_};
-ghost use mathlib.Core.List.{List, [], _∷_};
 ghost use Prim.Native.Nat.{ℕ, _+_, _<_, _≤_, max};
 ghost use lib.ListN.{length, getD, take, replicate};
 ghost use lib.Seq.{sets};
 ghost use Rattle.laws.specs.Range.{range};
 ghost use Rattle.regions.specs.Regions.{WORDS};
 ghost use Rattle.record.specs.Record.{Laid};
-ghost use Rattle.plan.specs.Plan.{rowFor, Writable};
-ghost use Rattle.planner.specs.Grew.{Grew};
+ghost use Rattle.planner.specs.Grew.{RowPut};
 ghost use Rattle.planner.specs.Building.{Buildable, rowOf, branchesOf, openedAt};
 ghost use Rattle.planner.specs.Building.{more, Member, Members, AnyMember};
 
@@ -46,12 +44,11 @@ fn deeper(a: usize, b: usize) -> usize
     a
 }
 
-// One row more, `above` levels below the root. Past 256 rows none is stored.
-// Rules out: a row over the one before it; a row at the depth of its parent.
+// One row more, `above` levels below the root; the plan with it. Past 256 rows none is stored.
+// Rules out: a row over the one before it; a row at the depth of its parent; a row stored past the 256th.
 pub fn put(work: &mut [u32], p: Plan, above: usize, row: Planned) -> Plan
     requires { ⌜ (WORDS ≤ length (now work)) × (p .rows ≤ 257) × (above < 4294967296) ⌝ }
-    ensures { λ r. ⌜ ((bs : List ℕ) → Writable bs row
-        → Grew bs (now (work .entry)) p (rowFor bs row ∷ []) (above + 1) (now (work .exit)) r) ⌝ }
+    ensures { λ r. ⌜ RowPut (now (work .entry)) p row (above + 1) (now (work .exit)) r ⌝ }
 {
     let rows = p.rows;
     if rows < 256 {

@@ -82,7 +82,7 @@ module _ (t : ℕ) (c : lambda-lts.After-put (cycle.lambda-claims t) (cycle.lamb
       (start .args .above + 1) (c .put .last .0) (c .put .result)
   row-put =
       let q = start .pre .1 .1 in
-      c .put .ensures _ (lambda-writable (q .0) _ (q .1 .0 .low) _ (q .1 .1) _ (omega (arith, q .1 .0 .room)))
+      c .put .ensures .grew _ (lambda-writable (q .0) _ (q .1 .0 .low) _ (q .1 .1) _ (omega (arith, q .1 .0 .room)))
 
   root-is : c .before .before .wide4 .result
       ≡ getD (start .args .work .now) (SLOTS .first + symbolAt (start .args .work .now) (start .args .s) .kids) 0

@@ -47,7 +47,7 @@ module _ (t : ℕ) (c : define-lts.After-put (cycle.define-claims t) (cycle.defi
   block-put : Grew (from .args .forest .now) (from .args .work .now) (from .args .p)
       (rowFor (from .args .forest .now) (Block (counted .members .result + 1)) ∷ []) (from .args .above + 1)
       (c .put .last .0) (c .put .result)
-  block-put = c .put .ensures (from .args .forest .now) (omega (arith, counted .members .ensures .0))
+  block-put = c .put .ensures .grew (from .args .forest .now) (omega (arith, counted .members .ensures .0))
 
 pub define-returns : (t : ℕ) → define-lts.Need-returns (cycle.define-claims t) (cycle.define-at t) define.Post
 define-returns t c =
@@ -245,7 +245,7 @@ definition-build-requires t c κs =
     let z = c4 .before .before .before .before .before .before .before .before .before in
     let b = z .pre .1 .1 .0 in
     let at = z .pre .1 .1 .1 in
-    let h = c4 .put .ensures (z .args .forest .now) tt in (
+    let h = c4 .put .ensures .grew (z .args .forest .now) tt in (
       omega (arith, z .pre .0),
       (z .pre .1 .0, (buildable-kept (h .kept) b, site-on at refl (omega arith) (grew-few h))),
     )
@@ -261,7 +261,7 @@ definition-returns t c =
     let b = z .pre .1 .1 .0 in
     let at = z .pre .1 .1 .1 in
     defines-one _ _ b (c9 .if1 .taken) (c10 .member .ensures) (id-fits at b)
-    (c7 .put .ensures (z .args .forest .now) tt)
+    (c7 .put .ensures .grew (z .args .forest .now) tt)
     (c2 .build .ensures)
 
 pub definition-returns-2 : (t : ℕ) → definition-lts.Need-returns-2 (cycle.definition-claims t) (cycle.definition-at t)

@@ -38,7 +38,7 @@ build-returns-2 t c =
     let h = c .before .before in
     let i = h .before .before in
     let z = i .before .before .before .before .before .before .before in
-    plans-use (z .pre .1 .1 .0) _ (z .pre .1 .1 .1 .low) _ (i .if2 .taken) (h .put .ensures (z .args .forest .now) tt)
+    plans-use (z .pre .1 .1 .0) _ (z .pre .1 .1 .1 .low) _ (i .if2 .taken) (h .put .ensures .grew (z .args .forest .now) tt)
 
 pub build-returns-3 : (t : ℕ) → build-lts.Need-returns-3 (cycle.build-claims t) (cycle.build-at t) build.Post
 build-returns-3 t c =
@@ -58,7 +58,7 @@ fresh-returns t c =
     let b = z .pre .1 .1 .0 in
     let at = z .pre .1 .1 .1 in
     let e = node-loaded _ _ (c7 .load .ensures) (c5 .node .given .1) in
-    plans-const b _ (at .low) _ _ e (c2 .put .ensures (z .args .forest .now) (source-low b _ (at .low) _ e))
+    plans-const b _ (at .low) _ _ e (c2 .put .ensures .grew (z .args .forest .now) (source-low b _ (at .low) _ e))
 
 pub fresh-returns-2 : (t : ℕ) → fresh-lts.Need-returns-2 (cycle.fresh-claims t) (cycle.fresh-at t) fresh.Post
 fresh-returns-2 t c =
@@ -69,7 +69,7 @@ fresh-returns-2 t c =
     let b = z .pre .1 .1 .0 in
     let at = z .pre .1 .1 .1 in
     let e = node-loaded _ _ (c7 .load .ensures) (c5 .node2 .given .1) in
-    plans-unparsed b _ (at .low) _ _ e (c2 .put2 .ensures (z .args .forest .now) (source-low b _ (at .low) _ e))
+    plans-unparsed b _ (at .low) _ _ e (c2 .put2 .ensures .grew (z .args .forest .now) (source-low b _ (at .low) _ e))
 
 pub fresh-returns-3 : (t : ℕ) → fresh-lts.Need-returns-3 (cycle.fresh-claims t) (cycle.fresh-at t) fresh.Post
 fresh-returns-3 t c =
@@ -80,7 +80,7 @@ fresh-returns-3 t c =
     let b = z .pre .1 .1 .0 in
     let at = z .pre .1 .1 .1 in
     let e = node-loaded _ _ (c6 .load .ensures) (c4 .enum-told .given .1) in
-    plans-argument b _ (at .low) _ _ e (c2 .put3 .ensures (z .args .forest .now) tt)
+    plans-argument b _ (at .low) _ _ e (c2 .put3 .ensures .grew (z .args .forest .now) tt)
 
 pub fresh-lambda-requires : (t : ℕ) → fresh-lts.Need-lambda-requires (cycle.fresh-claims t) (cycle.fresh-at t)
     fresh.Post
@@ -164,7 +164,7 @@ module _ (t : ℕ) (c : operands-lts.After-put (cycle.operands-claims t) (cycle.
       (c .put .result)
   row-put =
       let q = start .pre .1 .1 in
-      put-as (c .before .row-of .ensures) (c .put .ensures) (row-writable (q .0) _ low _ (q .1 .1))
+      put-as (c .before .row-of .ensures) (c .put .ensures .grew) (row-writable (q .0) _ low _ (q .1 .1))
 
   buildable : Buildable (start .args .forest .now) (c .put .last .0) (start .args .g .symbols) (start .args .g .scopes)
   buildable = buildable-kept (row-put .kept) (start .pre .1 .1 .0)
