@@ -40,7 +40,7 @@ use Rattle.symbols.proofs.Laws.{syms-length, sym-at, rec-at}
 use Rattle.scopes.specs.Scopes.{scopesOf}
 use Rattle.scopes.proofs.Laws.{scopes-length}
 use Rattle.interner.specs.declared.State.{State}
-use Rattle.tables.specs.Tables.{first}
+use Rattle.tables.specs.Tables.{newTables}
 use Rattle.symbols.specs.Sourced.{Sourced}
 use Rattle.interner.specs.State.{absOf, Rep}
 use Rattle.gate.specs.Gate.{Countable, CountsOnly}
@@ -119,9 +119,9 @@ arena-countable a = record {
 
 module _ (bs ws : List ℕ) (st : State) (rep : Rep bs ws st) where
   module _ (root : ℕ) (accepted : accept bs ≡ good (treesOf bs))
-      (is : interned bs ≡ good (root, absOf bs ws first st)) where
-    leaves : Leaves Any (root, absOf bs ws first st)
-    leaves = forest-sound bs (treesOf bs) accepted (root, absOf bs ws first st) is
+      (is : interned bs ≡ good (root, absOf bs ws newTables st)) where
+    leaves : Leaves Any (root, absOf bs ws newTables st)
+    leaves = forest-sound bs (treesOf bs) accepted (root, absOf bs ws newTables st) is
 
     pub root-low : root < st .symbols
     root-low = omega (arith, leaves .root-low, syms-length bs ws (st .symbols))

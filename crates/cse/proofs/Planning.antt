@@ -18,7 +18,7 @@ use Rattle.symbols.proofs.Laws.{syms-agree}
 use Rattle.scopes.specs.Scopes.{scopesOf}
 use Rattle.scopes.proofs.Open.{scopes-agree}
 use Rattle.interner.specs.declared.State.{State}
-use Rattle.tables.specs.Tables.{first}
+use Rattle.tables.specs.Tables.{newTables}
 use Rattle.interner.specs.State.{absOf, Rep}
 use Rattle.gate.specs.Gate.{Reached}
 use Rattle.graph.specs.declared.Graph.{Graph}
@@ -54,7 +54,7 @@ module _ (bs ws : List ℕ) (st : State) (rep : Rep bs ws st) (root : ℕ) (ws�
   module _ (ws₂ : List ℕ) (r : Plan) (long : WORDS ≤ length ws₂)
       (grown : Materialized bs ws₁ graph root ws₂ r) where
     tree-same : materialize (symsOf bs ws₁ (st .symbols)) (scopesOf ws₁ (st .scopes)) root
-        ≡ treeOf (root, absOf bs ws first st)
+        ≡ treeOf (root, absOf bs ws newTables st)
     unfolding treeOf
     tree-same = rw (syms-same, scopes-same)
 
@@ -66,10 +66,10 @@ module _ (bs ws : List ℕ) (st : State) (rep : Rep bs ws st) (root : ℕ) (ws�
       deepest = λ l. omega (arith, g .deepest l);
     }
 
-    pub planned-tree : Planned bs ws ws₂ (root, absOf bs ws first st) r
+    pub planned-tree : Planned bs ws ws₂ (root, absOf bs ws newTables st) r
     unfolding planFrom
     planned-tree = record {
-      tree = tree-planned (treeOf (root, absOf bs ws first st))
+      tree = tree-planned (treeOf (root, absOf bs ws newTables st))
           (subst (λ (t : Tree). Grown bs ws₁ (record { rows = 0; deepest = 0 }) 0 t ws₂ r) tree-same grown);
       ready = record { words = long; writable = λ l. grown .writable l tt };
       kept = frame-then (SYMBOLS .first) WORDS ws ws₁ ws₂
@@ -78,7 +78,7 @@ module _ (bs ws : List ℕ) (st : State) (rep : Rep bs ws st) (root : ℕ) (ws�
     }
 
     -- planning leaves symbols, scopes and uses as they are
-    pub held : accept bs ≡ good (treesOf bs) → interned bs ≡ good (root, absOf bs ws first st) →
+    pub held : accept bs ≡ good (treesOf bs) → interned bs ≡ good (root, absOf bs ws newTables st) →
         Held bs ws₂ (st .symbols)
     held accepted interns =
         let a : Arena bs ws₁ (st .symbols) (st .scopes) =
@@ -86,7 +86,7 @@ module _ (bs ws : List ℕ) (st : State) (rep : Rep bs ws st) (root : ℕ) (ws�
         let still₂ : Still ws₁ ws₂ (SLOTS .size) (st .symbols) (st .scopes) =
         still-above (grown .kept) (omega arith) (omega arith) (a .scoped) in
         record {
-          made = (root, absOf bs ws first st);
+          made = (root, absOf bs ws newTables st);
           accepted = accepted;
           interns = interns;
           scopes = st .scopes;

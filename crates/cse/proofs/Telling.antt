@@ -24,7 +24,7 @@ use Rattle.output.specs.Output.{over}
 use Rattle.serialise.specs.Serialise.{plannedBytes}
 use Rattle.planner.specs.declared.Plan.{Plan}
 use Rattle.interner.specs.declared.Step.{Step}
-use Rattle.tables.specs.Tables.{first}
+use Rattle.tables.specs.Tables.{newTables}
 use Rattle.interner.specs.State.{absOf}
 use Rattle.interner.specs.Step.{outOf}
 use Rattle.codec.specs.declared.Verdict.{Verdict}
@@ -157,8 +157,8 @@ module _ (bs : List ℕ) where
   verdict-accepted r e is = sym e ∙ ap (λ (v : Verdict). answerOf v (treesOf bs)) is
 
   -- interning's answer
-  pub intern-good : (ws : List ℕ) (r : Step) → outOf bs ws first r ≡ interned bs → r .number ≡ 0 →
-      interned bs ≡ good (r .symbol, absOf bs ws first (r .st))
+  pub intern-good : (ws : List ℕ) (r : Step) → outOf bs ws newTables r ≡ interned bs → r .number ≡ 0 →
+      interned bs ≡ good (r .symbol, absOf bs ws newTables (r .st))
   unfolding outOf
   intern-good ws r is h = sym is ∙ rw (outOf, eq-eqb (r .number) 0 h)
 
@@ -169,7 +169,7 @@ module _ (c : Call) where
   unfolding written interned _>>=_
   check-refused n p e = rw e
 
-  pub intern-refused : (ws : List ℕ) (r : Step) → outOf (c .forest) ws first r ≡ interned (c .forest) →
+  pub intern-refused : (ws : List ℕ) (r : Step) → outOf (c .forest) ws newTables r ≡ interned (c .forest) →
       (r .number ≡ 0 → ⊥) → written c ≡ refused (r .number) (r .place)
   unfolding written _>>=_ outOf
   intern-refused ws r is h = rw (← is, outOf, ne-eqb (r .number) 0 h)

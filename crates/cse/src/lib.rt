@@ -18,7 +18,7 @@ ghost use Rattle.model.specs.Intern as intern;
 ghost use Rattle.model.specs.Demand3.{Demanded, Demand3};
 ghost use Rattle.record.specs.Record.{Laid};
 ghost use Rattle.regions.specs.Regions.{WORDS};
-ghost use Rattle.tables.specs.Tables.{first};
+ghost use Rattle.tables.specs.Tables.{newTables};
 ghost use Rattle.interner.specs.State.{absOf, Rep};
 ghost use Rattle.cse.specs.Call.{five, numbersIn, Tells, cleared, LentOnly, PlanOf, PlanWritable, Planned};
 ghost use Rattle.cse.specs.Call.{Held, Counts, HeldAfter};
@@ -82,9 +82,9 @@ fn write(
 fn planned(forest: &[u8], work: &mut [u32], st: State, root: usize) -> Plan
     requires { ⌜ accept (now forest) ≡ good (treesOf (now forest)) ⌝ }
     requires { ⌜ Rep (now forest) (now work) st ⌝ }
-    requires { ⌜ interned (now forest) ≡ good (root, absOf (now forest) (now work) first st) ⌝ }
+    requires { ⌜ interned (now forest) ≡ good (root, absOf (now forest) (now work) newTables st) ⌝ }
     ensures { λ r. ⌜ Planned (now (forest .entry)) (now (work .entry)) (now (work .exit))
-        (root, absOf (now (forest .entry)) (now (work .entry)) first st) r ⌝ }
+        (root, absOf (now (forest .entry)) (now (work .entry)) newTables st) r ⌝ }
     ensures { λ r. ⌜ Held (now (forest .entry)) (now (work .exit)) (st .symbols) ⌝ }
 {
     let symbols = st.symbols as usize;

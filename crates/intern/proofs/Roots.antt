@@ -33,7 +33,7 @@ use Rattle.symbols.specs.Words.{pendingFrom}
 use Rattle.scopes.specs.Scopes.{scopeWord, levelOf}
 use Rattle.bindings.specs.Bindings.{envOf}
 use Rattle.tables.specs.declared.Tables.{Tables}
-use Rattle.tables.specs.Tables.{first}
+use Rattle.tables.specs.Tables.{newTables}
 use Rattle.interner.specs.declared.State.{State}
 use Rattle.interner.specs.declared.Step.{Step}
 use Rattle.interner.specs.State.{absOf, Rep, Started}
@@ -91,7 +91,7 @@ pub record Begun (bs ws ws₁ : List ℕ) (t : Tables) (st : State) (count : ℕ
   pub accepted : accept bs ≡ good (treesOf bs)
   pub started : Started ws ws₁ st
   pub counted : count ≡ treeCount bs
-  pub tables : t ≡ first
+  pub tables : t ≡ newTables
 
 module _ {bs ws ws₁ : List ℕ} {t : Tables} {st : State} {count : ℕ} (h : Begun bs ws ws₁ t st count) where
   whole : trees bs 0 count ≡ treesOf bs
@@ -110,7 +110,7 @@ module _ {bs ws ws₁ : List ℕ} {t : Tables} {st : State} {count : ℕ} (h : B
   outermost : levelOf (scopeWord ws₁ 0) ≡ 0
   outermost = ap levelOf (rep .arena .scoped .nested .outermost)
 
-  operands₁ : Operands bs ws₁ first st 0 count 0 origin
+  operands₁ : Operands bs ws₁ newTables st 0 count 0 origin
   operands₁ = record {
     there = trees-there bs count (forest-sound bs (h .accepted)) (h .counted);
     within = omega arith;
@@ -136,10 +136,10 @@ module _ {bs ws ws₁ : List ℕ} {t : Tables} {st : State} {count : ℕ} (h : B
   -- ---- after
 
   module _ {ws₂ : List ℕ} {k : Kids} (v₀ : ReadsAll bs ws₁ t st 0 count 0 origin ws₂ k) where
-    v : ReadsAll bs ws₁ first st 0 count 0 origin ws₂ k
+    v : ReadsAll bs ws₁ newTables st 0 count 0 origin ws₂ k
     v = rw (h .tables) at v₀
 
-    all-read : internAll (trees bs 0 count) 0 0 0 0 (envOf ws₁ 0) (absOf bs ws₁ first st)
+    all-read : internAll (trees bs 0 count) 0 0 0 0 (envOf ws₁ 0) (absOf bs ws₁ newTables st)
         ≡ internForest (treesOf bs)
     unfolding internForest
     all-read = rw (h .started .is bs, no-ids, whole)
@@ -159,9 +159,9 @@ module _ {bs ws ws₁ : List ℕ} {t : Tables} {st : State} {count : ℕ} (h : B
     forest-refused n = record {
       rep = v .rep;
       is =
-          out-number bs ws₂ first (record { st = k .st; symbol = 0; number = k .number; place = k .place }) n
+          out-number bs ws₂ newTables (record { st = k .st; symbol = 0; number = k .number; place = k .place }) n
           ∙ sym (interned-is (refused (k .number) (k .place))
-          (sym (v .is ∙ all-read) ∙ kids-refused bs ws₂ first 0 count k n));
+          (sym (v .is ∙ all-read) ∙ kids-refused bs ws₂ newTables 0 count k n));
       low = λ e. absurd (n e);
       no-place = λ e. absurd (n e);
       no-symbol = λ z. refl;
@@ -186,8 +186,8 @@ module _ {bs ws ws₁ : List ℕ} {t : Tables} {st : State} {count : ℕ} (h : B
           ) in
           omega (
             arith,
-            last-result (operands₁ .well) 0 _ (sym (v .is) ∙ kids-good bs ws₂ first 0 count k ok) some .low,
-            symbols-count bs ws₂ first (k .st),
+            last-result (operands₁ .well) 0 _ (sym (v .is) ∙ kids-good bs ws₂ newTables 0 count k ok) some .low,
+            symbols-count bs ws₂ newTables (k .st),
           )
 
       pub forest-done : {r : Step} → r ≡ given (k .st) (last (pendingFrom ws₂ 0 count)) → Interned bs ws ws₂ r
@@ -195,8 +195,8 @@ module _ {bs ws ws₁ : List ℕ} {t : Tables} {st : State} {count : ℕ} (h : B
       forest-done e = rw e (record {
         rep = v .rep;
         is =
-            out-good bs ws₂ first (given (k .st) (last (pendingFrom ws₂ 0 count))) refl
-            ∙ sym (interned-is _ (sym (v .is ∙ all-read) ∙ kids-good bs ws₂ first 0 count k ok));
+            out-good bs ws₂ newTables (given (k .st) (last (pendingFrom ws₂ 0 count))) refl
+            ∙ sym (interned-is _ (sym (v .is ∙ all-read) ∙ kids-good bs ws₂ newTables 0 count k ok));
         low = λ z. root-low;
         no-place = λ z. refl;
         no-symbol = λ n. absurd (n refl);

@@ -26,7 +26,7 @@ use Rattle.symbols.specs.Words.{pendingFrom}
 use Rattle.scopes.specs.Scopes.{scopeWord, levelOf}
 use Rattle.bindings.specs.Bindings.{envOf}
 use Rattle.tables.specs.declared.Tables.{Tables}
-use Rattle.tables.specs.Tables.{first, Open}
+use Rattle.tables.specs.Tables.{newTables, Open}
 use Rattle.interner.specs.declared.State.{State}
 use Rattle.interner.specs.declared.Step.{Step}
 use Rattle.interner.specs.State.{absOf, Rep}
@@ -260,7 +260,7 @@ pub record Enters (bs ws : List ℕ) (t : Tables) (st : State) (i : ℕ) (at : H
 -- holds of it; the words hold that state, and of those that interning may write the rest is free
 pub record Interned (bs ws ws′ : List ℕ) (r : Step) : Type 0 where
   pub rep : Rep bs ws′ (r .st)
-  pub is : outOf bs ws′ first r ≡ interned bs
+  pub is : outOf bs ws′ newTables r ≡ interned bs
   pub low : r .number ≡ 0 → r .symbol < r .st .symbols
   pub no-place : r .number ≡ 0 → r .place ≡ 0
   pub no-symbol : (r .number ≡ 0 → ⊥) → r .symbol ≡ 0

@@ -12,7 +12,7 @@ use Rattle.laws.proofs.Apart.{none-some}
 use Rattle.laws.proofs.Frame.{frame-store}
 use Rattle.laws.specs.Stack.{stackOf}
 use Rattle.symbols.specs.Symbols.{symsOf}
-use Rattle.tables.specs.Tables.{first}
+use Rattle.tables.specs.Tables.{newTables}
 use Rattle.tables.proofs.Stack.{first-open, first-tables}
 use Rattle.scopes.specs.Scopes.{scopeWord, argsIn}
 use Rattle.scopes.proofs.Open.{scopes-outermost, nested-outermost}
@@ -56,7 +56,7 @@ module _ (ws : List ℕ) (words : WORDS ≤ length ws) where
     few-readings = omega arith;
   }
 
-  abs-start : (bs : List ℕ) → absOf bs ws₁ first firstState ≡ start
+  abs-start : (bs : List ℕ) → absOf bs ws₁ newTables firstState ≡ start
   unfolding start symsOf memoOf stackOf
   abs-start bs = rw (first-tables ws₁, scopes-outermost ws₁)
 

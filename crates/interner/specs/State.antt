@@ -13,7 +13,7 @@ use Rattle.laws.specs.Members.{Once}
 use Rattle.symbols.specs.Symbols.{symsOf}
 use Rattle.symbols.specs.Sourced.{AllSourced}
 use Rattle.tables.specs.declared.Tables.{Tables}
-use Rattle.tables.specs.Tables.{tablesOf, first, Open, EntriesBelow, Hinted}
+use Rattle.tables.specs.Tables.{tablesOf, newTables, Open, EntriesBelow, Hinted}
 use Rattle.scopes.specs.Scopes.{scopesOf}
 use Rattle.memo.specs.Memo.{memoOf, keysIn, MemoBelow}
 use Rattle.interner.specs.declared.State.{State}
@@ -68,6 +68,6 @@ pub record Started (ws ws′ : List ℕ) (st : State) : Type 0 where
   pub state : st ≡ firstState
   pub words : ws′ ≡ set ws (SCOPES .first) 0
   pub rep : (bs : List ℕ) → Rep bs ws′ st
-  pub is : (bs : List ℕ) → absOf bs ws′ first st ≡ intern.start
-  pub opened : Open first (st .entries)
+  pub is : (bs : List ℕ) → absOf bs ws′ newTables st ≡ intern.start
+  pub opened : Open newTables (st .entries)
   pub frame : Frame (SYMBOLS .first) (PENDING .first) ws ws′

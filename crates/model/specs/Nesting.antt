@@ -1,7 +1,7 @@
 -- Conditions 7 to 10 by record numbers: which record lies below which, what stands in a block, which ids are in force.
 -- In order: records and their subtrees; depth; definitions in their places; ids in force.
 -- Records are numbered in the file's order, from 0, over all trees. Nothing here is what the checks run, which walk the
--- trees with a depth, a mark or a list of ids at hand.
+-- trees with a depth, a flag or a list of ids at hand.
 -- Assumes nothing.
 use mathlib.Core.Path.{_≡_}
 use mathlib.Core.Logic.{_⊎_, _≢_}
@@ -43,12 +43,12 @@ abbrev pub Subtree : List Row → ℕ → ℕ → Type 0
 Subtree rows b = First (λ n. suc (children (take n (drop b rows))) ≡ n)
 
 -- record p lies below record b: "a record is followed by its children's subtrees"
-abbrev pub Below : Trees → ℕ → ℕ → Type 0
-Below ts b p = (b < p) × (p < endOf ts b)
+abbrev pub Descends : Trees → ℕ → ℕ → Type 0
+Descends ts b p = (b < p) × (p < endOf ts b)
 
 -- record p is a child of record b: it lies below b, and below no record that lies between the two
 abbrev pub Child : Trees → ℕ → ℕ → Type 0
-Child ts b p = Below ts b p × ((c : ℕ) → b < c → Below ts c p → ⊥)
+Child ts b p = Descends ts b p × ((c : ℕ) → b < c → Descends ts c p → ⊥)
 
 -- ---- 7: "deeper than 64 (a root has depth 1)"
 
@@ -56,7 +56,7 @@ Child ts b p = Below ts b p × ((c : ℕ) → b < c → Below ts c p → ⊥)
 -- n + 1
 unfoldable pub Deeper : Trees → ℕ → ℕ → Type 0
 Deeper ts zero p = p < sizes ts
-Deeper ts (suc n) p = (b : ℕ) × Below ts b p × Deeper ts n b
+Deeper ts (suc n) p = (b : ℕ) × Descends ts b p × Deeper ts n b
 
 -- ---- 8: "a definition out of place"
 
@@ -82,7 +82,7 @@ pub data InForce (ts : Trees) (i p : ℕ) : Type 0 where
   after-definition : (d b : ℕ) → shapeIn ts d ≡ ValDef → idOf (recIn ts d) ≡ i → shapeIn ts b ≡ BlockValue → Child ts b d →
       endOf ts d ≤ p → p < endOf ts b → InForce ts i p
   -- "an argument in its lambda's body": lambda l, of which all that lies below it is the body
-  in-lambda : (l k : ℕ) → shapeIn ts l ≡ FuncValue → Argument (recIn ts l) k i → Below ts l p → InForce ts i p
+  in-lambda : (l k : ℕ) → shapeIn ts l ≡ FuncValue → Argument (recIn ts l) k i → Descends ts l p → InForce ts i p
 
 -- record p binds id i: a definition its id, a lambda its arguments. "Nothing else binds"
 abbrev pub Binds : Rec → ℕ → Type 0

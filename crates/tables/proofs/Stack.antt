@@ -20,7 +20,7 @@ use Rattle.key.proofs.Laws.{symbol-agree}
 use Rattle.symbols.specs.Symbols.{AllSound}
 use Rattle.symbols.proofs.Laws.{kids-agree, sounds-more}
 use Rattle.tables.specs.declared.Tables.{Tables}
-use Rattle.tables.specs.Tables.{entrySymbol, entryHint, hintOf, entries, tables, tablesOf, first, opened}
+use Rattle.tables.specs.Tables.{entrySymbol, entryHint, hintOf, entries, tables, tablesOf, newTables, opened}
 use Rattle.tables.specs.Tables.{Open, Entries, EntriesBelow, Hinted}
 
 -- ---- the words that tables hang on: their entries; and the starts below d
@@ -68,7 +68,7 @@ module _ (bs ws ws′ : List ℕ) (used n : ℕ) where
 
 -- ---- the first table
 
-pub first-open : Open first 0
+pub first-open : Open newTables 0
 first-open = record {
   some = omega arith;
   few = omega arith;
@@ -77,7 +77,7 @@ first-open = record {
   starts = λ d lt. let p : d ≡ 0 = omega arith in rw p (omega arith);
 }
 
-pub first-tables : (ws : List ℕ) → tablesOf ws first 0 ≡ [] ∷ []
+pub first-tables : (ws : List ℕ) → tablesOf ws newTables 0 ≡ [] ∷ []
 unfolding tables entries stackOf
 first-tables ws = refl
 

@@ -58,8 +58,8 @@ tablesOf ws t top = tables ws (t .base) (t .depth) top
 
 -- ---- the first table, and one more
 
-abbrev pub first : Tables
-first = record { base = replicate 64 0; depth = 1 }
+abbrev pub newTables : Tables
+newTables = record { base = replicate 64 0; depth = 1 }
 
 abbrev pub opened : Tables → ℕ → Tables
 opened t top = record { base = set (t .base) (t .depth) top; depth = t .depth + 1 }

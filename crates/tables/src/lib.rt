@@ -14,7 +14,7 @@ ghost use Rattle.record.specs.Record.{Laid, rowAt};
 ghost use Rattle.regions.specs.Regions.{WORDS, SLOTS, ENTRIES, PENDING};
 ghost use Rattle.symbols.specs.Words.{slotsFrom, pendingFrom};
 ghost use Rattle.symbols.specs.Symbols.{keyRec, symsOf, Sound};
-ghost use Rattle.tables.specs.Tables.{foundOf, tablesOf, first, opened};
+ghost use Rattle.tables.specs.Tables.{foundOf, tablesOf, newTables, opened};
 ghost use Rattle.tables.specs.Tables.{hint, Open, Entries, EntriesBelow, sameKey};
 
 // Where each open table's entries start, the oldest first; the newest table ends where the entries do.
@@ -31,7 +31,7 @@ pub enum Found {
 impl Tables {
     // One open table. Rules out: no table, in which no symbol could be entered; 64 of them.
     pub fn new() -> Tables
-        ensures { λ r. ⌜ r ≡ first ⌝ }
+        ensures { λ r. ⌜ r ≡ newTables ⌝ }
     {
         Tables {
             base: [0u16; 64],

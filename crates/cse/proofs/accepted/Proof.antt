@@ -11,7 +11,7 @@ use Rattle.model.specs.Call.{Written, callOf}
 use Rattle.laws.proofs.Frame.{frame-then, frame-wider}
 use Rattle.codec.proofs.Accepting.{accept-passed}
 use Rattle.symbols.proofs.Laws.{syms-length}
-use Rattle.tables.specs.Tables.{first}
+use Rattle.tables.specs.Tables.{newTables}
 use Rattle.interner.specs.State.{absOf}
 use Rattle.cse.specs.Call.{Tells}
 use Rattle.cse.proofs.Telling.{tells-refused, intern-refused, intern-good, written-measured}
@@ -63,7 +63,7 @@ returns-2 c =
     let out = now (b .args .out) in
     let ws = f .forest .last .1 .0 in
     let r = f .forest .result in
-    let o : ℕ × State = (r .symbol, absOf bs ws first (r .st)) in
+    let o : ℕ × State = (r .symbol, absOf bs ws newTables (r .st)) in
     let is = written-measured (callOf bs out (now (b .args .work))) o
     (intern-good bs ws r (f .forest .ensures .is) (s .if1 .left)) in (
       subst (λ (a : answer.Answer Written). Tells a out (c .before .before .write .result)

@@ -70,11 +70,6 @@ module _ (r : Rec) (ts : Trees) (b : Bool) (ids : List ℕ) (c : Checked (node r
   unfolding faults after
   checked-own = c .fresh .0
 
-  -- check 10: if it is a use, its id is in force
-  pub checked-use : (eqb (r .shape) 7 && not (isIn (idOf r) ids)) ≡ false
-  unfolding faults
-  checked-use = c .known .0
-
 -- what stands where no definition may stand binds nothing in what follows
 no-after : (t : Tree) (ids : List ℕ) → Checked t false ids → after t ≡ []
 unfolding after

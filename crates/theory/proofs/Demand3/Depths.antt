@@ -14,7 +14,7 @@ use borrow.Author.Tests.{ltb-true, lt-ltb}
 use Rattle.model.specs.Tree.{Rec, Trees, node, cons, sizes}
 use Rattle.model.specs.Forest.{treesOf, depthCheck, deeps, check7}
 use Rattle.model.specs.Places.{First}
-use Rattle.model.specs.Nesting.{Below, Deeper}
+use Rattle.model.specs.Nesting.{Descends, Deeper}
 use Rattle.theory.proofs.Demand3.Nesting.{Spot, top, under, later, spot, all-sizes, below-range, below-top}
 use Rattle.theory.proofs.Demand3.Nesting.{top-below, below-under, under-below, under-not-later, below-later}
 use Rattle.theory.proofs.Demand3.Nesting.{later-below}
@@ -37,9 +37,9 @@ module _ (r : Rec) (us ts : Trees) where
   under-deeper zero q l h = l
   under-deeper (suc n) q l (b, k, h) = go b (spot (sizes us) b) k h (under-deeper n)
     where
-      go : (b : ℕ) → Spot (sizes us) b → Below W b (suc q) → Deeper W (suc n) b →
+      go : (b : ℕ) → Spot (sizes us) b → Descends W b (suc q) → Deeper W (suc n) b →
           ((q : ℕ) → q < sizes us → Deeper W (suc n) (suc q) → Deeper us n q) →
-          (c : ℕ) × Below us c q × Deeper us n c
+          (c : ℕ) × Descends us c q × Deeper us n c
       go b top k (c, m, h) f = absurd (omega (arith, m .0))
       go b (under a j) k h f = (a, under-below r us ts a q j k, f a j h)
       go b (later a) k h f = absurd (omega (arith, k .0))
@@ -54,9 +54,9 @@ module _ (r : Rec) (us ts : Trees) where
   later-deeper zero q h = omega (arith, all-sizes r us ts)
   later-deeper (suc n) q (b, k, h) = go b (spot (sizes us) b) k h (later-deeper n)
     where
-      go : (b : ℕ) → Spot (sizes us) b → Below W b (suc (sizes us + q)) → Deeper W n b →
+      go : (b : ℕ) → Spot (sizes us) b → Descends W b (suc (sizes us + q)) → Deeper W n b →
           ((q : ℕ) → Deeper W n (suc (sizes us + q)) → Deeper ts n q) →
-          (c : ℕ) × Below ts c q × Deeper ts n c
+          (c : ℕ) × Descends ts c q × Deeper ts n c
       go b top k h f = absurd (top-below r us ts q k)
       go b (under a j) k h f = absurd (under-not-later r us ts a q j k)
       go b (later a) k h f = (a, later-below r us ts a q k, f a h)

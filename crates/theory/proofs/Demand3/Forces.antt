@@ -15,7 +15,7 @@ use Rattle.model.specs.Tree.{Rec, Trees, node, cons, sizes}
 use Rattle.model.specs.Faults.{faultsIn}
 use Rattle.model.specs.Binding.{Kind, kind, valUse, valDef, block, lambda, field, other, idOf, argIds, inside, defined}
 use Rattle.model.specs.Binding.{after, idsCheck}
-use Rattle.model.specs.Nesting.{recIn, shapeIn, endOf, Below}
+use Rattle.model.specs.Nesting.{recIn, shapeIn, endOf, Descends}
 use Rattle.laws.specs.Members.{In}
 use Rattle.laws.proofs.Members.{in-left, in-right, in-either}
 use Rattle.theory.proofs.Demand3.Nesting.{Spot, top, under, later, spot, rec-top, rec-under, rec-later, extent-top}
@@ -83,8 +83,8 @@ def-defined r i e f = rw (eq-eqb (r .shape) 10 e, In) (inl (sym f))
 
 pub data Loose (ts : Trees) (i p : ℕ) : Type 0 where
   def : (d : ℕ) → d < sizes ts → shapeIn ts d ≡ 10 → idOf (recIn ts d) ≡ i → endOf ts d ≤ p →
-      ((c : ℕ) → Below ts c d → Below ts c p) → Loose ts i p
-  arg : (l : ℕ) → shapeIn ts l ≡ 12 → In i (argIds (recIn ts l)) → Below ts l p → Loose ts i p
+      ((c : ℕ) → Descends ts c d → Descends ts c p) → Loose ts i p
+  arg : (l : ℕ) → shapeIn ts l ≡ 12 → In i (argIds (recIn ts l)) → Descends ts l p → Loose ts i p
 
 -- ---- trees taken apart
 
@@ -102,7 +102,7 @@ module _ (r : Rec) (us ts : Trees) (i : ℕ) where
       def (suc d) (omega (arith, all-sizes r us ts)) (ap (λ z. z .shape) (rec-under r us ts d k) ∙ s)
       (ap idOf (rec-under r us ts d k) ∙ e) (omega (arith, extent-under r us ts d k)) (λ c. go c (spot (sizes us) c))
     where
-      go : (c : ℕ) → Spot (sizes us) c → Below W c (suc d) → Below W c (suc q)
+      go : (c : ℕ) → Spot (sizes us) c → Descends W c (suc d) → Descends W c (suc q)
       go c top b = below-top r us ts q l
       go c (under a j) b = below-under r us ts a q j (f a (under-below r us ts a d j b))
       go c (later a) b = absurd (omega (arith, b .0))
@@ -115,7 +115,7 @@ module _ (r : Rec) (us ts : Trees) (i : ℕ) where
   under-loose q l (def d k s e h f) = go d (spot (sizes us) d) s e h f
     where
       go : (d : ℕ) → Spot (sizes us) d → shapeIn W d ≡ 10 → idOf (recIn W d) ≡ i → endOf W d ≤ suc q →
-          ((c : ℕ) → Below W c d → Below W c (suc q)) → In i (inside r) ⊎ Loose us i q
+          ((c : ℕ) → Descends W c d → Descends W c (suc q)) → In i (inside r) ⊎ Loose us i q
       go d top s e h f = absurd (omega (arith, extent-top r us ts))
       go d (under a j) s e h f =
           inr (def a j (sym (ap (λ z. z .shape) (rec-under r us ts a j)) ∙ s)
@@ -124,7 +124,7 @@ module _ (r : Rec) (us ts : Trees) (i : ℕ) where
       go d (later a) s e h f = absurd (omega arith)
   under-loose q l (arg a s h b) = go a (spot (sizes us) a) s h b
     where
-      go : (a : ℕ) → Spot (sizes us) a → shapeIn W a ≡ 12 → In i (argIds (recIn W a)) → Below W a (suc q) →
+      go : (a : ℕ) → Spot (sizes us) a → shapeIn W a ≡ 12 → In i (argIds (recIn W a)) → Descends W a (suc q) →
           In i (inside r) ⊎ Loose us i q
       go a top s h b =
           inl (lambda-inside r i (sym (ap (λ z. z .shape) (rec-top r us ts)) ∙ s) (rw (rec-top r us ts) at h))
@@ -145,7 +145,7 @@ module _ (r : Rec) (us ts : Trees) (i : ℕ) where
       def (suc (sizes us + d)) (omega (arith, all-sizes r us ts)) (ap (λ z. z .shape) (rec-later r us ts d) ∙ s)
       (ap idOf (rec-later r us ts d) ∙ e) (omega (arith, extent-later r us ts d)) (λ c. go c (spot (sizes us) c))
     where
-      go : (c : ℕ) → Spot (sizes us) c → Below W c (suc (sizes us + d)) → Below W c (suc (sizes us + q))
+      go : (c : ℕ) → Spot (sizes us) c → Descends W c (suc (sizes us + d)) → Descends W c (suc (sizes us + q))
       go c top b = absurd (top-below r us ts d b)
       go c (under a j) b = absurd (under-not-later r us ts a d j b)
       go c (later a) b = below-later r us ts a q (f a (later-below r us ts a d b))
@@ -159,7 +159,7 @@ module _ (r : Rec) (us ts : Trees) (i : ℕ) where
     where
       go : (d : ℕ) → Spot (sizes us) d → d < sizes W → shapeIn W d ≡ 10 → idOf (recIn W d) ≡ i →
           endOf W d ≤ suc (sizes us + q) →
-          ((c : ℕ) → Below W c d → Below W c (suc (sizes us + q))) → In i (after (node r us)) ⊎ Loose ts i q
+          ((c : ℕ) → Descends W c d → Descends W c (suc (sizes us + q))) → In i (after (node r us)) ⊎ Loose ts i q
       go d top k s e h f =
           inl (def-defined r i (sym (ap (λ z. z .shape) (rec-top r us ts)) ∙ s)
           (sym (ap idOf (rec-top r us ts)) ∙ e))
@@ -171,7 +171,7 @@ module _ (r : Rec) (us ts : Trees) (i : ℕ) where
   later-loose q (arg a s h b) = go a (spot (sizes us) a) s h b
     where
       go : (a : ℕ) → Spot (sizes us) a → shapeIn W a ≡ 12 → In i (argIds (recIn W a)) →
-          Below W a (suc (sizes us + q)) → In i (after (node r us)) ⊎ Loose ts i q
+          Descends W a (suc (sizes us + q)) → In i (after (node r us)) ⊎ Loose ts i q
       go a top s h b = absurd (top-below r us ts q b)
       go a (under c j) s h b = absurd (under-not-later r us ts c q j b)
       go a (later c) s h b =

@@ -19,7 +19,7 @@ use Rattle.model.specs.Binding.{kind, lambda, argsOf, idOf, argIds, inside, def
 use Rattle.model.specs.Binding.{unboundAt, unboundIn, check8, check9, check10}
 use Rattle.model.specs.Places.{First}
 use Rattle.model.specs.ShapeRules.{IsId, IsOpt, _followed_, Many}
-use Rattle.model.specs.Nesting.{recIn, shapeIn, endOf, Below, Argument, InForce, after-definition, in-lambda, Binds}
+use Rattle.model.specs.Nesting.{recIn, shapeIn, endOf, Descends, Argument, InForce, after-definition, in-lambda, Binds}
 use Rattle.model.specs.Nesting.{BindsTwice, Rebinds, Unbound}
 use Rattle.laws.specs.Members.{In}
 use Rattle.laws.proofs.Members.{isIn-true, in-isIn, isIn-false, not-in-isIn, and-both, both-and, clash, in-left, in-right}
@@ -127,7 +127,7 @@ module _ (ts : Trees) (args : (l : ℕ) → shapeIn ts l ≡ 12 → Args (recIn 
       there : d < sizes ts
       there = below-range ts b d (h .0) .1
 
-      go : (c : ℕ) → Below ts c d → Below ts c p
+      go : (c : ℕ) → Descends ts c d → Descends ts c p
       go c k = (omega (arith, k .0, extent-fits ts d there .0), inner (ltb c b) (ltb b c) refl refl)
         where
           inner : (x y : Bool) → ltb c b ≡ x → ltb b c ≡ y → p < endOf ts c

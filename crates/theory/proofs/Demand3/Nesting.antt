@@ -13,7 +13,7 @@ use borrow.Author.Tests.{ltb-true, ltb-false}
 use Rattle.model.specs.Tree.{Rec, Tree, Trees, node, nil, cons, size, sizes, rows, rowsOf}
 use Rattle.model.specs.Places.{noRecord}
 use Rattle.laws.proofs.Rows.{sizes-rows}
-use Rattle.model.specs.Nesting.{recIn, shapeIn, extents, extentsIn, endOf, Below}
+use Rattle.model.specs.Nesting.{recIn, shapeIn, extents, extentsIn, endOf, Descends}
 
 -- ---- lists joined
 
@@ -143,7 +143,7 @@ extent-fits = by-parts (λ ts. (b : ℕ) → b < sizes ts → Fits ts b) (λ b h
             (omega (arith, e, w .0), omega (arith, e, w .1, z))
 
 -- what has a record below it is there, and so is that
-pub below-range : (ts : Trees) (b p : ℕ) → Below ts b p → (b < sizes ts) × (p < sizes ts)
+pub below-range : (ts : Trees) (b p : ℕ) → Descends ts b p → (b < sizes ts) × (p < sizes ts)
 below-range ts b p h = go (ltb b (sizes ts)) refl
   where
     go : (t : Bool) → ltb b (sizes ts) ≡ t → (b < sizes ts) × (p < sizes ts)
@@ -155,32 +155,32 @@ below-range ts b p h = go (ltb b (sizes ts)) refl
 -- ---- which record lies below which
 
 module _ (r : Rec) (us ts : Trees) where
-  pub below-top : (q : ℕ) → q < sizes us → Below (cons (node r us) ts) 0 (suc q)
+  pub below-top : (q : ℕ) → q < sizes us → Descends (cons (node r us) ts) 0 (suc q)
   below-top q l = (omega arith, omega (arith, extent-top r us ts))
 
-  pub top-below : (q : ℕ) → Below (cons (node r us) ts) 0 (suc (sizes us + q)) → ⊥
+  pub top-below : (q : ℕ) → Descends (cons (node r us) ts) 0 (suc (sizes us + q)) → ⊥
   top-below q h = omega (arith, extent-top r us ts, h .1)
 
-  pub below-under : (b q : ℕ) → b < sizes us → Below us b q → Below (cons (node r us) ts) (suc b) (suc q)
+  pub below-under : (b q : ℕ) → b < sizes us → Descends us b q → Descends (cons (node r us) ts) (suc b) (suc q)
   below-under b q l h = (omega (arith, h .0), omega (arith, h .1, extent-under r us ts b l))
 
-  pub under-below : (b q : ℕ) → b < sizes us → Below (cons (node r us) ts) (suc b) (suc q) → Below us b q
+  pub under-below : (b q : ℕ) → b < sizes us → Descends (cons (node r us) ts) (suc b) (suc q) → Descends us b q
   under-below b q l h = (omega (arith, h .0), omega (arith, h .1, extent-under r us ts b l))
 
-  pub under-not-later : (b q : ℕ) → b < sizes us → Below (cons (node r us) ts) (suc b) (suc (sizes us + q)) → ⊥
+  pub under-not-later : (b q : ℕ) → b < sizes us → Descends (cons (node r us) ts) (suc b) (suc (sizes us + q)) → ⊥
   under-not-later b q l h =
       omega (arith, h .1, extent-under r us ts b l, extent-fits us b l .1)
 
-  pub below-later : (b q : ℕ) → Below ts b q →
-      Below (cons (node r us) ts) (suc (sizes us + b)) (suc (sizes us + q))
+  pub below-later : (b q : ℕ) → Descends ts b q →
+      Descends (cons (node r us) ts) (suc (sizes us + b)) (suc (sizes us + q))
   below-later b q h = (omega (arith, h .0), omega (arith, h .1, extent-later r us ts b))
 
-  pub later-below : (b q : ℕ) → Below (cons (node r us) ts) (suc (sizes us + b)) (suc (sizes us + q)) → Below ts b q
+  pub later-below : (b q : ℕ) → Descends (cons (node r us) ts) (suc (sizes us + b)) (suc (sizes us + q)) → Descends ts b q
   later-below b q h = (omega (arith, h .0), omega (arith, h .1, extent-later r us ts b))
 
 -- a subtree within a subtree ends with it or before
 abbrev Nested : Trees → Type 0
-Nested ts = (b c : ℕ) → Below ts b c → endOf ts c ≤ endOf ts b
+Nested ts = (b c : ℕ) → Descends ts b c → endOf ts c ≤ endOf ts b
 
 pub nested : (ts : Trees) → Nested ts
 nested = by-parts Nested (λ b c h. absurd (omega (arith, nil-sizes, below-range nil b c h .0))) step
@@ -188,7 +188,7 @@ nested = by-parts Nested (λ b c h. absurd (omega (arith, nil-sizes, below-range
     step : (r : Rec) (us ts : Trees) → Nested us → Nested ts → Nested (cons (node r us) ts)
     step r us ts f g b c h = go b c (spot (sizes us) b) (spot (sizes us) c) h
       where
-        go : (b c : ℕ) → Spot (sizes us) b → Spot (sizes us) c → Below (cons (node r us) ts) b c →
+        go : (b c : ℕ) → Spot (sizes us) b → Spot (sizes us) c → Descends (cons (node r us) ts) b c →
             endOf (cons (node r us) ts) c ≤ endOf (cons (node r us) ts) b
         go b c top top h = absurd (omega (arith, h .0))
         go b c top (under q l) h =

@@ -14,7 +14,7 @@ use borrow.Author.Tests.{eqb-true, eqb-false, eq-eqb, ne-eqb}
 use Rattle.model.specs.Tree.{Rec, Trees, node, nil, cons, isNil, sizes}
 use Rattle.model.specs.Binding.{isBlock, placeCheck, misplacedIn, check8}
 use Rattle.model.specs.Places.{First}
-use Rattle.model.specs.Nesting.{shapeIn, endOf, Below, Child, BeforeLast, OutOfPlace}
+use Rattle.model.specs.Nesting.{shapeIn, endOf, Descends, Child, BeforeLast, OutOfPlace}
 use Rattle.laws.proofs.Trees.{size-some}
 use Rattle.laws.proofs.Apart.{false-true}
 use Rattle.theory.proofs.Demand3.Nesting.{Spot, top, under, later, spot, rec-top, rec-under, rec-later, extent-top}
@@ -26,7 +26,7 @@ use Rattle.theory.proofs.Demand3.Marks.{Marked, first-of, none-marked, 
 
 -- a first record of one of the trees, which has a later tree: before the last, where b says that these are a block's
 RootBefore : Trees → Bool → ℕ → Type 0
-RootBefore ts b p = (b ≡ true) × ((c : ℕ) → Below ts c p → ⊥) × (endOf ts p < sizes ts)
+RootBefore ts b p = (b ≡ true) × ((c : ℕ) → Descends ts c p → ⊥) × (endOf ts p < sizes ts)
 
 module _ (r : Rec) (us ts : Trees) where
   abbrev W : Trees
@@ -35,7 +35,7 @@ module _ (r : Rec) (us ts : Trees) where
   child-under : (b q : ℕ) → Child us b q → Child W (suc b) (suc q)
   child-under b q h = let j = below-range us b q (h .0) .0 in (below-under r us ts b q j (h .0), λ c. go c (spot (sizes us) c))
     where
-      go : (c : ℕ) → Spot (sizes us) c → suc b < c → Below W c (suc q) → ⊥
+      go : (c : ℕ) → Spot (sizes us) c → suc b < c → Descends W c (suc q) → ⊥
       go c top l k = omega arith
       go c (under a j) l k = h .1 a (omega arith) (under-below r us ts a q j k)
       go c (later a) l k = omega (arith, k .0, below-range us b q (h .0) .1)
@@ -49,7 +49,7 @@ module _ (r : Rec) (us ts : Trees) where
   child-later : (b q : ℕ) → Child ts b q → Child W (suc (sizes us + b)) (suc (sizes us + q))
   child-later b q h = (below-later r us ts b q (h .0), λ c. go c (spot (sizes us) c))
     where
-      go : (c : ℕ) → Spot (sizes us) c → suc (sizes us + b) < c → Below W c (suc (sizes us + q)) → ⊥
+      go : (c : ℕ) → Spot (sizes us) c → suc (sizes us + b) < c → Descends W c (suc (sizes us + q)) → ⊥
       go c top l k = omega arith
       go c (under a j) l k = omega arith
       go c (later a) l k = h .1 a (omega arith) (later-below r us ts a q k)
@@ -77,7 +77,7 @@ module _ (r : Rec) (us ts : Trees) where
     omega (arith, extent-top r us ts, extent-under r us ts q l),
   )
     where
-      go : (c : ℕ) → Spot (sizes us) c → 0 < c → Below W c (suc q) → ⊥
+      go : (c : ℕ) → Spot (sizes us) c → 0 < c → Descends W c (suc q) → ⊥
       go c top l k = omega arith
       go c (under a j) l k = h a (under-below r us ts a q j k)
       go c (later a) k b = omega (arith, b .0)
@@ -117,7 +117,7 @@ module _ (r : Rec) (us ts : Trees) where
   later-stands f q (inr (s, h, e)) =
       inr (s, (λ c. go c (spot (sizes us) c)), omega (arith, extent-later r us ts q, all-sizes r us ts))
     where
-      go : (c : ℕ) → Spot (sizes us) c → Below W c (suc (sizes us + q)) → ⊥
+      go : (c : ℕ) → Spot (sizes us) c → Descends W c (suc (sizes us + q)) → ⊥
       go c top k = top-below r us ts q k
       go c (under a j) k = under-not-later r us ts a q j k
       go c (later a) k = h a (later-below r us ts a q k)
