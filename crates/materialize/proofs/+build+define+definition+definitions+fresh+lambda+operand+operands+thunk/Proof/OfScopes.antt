@@ -184,23 +184,22 @@ definitions-loop-holds t c =
 pub definitions-definition-requires : (t : ℕ) → definitions-lts.Need-definition-requires (cycle.definitions-claims t)
     (cycle.definitions-at t) definitions.Post definitions-Inv-loop definitions-μ-loop
 definitions-definition-requires t c κs =
-    let c2 = c .before .before in
-    let c4 = c2 .before .before in
-    let c5 = c4 .before in
-    let z = c5 .before .before .before .before .before in
-    let b = z .pre .1 .1 .0 in
-    let at = z .pre .1 .1 .1 .0 in
-    let inv = c5 .loop .inv in
-    let low = z .pre .1 .1 .1 .1 .1 _ (c4 .loop-test .taken) in (
-      omega (arith, z .pre .0, c2 .wide .ensures .0, low),
+    let w = c .before .before in
+    let i = w .before .before in
+    let l = i .before in
+    let z = l .before .before .before .before .before in
+    let q = z .pre .1 .1 in
+    let inv = l .loop .inv in
+    let low = q .1 .1 .1 _ (i .loop-test .taken) in (
+      omega (arith, z .pre .0, w .wide .ensures .0, low),
       (
         z .pre .1 .0,
         (
-          buildable-kept (inv .2 .kept) b,
+          buildable-kept (inv .2 .kept) (q .0),
           record {
-            low = omega (arith, c2 .wide .ensures .0, low, at .low);
+            low = omega (arith, w .wide .ensures .0, low, q .1 .0 .low);
             long = inv .1;
-            room = omega (arith, c2 .wide .ensures .0, low, inv .0, inv .2 .few, at .room, z .pre .1 .1 .1 .1 .0 .0);
+            room = omega (arith, w .wide .ensures .0, low, inv .0, inv .2 .few, q .1 .0 .room, q .1 .1 .0 .0);
             count = inv .2 .full;
           },
         ),
@@ -210,21 +209,16 @@ definitions-definition-requires t c κs =
 pub definitions-loop-again : (t : ℕ) → definitions-lts.Need-loop-again (cycle.definitions-claims t)
     (cycle.definitions-at t) definitions.Post definitions-Inv-loop definitions-μ-loop
 definitions-loop-again t c =
-    let c4 = c .before .before .before .before in
-    let c7 = c4 .before .before .before in
-    let c9 = c7 .before .before in
-    let c10 = c9 .before in
-    let z = c10 .before .before .before .before .before in
-    let b = z .pre .1 .1 .0 in
-    let inv = c10 .loop .inv in (
-      omega (arith, c9 .loop-test .taken),
-      c4 .definition .kept .1 .1 .1 .1 .1 .0 ∙ inv .1,
-      defines-more (z .args .order .now) b (omega (
-        arith,
-        c9 .loop-test .taken,
-        z .pre .1 .1 .1 .1 .0 .0,
-        z .pre .1 .1 .1 .1 .0 .1,
-      )) (c7 .wide .ensures .0) (inv .2) (c4 .definition .ensures),
+    let d = c .before .before .before .before in
+    let w = d .before .before .before in
+    let i = w .before .before in
+    let l = i .before in
+    let z = l .before .before .before .before .before in
+    let q = z .pre .1 .1 in (
+      omega (arith, i .loop-test .taken),
+      d .definition .kept .1 .1 .1 .1 .1 .0 ∙ l .loop .inv .1,
+      defines-more (z .args .order .now) (q .0) (omega (arith, i .loop-test .taken, q .1 .1 .0 .0, q .1 .1 .0 .1))
+          (w .wide .ensures .0) (l .loop .inv .2) (d .definition .ensures),
     )
 
 pub definitions-returns : (t : ℕ) → definitions-lts.Need-returns (cycle.definitions-claims t) (cycle.definitions-at t)
@@ -241,28 +235,23 @@ definitions-returns t c =
 pub definition-build-requires : (t : ℕ) → definition-lts.Need-build-requires (cycle.definition-claims t)
     (cycle.definition-at t) definition.Post
 definition-build-requires t c κs =
-    let c4 = c .before .before .before .before in
-    let z = c4 .before .before .before .before .before .before .before .before .before in
-    let b = z .pre .1 .1 .0 in
-    let at = z .pre .1 .1 .1 in
-    let h = c4 .put .ensures .grew (z .args .forest .now) tt in (
+    let p = c .before .before .before .before in
+    let z = p .before .before .before .before .before .before .before .before .before in
+    let q = z .pre .1 .1 in
+    let h = p .put .ensures .grew (z .args .forest .now) tt in (
       omega (arith, z .pre .0),
-      (z .pre .1 .0, (buildable-kept (h .kept) b, site-on at refl (omega arith) (grew-few h))),
+      (z .pre .1 .0, (buildable-kept (h .kept) (q .0), site-on (q .1) refl (omega arith) (grew-few h))),
     )
 
 pub definition-returns : (t : ℕ) → definition-lts.Need-returns (cycle.definition-claims t) (cycle.definition-at t)
     definition.Post
 definition-returns t c =
-    let c2 = c .before .before in
-    let c7 = c2 .before .before .before .before .before in
-    let c9 = c7 .before .before in
-    let c10 = c9 .before in
-    let z = c10 .before .before .before .before .before .before in
-    let b = z .pre .1 .1 .0 in
-    let at = z .pre .1 .1 .1 in
-    defines-one _ _ b (c9 .if1 .taken) (c10 .member .ensures) (id-fits at b)
-    (c7 .put .ensures .grew (z .args .forest .now) tt)
-    (c2 .build .ensures)
+    let h = c .before .before in
+    let p = h .before .before .before .before .before in
+    let i = p .before .before in
+    let q = i .before .before .before .before .before .before .before .pre .1 .1 in
+    defines-one _ _ (q .0) (i .if1 .taken) (i .before .member .ensures) (id-fits (q .1) (q .0))
+    (p .put .ensures .grew _ tt) (h .build .ensures)
 
 pub definition-returns-2 : (t : ℕ) → definition-lts.Need-returns-2 (cycle.definition-claims t) (cycle.definition-at t)
     definition.Post

@@ -4,6 +4,7 @@ use mathlib.Core.Path.{_≡_, refl, sym, ap, _∙_}
 use mathlib.Core.List.{[], _∷_}
 use native.Mathlib.Omega.{arith}
 use Rattle.laws.proofs.Frame.{frame-none, frame-then}
+use Rattle.key.specs.declared.Node.{Node}
 use Rattle.key.specs.Key.{symbolAt}
 use Rattle.plan.specs.Plan.{rowFor}
 use Rattle.planner.specs.Grew.{PlanOnly, Grew}
@@ -49,58 +50,57 @@ build-returns-3 t c =
 
 -- ---- fresh
 
+-- where the symbol is loaded
+module _ (t : ℕ) (c : fresh-lts.After-load (cycle.fresh-claims t) (cycle.fresh-at t) fresh.Post) where
+  abbrev from : fresh-lts.Start (cycle.fresh-claims t) (cycle.fresh-at t) fresh.Post
+  from = c .before .before .before .before .before
+
+  node-is : {nd : Node} → c .load .result .node ≡ nd → symbolAt (from .args .work .now) (from .args .s) .node ≡ nd
+  node-is = node-loaded _ _ (c .load .ensures)
+
 pub fresh-returns : (t : ℕ) → fresh-lts.Need-returns (cycle.fresh-claims t) (cycle.fresh-at t) fresh.Post
 fresh-returns t c =
-    let c2 = c .before .before in
-    let c5 = c2 .before .before .before in
-    let c7 = c5 .before .before in
-    let z = c7 .before .before .before .before .before in
-    let b = z .pre .1 .1 .0 in
-    let at = z .pre .1 .1 .1 in
-    let e = node-loaded _ _ (c7 .load .ensures) (c5 .node .given .1) in
-    plans-const b _ (at .low) _ _ e (c2 .put .ensures .grew (z .args .forest .now) (source-low b _ (at .low) _ e))
+    let arm = c .before .before .before .before .before in
+    let l = arm .before .before in
+    let q = from t l .pre .1 .1 in
+    let e = node-is t l (arm .node .given .1) in
+    plans-const (q .0) _ (q .1 .low) _ _ e
+    (c .before .before .put .ensures .grew _ (source-low (q .0) _ (q .1 .low) _ e))
 
 pub fresh-returns-2 : (t : ℕ) → fresh-lts.Need-returns-2 (cycle.fresh-claims t) (cycle.fresh-at t) fresh.Post
 fresh-returns-2 t c =
-    let c2 = c .before .before in
-    let c5 = c2 .before .before .before in
-    let c7 = c5 .before .before in
-    let z = c7 .before .before .before .before .before in
-    let b = z .pre .1 .1 .0 in
-    let at = z .pre .1 .1 .1 in
-    let e = node-loaded _ _ (c7 .load .ensures) (c5 .node2 .given .1) in
-    plans-unparsed b _ (at .low) _ _ e (c2 .put2 .ensures .grew (z .args .forest .now) (source-low b _ (at .low) _ e))
+    let arm = c .before .before .before .before .before in
+    let l = arm .before .before in
+    let q = from t l .pre .1 .1 in
+    let e = node-is t l (arm .node2 .given .1) in
+    plans-unparsed (q .0) _ (q .1 .low) _ _ e
+    (c .before .before .put2 .ensures .grew _ (source-low (q .0) _ (q .1 .low) _ e))
 
 pub fresh-returns-3 : (t : ℕ) → fresh-lts.Need-returns-3 (cycle.fresh-claims t) (cycle.fresh-at t) fresh.Post
 fresh-returns-3 t c =
-    let c2 = c .before .before in
-    let c4 = c2 .before .before in
-    let c6 = c4 .before .before in
-    let z = c6 .before .before .before .before .before in
-    let b = z .pre .1 .1 .0 in
-    let at = z .pre .1 .1 .1 in
-    let e = node-loaded _ _ (c6 .load .ensures) (c4 .enum-told .given .1) in
-    plans-argument b _ (at .low) _ _ e (c2 .put3 .ensures .grew (z .args .forest .now) tt)
+    let arm = c .before .before .before .before in
+    let l = arm .before .before in
+    let q = from t l .pre .1 .1 in
+    plans-argument (q .0) _ (q .1 .low) _ _ (node-is t l (arm .enum-told .given .1))
+    (c .before .before .put3 .ensures .grew _ tt)
 
 pub fresh-lambda-requires : (t : ℕ) → fresh-lts.Need-lambda-requires (cycle.fresh-claims t) (cycle.fresh-at t)
     fresh.Post
 fresh-lambda-requires t c κs =
-    let c2 = c .before .before in
-    let c4 = c2 .before .before in
-    let z = c4 .before .before .before .before .before in
-    let b = z .pre .1 .1 .0 in
-    let at = z .pre .1 .1 .1 in
-    (omega (arith, z .pre .0), (z .pre .1 .0, (b, (at, node-loaded _ _ (c4 .load .ensures) (c2 .node3 .given .1)))))
+    let arm = c .before .before in
+    let l = arm .before .before in
+    let z = from t l in
+    let q = z .pre .1 .1 in
+    (omega (arith, z .pre .0), (z .pre .1 .0, (q .0, (q .1, node-is t l (arm .node3 .given .1)))))
 
 pub fresh-operands-requires : (t : ℕ) → fresh-lts.Need-operands-requires (cycle.fresh-claims t) (cycle.fresh-at t)
     fresh.Post
 fresh-operands-requires t c κs =
-    let c2 = c .before .before in
-    let c4 = c2 .before .before in
-    let z = c4 .before .before .before .before .before in
-    let b = z .pre .1 .1 .0 in
-    let at = z .pre .1 .1 .1 in
-    (omega (arith, z .pre .0), (z .pre .1 .0, (b, (at, node-loaded _ _ (c4 .load .ensures) (c2 .node4 .given .1)))))
+    let arm = c .before .before in
+    let l = arm .before .before in
+    let z = from t l in
+    let q = z .pre .1 .1 in
+    (omega (arith, z .pre .0), (z .pre .1 .0, (q .0, (q .1, node-is t l (arm .node4 .given .1)))))
 
 -- ---- operand
 
@@ -118,20 +118,17 @@ operand-returns t c =
 pub operand-thunk-requires : (t : ℕ) → operand-lts.Need-thunk-requires (cycle.operand-claims t) (cycle.operand-at t)
     operand.Post
 operand-thunk-requires t c κs =
-    let c3 = c .before .before .before in
-    let z = c3 .before .before .before .before .before in
-    let b = z .pre .1 .1 .0 in
-    let at = z .pre .1 .1 .1 .0 in (
+    let arm = c .before .before .before in
+    let z = arm .before .before .before .before .before in
+    let q = z .pre .1 .1 in (
       omega (arith, z .pre .0),
-      (z .pre .1 .0, (b, (at, opened-scope _ _ (c3 .w .given .1) (c .wide .ensures) (z .pre .1 .1 .1 .1)))),
+      (z .pre .1 .0, (q .0, (q .1 .0, opened-scope _ _ (arm .w .given .1) (c .wide .ensures) (q .1 .1)))),
     )
 
 pub operand-returns-2 : (t : ℕ) → operand-lts.Need-returns-2 (cycle.operand-claims t) (cycle.operand-at t) operand.Post
 operand-returns-2 t c =
-    let c2 = c .before .before in
-    let c3 = c2 .before in
-    let c6 = c3 .before .before .before in
-    plans-thunk _ _ _ _ (c6 .w .given .1) (c3 .wide .ensures) (c2 .thunk .ensures)
+    let h = c .before .before in
+    plans-thunk _ _ _ _ (h .before .before .before .before .w .given .1) (h .before .wide .ensures) (h .thunk .ensures)
 
 -- ---- operands
 
