@@ -1,5 +1,5 @@
 -- The sheet of a forest, which `show` prints: a line a record, as bytes; each line ends with a newline.
--- A line: the record's number, right-aligned in three columns; twice as many spaces as its depth, a root having depth 1;
+-- A line: the record's number, right-aligned in three columns; twice as many spaces as its depth (a root has depth 1);
 -- its shape's name; its opcode in hex, and the opcode's name where the shape does not say it. Then, each after two
 -- spaces, what the record has of these: a constant's class; `id N` of a use or a definition; `args N N` of a lambda;
 -- `field N` of a selection; `literal` and the literal in hex, if it is not empty.
