@@ -24,10 +24,9 @@ use Rattle.schedule.proofs.+across+borrowed+collect+free+gather+local+n
 
 pub free-local-requires : (t : ℕ) → free-lts.Need-local-requires (measures.free-calls t) (measures.free-at t) free.Post
 free-local-requires t c κs =
-    let c5 = c .before .before .before .before .before in
-    let p = c5 .before .before .before .before .pre .1 in
-    let z = c .before .before .before .before .before .zeros8 .ensures in
-    (omega arith, (p .0, (p .1 .0, (p .1 .1 .0, lent-empty _ _ _ (search needs) z (search needs)))))
+    let z = c .before .before .before .before .before in
+    let p = z .before .before .before .before .pre .1 in
+    (omega arith, (p .0, (p .1 .0, (p .1 .1 .0, lent-empty _ _ _ (search needs) (z .zeros8 .ensures) (search needs)))))
 
 -- where the children of c are visited
 module _ (t : ℕ) (c : free-lts.After-local (measures.free-calls t) (measures.free-at t) free.Post) where
@@ -81,9 +80,9 @@ collect-loop-holds t c =
 pub collect-gather-requires : (t : ℕ) → collect-lts.Need-gather-requires
     (measures.collect-calls t) (measures.collect-at t) collect.Post measures.collect-Inv-loop measures.collect-μ-loop
 collect-gather-requires t c κs =
-    let c5 = c .before .before .before .before .before in
-    let p = c5 .before .before .before .before .pre .1 in
-    let l = c .before .before .before .before .loop in
+    let head = c .before .before .before .before in
+    let p = head .before .before .before .before .before .pre .1 in
+    let l = head .loop in
     let low = p .1 .1 .1 .0 .low (l .k) (c .before .before .before .loop-test .taken) in (
       omega arith,
       (
@@ -101,17 +100,14 @@ collect-gather-requires t c κs =
 pub collect-loop-again : (t : ℕ) → collect-lts.Need-loop-again
     (measures.collect-calls t) (measures.collect-at t) collect.Post measures.collect-Inv-loop measures.collect-μ-loop
 collect-loop-again t c =
-    let c6 = c .before .before .before .before .before .before in
-    let p = c6 .before .before .before .before .before .before .pre .1 in
-    let l = c .before .before .before .before .before .before .before .loop in
-    let v = c .before .before .gather in (
+    let v = c .before .before in
+    let head = v .before .before .before .before .before in
+    let p = head .before .before .before .before .before .pre .1 .1 in
+    let l = head .loop in (
       omega arith,
-      v .kept .1 .1 .1 .1 .1 .1 .0 ∙ l .inv .1,
-      collect-more _ _ _ _ (p .1 .0) _ (p .1 .1 .0 .0) _ (p .1 .1 .0 .1) _ _ (l .k) _ (omega (
-        arith,
-        p .1 .1 .1 .0 .fit,
-      ))
-          (c .before .before .before .before .wide .ensures .0) _ _ _ _ (l .inv .2) (v .ensures),
+      v .gather .kept .1 .1 .1 .1 .1 .1 .0 ∙ l .inv .1,
+      collect-more _ _ _ _ (p .0) _ (p .1 .0 .0) _ (p .1 .0 .1) _ _ (l .k) _ (omega (arith, p .1 .1 .0 .fit))
+          (v .before .before .wide .ensures .0) _ _ _ _ (l .inv .2) (v .gather .ensures),
     )
 
 pub collect-returns : (t : ℕ) → collect-lts.Need-returns
@@ -170,15 +166,14 @@ gather-returns-3 t c =
 pub borrowed-offer-list-requires : (t : ℕ) → borrowed-lts.Need-offer-list-requires
     (measures.borrowed-calls t) (measures.borrowed-at t) borrowed.Post
 borrowed-offer-list-requires t c κs =
-    let c5 = c .before .before .before .before .before in
-    let p = c5 .before .before .before .before .pre .1 in
-    let f = c .before .before .before .free in
-    let long : length (f .last .1 .1 .1 .1 .0) ≡ 512 = search needs in (
+    let f = c .before .before .before in
+    let p = f .before .before .before .before .before .before .pre .1 in
+    let long : length (f .free .last .1 .1 .1 .1 .0) ≡ 512 = search needs in (
       p .1 .0 .scoped,
       (
         record {
-          fit = omega (arith, f .ensures .fit, long);
-          low = λ j l. omega (arith, f .ensures .low j l, p .1 .1 .0);
+          fit = omega (arith, f .free .ensures .fit, long);
+          low = λ j l. omega (arith, f .free .ensures .low j l, p .1 .1 .0);
         },
         p .1 .1 .1,
       ),

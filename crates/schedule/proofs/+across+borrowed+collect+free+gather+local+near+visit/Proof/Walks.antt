@@ -111,25 +111,19 @@ local-loop-holds t c =
 pub local-shared-slice-read-d : (t : ℕ) → local-lts.Need-shared-slice-read-d
     (measures.local-calls t) (measures.local-at t) local.Post measures.local-Inv-loop measures.local-μ-loop
 local-shared-slice-read-d t c =
-    let c5 = c .before .before .before .before .before in
-    let p = c5 .before .before .before .before .before .pre .1 in
-    omega (
-      arith,
-      p .1 .0 .scoped .words,
-      kids-lower _ _ _ _ _ (p .1 .0) (p .1 .1 .0) _
-          (c .before .before .before .before .before .load .ensures) .fit,
-    )
+    let y = c .before .before .before .before .before in
+    let p = y .before .before .before .before .before .pre .1 .1 in
+    omega (arith, p .0 .scoped .words, kids-lower _ _ _ _ _ (p .0) (p .1 .0) _ (y .load .ensures) .fit)
 
 pub local-cast-d : (t : ℕ) → local-lts.Need-cast-d (measures.local-calls t) (measures.local-at t) local.Post
     measures.local-Inv-loop measures.local-μ-loop
 local-cast-d t c =
-    let c5 = c .before .before .before .before .before in
-    let p = c5 .before .before .before .before .before .pre .1 in
+    let y = c .before .before .before .before .before in
+    let p = y .before .before .before .before .before .pre .1 .1 in
     omega (
       arith,
-      p .1 .0 .scoped .few,
-      kids-lower _ _ _ _ _ (p .1 .0) (p .1 .1 .0) _
-          (c .before .before .before .before .before .load .ensures) .low (c .before .before .loop .k)
+      p .0 .scoped .few,
+      kids-lower _ _ _ _ _ (p .0) (p .1 .0) _ (y .load .ensures) .low (c .before .before .loop .k)
           (c .before .loop-test .taken),
     )
 
@@ -199,11 +193,10 @@ local-loop-again t c =
 pub local-returns : (t : ℕ) → local-lts.Need-returns (measures.local-calls t) (measures.local-at t) local.Post
     measures.local-Inv-loop measures.local-μ-loop
 local-returns t c =
-    let c5 = c .before .before .before .before .before in
-    let p = c5 .before .before .before .before .pre .1 in
+    let y = c .before .before .before .before in
+    let p = y .before .before .before .before .before .pre .1 .1 in
     let l = c .before .loop in
-    words-done _ _ _ _ (p .1 .0) _ _ _ _ _ (p .1 .1 .0) _ (c .before .before .before .before .load .ensures) (l .k)
-    (omega arith) _ _ _ (l .inv .3)
+    words-done _ _ _ _ (p .0) _ _ _ _ _ (p .1 .0) _ (y .load .ensures) (l .k) (omega arith) _ _ _ (l .inv .3)
 
 -- ---- `across`
 
@@ -220,37 +213,35 @@ across-loop-holds t c =
 pub across-visit-requires : (t : ℕ) → across-lts.Need-visit-requires
     (measures.across-calls t) (measures.across-at t) across.Post measures.across-Inv-loop measures.across-μ-loop
 across-visit-requires t c κs =
-    let c7 = c .before .before .before .before .before .before .before in
-    let p = c7 .before .before .before .before .before .before .pre .1 in
-    let l = c .before .before .before .before .loop in
-    let lower = c .before .before .before .before .before .before .free .ensures .low (l .k)
-    (c .before .before .before .loop-test .taken) in
+    let head = c .before .before .before .before in
+    let f = head .before .before in
+    let p = f .before .before .before .before .before .before .before .pre .1 in
+    let l = head .loop in
+    let lower = f .free .ensures .low (l .k) (c .before .before .before .loop-test .taken) in
     let d = c .before .before .wide .ensures .0 in
     (omega (arith, lower, d), (p .0, (p .1 .0, (omega (arith, lower, d, p .1 .1 .0), l .inv .3 .lent))))
 
 pub across-loop-again : (t : ℕ) → across-lts.Need-loop-again
     (measures.across-calls t) (measures.across-at t) across.Post measures.across-Inv-loop measures.across-μ-loop
 across-loop-again t c =
-    let c5 = c .before .before .before .before .before in
-    let c12 = c5 .before .before .before .before .before .before .before in
-    let l = c5 .before .before .before .before .loop in
-    let f = c5 .before .before .before .before .before .before .free in
-    let v = c .before .before .before .before .visit in
-    let long : length (f .last .1 .1 .1 .1 .0) ≡ 512 = search needs in (
+    let v = c .before .before .before .before in
+    let head = v .before .before .before .before .before in
+    let l = head .loop in
+    let f = head .before .before in
+    let long : length (f .free .last .1 .1 .1 .1 .0) ≡ 512 = search needs in (
       omega arith,
-      v .kept .1 .1 .1 .1 .1 .0 ∙ l .inv .1,
-      v .kept .1 .1 .1 .1 .1 .1 .0 ∙ l .inv .2,
-      list-go _ _ _ _ (c12 .before .before .before .before .before .before .pre .1 .1 .0) _ _ _ _ _ (l .k) _ (omega
-          (arith, f .ensures .fit, long))
-          (c .before .before .before .before .before .before .before .wide .ensures .0) _ _ _ _ _ _ (l .inv .3)
-          (v .ensures),
+      v .visit .kept .1 .1 .1 .1 .1 .0 ∙ l .inv .1,
+      v .visit .kept .1 .1 .1 .1 .1 .1 .0 ∙ l .inv .2,
+      list-go _ _ _ _ (f .before .before .before .before .before .before .before .pre .1 .1 .0) _ _ _ _ _ (l .k) _
+          (omega (arith, f .free .ensures .fit, long)) (v .before .before .before .wide .ensures .0) _ _ _ _ _ _
+          (l .inv .3) (v .visit .ensures),
     )
 
 pub across-returns : (t : ℕ) → across-lts.Need-returns
     (measures.across-calls t) (measures.across-at t) across.Post measures.across-Inv-loop measures.across-μ-loop
 across-returns t c =
-    let c5 = c .before .before .before .before .before in
-    let p = c5 .before .before .before .before .before .pre .1 in
     let l = c .before .loop in
-    let f = c .before .before .before .free in
-    list-done _ _ _ _ (p .1 .0) _ _ _ _ _ _ (f .result) (f .ensures .is) (l .k) (omega arith) _ _ _ (l .inv .3)
+    let f = c .before .before .before in
+    let p = f .before .before .before .before .before .before .before .pre .1 .1 in
+    list-done _ _ _ _ (p .0) _ _ _ _ _ _ (f .free .result) (f .free .ensures .is) (l .k) (omega arith) _ _ _
+    (l .inv .3)
