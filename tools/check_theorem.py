@@ -254,8 +254,7 @@ EDITS = [
     Edit("symbols", "interning refuses over 100 symbols",
          [(INTERN, "ltb (length (st .syms)) 512", "ltb (length (st .syms)) 100")],
          [(f"theory/proofs/{f}", "512", "100") for f in
-          ("Promise/Refusals", "Interning/Lambda", "Interning/Fresh", "Interning/Finish", "Interning/Reread/Kinds",
-           "Interning/Reread/Finds")]
+          ("Promise/Refusals", "Interning/Fresh", "Interning/Finish")]
          + [(TRACE, "512", "100"), (COUNTED, "lt-ltb s 512", "lt-ltb s 100"), (COUNTED, "le-ltb s 512", "le-ltb s 100")],
          "cut-read"),
     Edit("inputs", "A4 is not in the table of opcodes",
@@ -325,8 +324,8 @@ def checked(edit, fates, crate):
         with open(os.path.join(room, "crates.txt"), "w") as f:
             f.write("model:\nlaws: model\ntheory: model laws\n")
         specs = os.path.join(room, "crates", "model", "specs")
-        # the table of examples, and laws that code cites and the theorem does not, would be refused before anything else
-        leave_out(specs, ["Examples"])
+        # the tables of examples, and laws that code cites and the theorem does not, would be refused before anything else
+        leave_out(specs, ["Examples", "SheetExamples"])
         leave_out(os.path.join(room, "crates", "laws", "proofs"), ["Blocks", "Building", "Numbering"])
         with open(os.path.join(specs, "Lib.antt"), "a") as f:
             f.write("pub mod Counter\n")

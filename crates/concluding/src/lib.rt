@@ -68,8 +68,8 @@ fn node_for(forest: &[u8], i: usize, b: Branches) -> Node
     })
 }
 
-// Gives the symbol of record i's key, whose thunks have the scopes b, or refusal 12. Rules out: an unparsed record's symbol as a constant's;
-// a symbol whose thunks are in the scope of its parent.
+// Gives the symbol of record i's key, whose thunks have the scopes b, or refusal 12. Rules out: an unparsed record's
+// symbol as a constant's; a symbol whose thunks are in the scope of its parent.
 pub fn general(
     forest: &[u8],
     work: &mut [u32],
