@@ -1,4 +1,5 @@
 // Texts put into a buffer from a place on, as far as there is room: what would stand past the buffer's end is cut off.
+// Each function gives the place after what it put, at most the buffer's end; the rest of the buffer is as it was.
 // In order: a text; a byte; spaces; a number; hex.
 ghost use Prim.Native.Nat.{_≤_};
 ghost use mathlib.Core.List.{[], _∷_};
@@ -7,7 +8,8 @@ ghost use Rattle.model.specs.Lister.{hexByte};
 ghost use Rattle.model.specs.Sheet.{numeral, hexBytes};
 ghost use Rattle.sheet.specs.Clip.{Clipped};
 
-// Bytes in a row. Rules out: none of them where there is room for some; the last ones instead of the first.
+// Bytes in a row at `at`; the answer is the place after them. Rules out: none of them where there is room for some; the
+// last ones instead of the first.
 pub fn put_text(out: &mut [u8], at: usize, text: &[u8]) -> usize
     requires { ⌜ at ≤ length (now out) ⌝ }
     ensures { λ r. ⌜ Clipped (now (out .entry)) at (now (text .entry)) (now (out .exit)) r ⌝ }
@@ -19,7 +21,7 @@ pub fn put_text(out: &mut [u8], at: usize, text: &[u8]) -> usize
     output::put_bytes(out, at, text)
 }
 
-// A byte. Rules out: the byte one place on; the place that was given.
+// A byte at `at`; the answer is the place after it. Rules out: the byte one place on; the place that was given.
 pub fn put(out: &mut [u8], at: usize, b: u8) -> usize
     requires { ⌜ at ≤ length (now out) ⌝ }
     ensures { λ r. ⌜ Clipped (now (out .entry)) at (b ∷ []) (now (out .exit)) r ⌝ }
@@ -27,7 +29,7 @@ pub fn put(out: &mut [u8], at: usize, b: u8) -> usize
     put_text(out, at, &[b])
 }
 
-// So many spaces. Rules out: one fewer; tabs.
+// So many spaces at `at`; the answer is the place after them. Rules out: one fewer; tabs.
 pub fn put_spaces(out: &mut [u8], at: usize, n: usize) -> usize
     requires { ⌜ at ≤ length (now out) ⌝ }
     ensures { λ r. ⌜ Clipped (now (out .entry)) at (replicate n 32) (now (out .exit)) r ⌝ }
@@ -41,7 +43,7 @@ pub fn put_spaces(out: &mut [u8], at: usize, n: usize) -> usize
     end
 }
 
-// A number in decimal. Rules out: its first digit cut off; zeros before it.
+// A number in decimal at `at`; the answer is the place after it. Rules out: its first digit cut off; zeros before it.
 pub fn put_number(out: &mut [u8], at: usize, n: u64) -> usize
     requires { ⌜ at ≤ length (now out) ⌝ }
     ensures { λ r. ⌜ Clipped (now (out .entry)) at (numeral n) (now (out .exit)) r ⌝ }
@@ -51,7 +53,8 @@ pub fn put_number(out: &mut [u8], at: usize, n: u64) -> usize
     put_text(out, at, &digits[..k])
 }
 
-// A byte in hex. Rules out: the low digit first; one digit for a byte below 10.
+// A byte in hex at `at`; the answer is the place after it. Rules out: the low digit first; one digit for a byte below
+// 10.
 pub fn put_hex(out: &mut [u8], at: usize, b: u8) -> usize
     requires { ⌜ at ≤ length (now out) ⌝ }
     ensures { λ r. ⌜ Clipped (now (out .entry)) at (hexByte b) (now (out .exit)) r ⌝ }
@@ -61,7 +64,8 @@ pub fn put_hex(out: &mut [u8], at: usize, b: u8) -> usize
     put_text(out, at, &digits[..k])
 }
 
-// Bytes in hex, in a row. Rules out: the last byte left out; the bytes the other way round.
+// Bytes in hex, in a row, at `at`; the answer is the place after them. Rules out: the last byte left out; the bytes the
+// other way round.
 pub fn put_hexes(out: &mut [u8], at: usize, bytes: &[u8]) -> usize
     requires { ⌜ at ≤ length (now out) ⌝ }
     ensures { λ r. ⌜ Clipped (now (out .entry)) at (hexBytes (now (bytes .entry))) (now (out .exit)) r ⌝ }

@@ -1,5 +1,6 @@
 // Names, as model's `Sheet` has them, each table of names in one text: of each entry its number, what is put for it,
-// and a comma. In order: an entry's start and end; an entry; shapes, classes and opcodes.
+// and a comma. A function that puts a text gives the place after it, at most the buffer's end; the rest of the buffer is
+// as it was. In order: an entry's start and end; an entry; shapes, classes and opcodes.
 use crate::clip::put;
 use crate::clip::put_hex;
 use crate::clip::put_text;
@@ -68,7 +69,7 @@ fn put_entry(out: &mut [u8], at: usize, table: &[u8], number: u8) -> usize
     put_text(out, at, &table[from..end])
 }
 
-// A shape's name. Rules out: another shape's; a name for a shape over 26.
+// A shape's name at `at`; the answer is the place after it. Rules out: another shape's; a name for a shape over 26.
 pub fn put_shape(out: &mut [u8], at: usize, shape: u8) -> usize
     requires { ⌜ at ≤ length (now out) ⌝ }
     ensures { λ r. ⌜ Clipped (now (out .entry)) at (named [] shapeNames shape) (now (out .exit)) r ⌝ }
@@ -84,7 +85,8 @@ pub fn put_shape(out: &mut [u8], at: usize, shape: u8) -> usize
     )
 }
 
-// A constant's class, by its aux. Rules out: the class of another aux; a name for an aux over 6.
+// A constant's class, by its aux, at `at`; the answer is the place after it. Rules out: the class of another aux; a
+// name for an aux over 6.
 pub fn put_class(out: &mut [u8], at: usize, aux: u8) -> usize
     requires { ⌜ at ≤ length (now out) ⌝ }
     ensures { λ r. ⌜ Clipped (now (out .entry)) at (named (text "  ") classNames aux) (now (out .exit)) r ⌝ }
@@ -97,7 +99,8 @@ pub fn put_class(out: &mut [u8], at: usize, aux: u8) -> usize
     )
 }
 
-// An opcode in hex, and its name. Rules out: another opcode's name; the name before the number.
+// An opcode in hex, and its name, at `at`; the answer is the place after them. Rules out: another opcode's name; the
+// name before the number.
 pub fn put_opcode(out: &mut [u8], at: usize, opcode: u8) -> usize
     requires { ⌜ at ≤ length (now out) ⌝ }
     ensures { λ r. ⌜ Clipped (now (out .entry)) at (opcodeText opcode) (now (out .exit)) r ⌝ }
