@@ -11,8 +11,8 @@ use Rattle.model.specs.Tree.{Tree, size, depth, rows}
 use Rattle.model.specs.Forest.{treesOf}
 use Rattle.model.specs.Accept.{accept}
 use Rattle.model.specs.Intern.{State}
-use Rattle.model.specs.Gate.{reachable, usage}
-use Rattle.model.specs.Call.{Numbers, numbersOf, outWith, treeOf, interned}
+use Rattle.model.specs.Gate.{usage}
+use Rattle.model.specs.Call.{Numbers, numbersOf, outWith, treeOf, interned, reachedOf}
 use Rattle.model.specs.Call as call
 use Rattle.laws.specs.Frame.{Frame}
 use Rattle.regions.specs.Regions.{SYMBOLS, PLAN, WORDS}
@@ -81,7 +81,7 @@ pub record Held (bs ws : List ℕ) (n : ℕ) : Type 0 where
   pub scopes : ℕ
   pub arena : Arena bs ws n scopes
   pub syms : symsOf bs ws n ≡ made .1 .syms
-  pub uses : (s : ℕ) → s < n → usesAt ws s ≡ usage (reachable (made .1 .syms) (made .1 .scopes) (made .0)) s
+  pub uses : (s : ℕ) → s < n → usesAt ws s ≡ usage (reachedOf made) s
 
 -- n is the answer's count of symbols, where a tree was written
 abbrev pub Counts : ℕ → Answer → Type 0

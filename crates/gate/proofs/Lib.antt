@@ -5,4 +5,3 @@ pub mod Reach
 pub mod Run
 pub mod Visits
 pub mod Turns
-pub mod AllSlots

@@ -1,80 +1,21 @@
--- What is reached from a root: what a step of `reach` adds; each symbol once; so the slots of the symbols reached are
--- counted by going through the numbers below a bound.
+-- The slots of the symbols that a root reaches, each once, are counted by going through the numbers below a bound.
+-- In order: sums over a list; slots.
 -- Assumes nothing.
 use Prim.Native.Nat.{ℕ, zero, suc, _+_, _<_, _≤_}
 use mathlib.Core.Path.{_≡_, refl, sym, _∙_}
 use mathlib.Core.Bool.{Bool, true, false}
-use mathlib.Core.Logic.{_⊎_, inl, inr, ⊎-elim}
+use mathlib.Core.Logic.{inl, inr, ⊎-elim}
 use mathlib.Core.List.{List, [], _∷_}
 use native.Mathlib.Omega.{arith}
 use native.Mathlib.Nat.{eq-or-lt-of-le}
 use borrow.Author.Tests.{eq-eqb, ne-eqb}
-use Rattle.model.specs.Lists.{isIn, count, union}
+use Rattle.model.specs.Lists.{isIn, count}
 use Rattle.model.specs.Intern.{Sym, symAt}
 use Rattle.model.specs.Gate.{reach, slotsOf}
-use Rattle.laws.specs.Members.{In, Once, Under}
-use Rattle.laws.proofs.Members.{isIn-false, not-in-isIn, union-left, union-cases}
+use Rattle.laws.specs.Members.{Once, Under}
+use Rattle.laws.proofs.Members.{not-in-isIn}
 use Rattle.laws.proofs.Once.{reach-once, count-append}
-
--- ---- what `reach` adds
-
-module _ (ss : List Sym) where
-  pub reach-keeps : (m : ℕ) (seen : List ℕ) (a : ℕ) → In a seen → In a (reach ss m seen)
-  unfolding reach
-  reach-keeps zero seen a h = h
-  reach-keeps (suc m) seen a h =
-      go (isIn m seen) (reach-keeps m (union seen (symAt ss m .kids)) a (union-left a seen (symAt ss m .kids) h))
-      (reach-keeps m seen a h)
-    where
-      go : (t : Bool) → In a (reach ss m (union seen (symAt ss m .kids))) → In a (reach ss m seen) →
-          In a (elim t [ true ↦ reach ss m (union seen (symAt ss m .kids)) | false ↦ reach ss m seen ])
-      go true x y = x
-      go false x y = y
-
-  -- numbers below m only, where children are lower
-  module _ (n : ℕ) (low : (t : ℕ) → t < n → Under t (symAt ss t .kids)) where
-    reach-adds : (m : ℕ) → m ≤ n → (seen : List ℕ) (a : ℕ) → In a (reach ss m seen) → In a seen ⊎ (a < m)
-    unfolding reach
-    reach-adds zero l seen a h = inl h
-    reach-adds (suc m) l seen a h =
-        go (isIn m seen) (λ k. more (reach-adds m (omega arith) (union seen (symAt ss m .kids)) a k))
-        (λ k. up (reach-adds m (omega arith) seen a k)) h
-      where
-        up : In a seen ⊎ (a < m) → In a seen ⊎ (a < suc m)
-        up (inl i) = inl i
-        up (inr k) = inr (omega arith)
-
-        both : In a seen ⊎ In a (symAt ss m .kids) → In a seen ⊎ (a < suc m)
-        both (inl i) = inl i
-        both (inr i) = inr (omega (arith, low m (omega arith) a i))
-
-        more : In a (union seen (symAt ss m .kids)) ⊎ (a < m) → In a seen ⊎ (a < suc m)
-        more (inl i) = both (union-cases a seen (symAt ss m .kids) i)
-        more (inr k) = inr (omega arith)
-
-        go : (t : Bool) → (In a (reach ss m (union seen (symAt ss m .kids))) → In a seen ⊎ (a < suc m)) →
-            (In a (reach ss m seen) → In a seen ⊎ (a < suc m)) →
-            In a (elim t [ true ↦ reach ss m (union seen (symAt ss m .kids)) | false ↦ reach ss m seen ]) →
-            In a seen ⊎ (a < suc m)
-        go true x y k = x k
-        go false x y k = y k
-
-    -- what is not seen before its turn is not reached
-    pub reach-misses : (m : ℕ) → m < n → (seen : List ℕ) → isIn m seen ≡ false → isIn m (reach ss m seen) ≡ false
-    reach-misses m l seen e =
-        not-in-isIn m (reach ss m seen) (λ i. none (reach-adds m (omega arith) seen m i))
-      where
-        none : In m seen ⊎ (m < m) → ⊥
-        none (inl i) = isIn-false m seen e i
-        none (inr k) = omega arith
-
-    reach-under : (root : ℕ) → root < n → Under (suc root) (reach ss (suc root) (root ∷ []))
-    reach-under root l a i = below (reach-adds (suc root) l (root ∷ []) a i)
-      where
-        below : In a (root ∷ []) ⊎ (a < suc root) → a < suc root
-        below (inl (inl e)) = omega arith
-        below (inl (inr h)) = absurd h
-        below (inr k) = k
+use Rattle.laws.proofs.Reached.{reach-under}
 
 -- ---- sums over a list, and over the numbers below m that are in it
 

@@ -1,18 +1,15 @@
--- The loops over symbols: what holds after some turns. In order: the start; what a turn needs; a turn that notes
--- children; a turn that visits a symbol; the end of visits.
+-- The loop over symbols: what holds after some turns. In order: the start; what a turn needs; a turn; the end.
 -- Assumes nothing.
 use Prim.Native.Nat.{ℕ, zero, suc, _+_, _*_, _<_, _≤_}
-use mathlib.Core.Path.{_≡_, ap, _∙_}
+use mathlib.Core.Path.{_≡_, _∙_}
 use mathlib.Core.List.{List}
 use native.Mathlib.Omega.{arith}
-use native.Mathlib.Numerals.{add-one}
 use lib.ListN.{length}
 use Rattle.regions.specs.Regions.{SLOTS, WORDS}
 use Rattle.symbols.specs.Symbols.{kidsAt}
-use Rattle.gate.specs.Gate.{usesAt, allNoted, visited, visitedDown, tallied, Lower, Countable, Small, CountsOnly}
+use Rattle.gate.specs.Gate.{usesAt, visited, visitedDown, Lower, Countable, Small, CountsOnly}
 use Rattle.laws.proofs.Frame.{frame-none, frame-then}
 use Rattle.laws.specs.Members.{Under}
-use Rattle.gate.proofs.Words.{allNoted-frame, allNoted-uses}
 use Rattle.gate.proofs.Run.{kids-under, kids-short, kids-kept, countable-kept}
 use Rattle.gate.proofs.Visits.{visited-frame, visited-bound, visited-agree}
 
@@ -38,7 +35,7 @@ module _ (ws : List ℕ) (n : ℕ) where
     enough : WORDS ≤ length ws′
     enough = omega (arith, going .kept .long, st .words)
 
-    -- what `note_kids` and `visit_symbol` require
+    -- what `visit_symbol` requires
     pub turn-fits : turns ≤ 512 → ((s < 512) × (WORDS ≤ length ws′)) × (Lower ws′ s × Small ws′ s)
     turn-fits few = ((below, enough), (lower, λ t l. omega (arith, going .uses t (omega arith))))
 
@@ -47,18 +44,6 @@ module _ (ws : List ℕ) (n : ℕ) where
     turn-kids = kids-kept ws ws′ (going .kept) s below (st .kids s lt)
 
     module _ (ws″ : List ℕ) where
-      pub noted-going : ws″ ≡ allNoted ws′ (kidsAt ws′ s) → Going ws ws″ n (turns + 1)
-      noted-going e = record {
-        kept = rw e (frame-then _ _ ws ws′ _ (going .kept) (allNoted-frame ws′ (kidsAt ws′ s) under));
-        uses = rw e
-            (λ t l. omega (
-              arith,
-              allNoted-uses ws′ (kidsAt ws′ s) under enough t (omega (arith, st .few)),
-              kids-short ws′ s lower t,
-              going .uses t l,
-            ));
-      }
-
       pub visited-going : ws″ ≡ visited (kidsAt ws′) ws′ s → Going ws ws″ n (turns + 1)
       visited-going e = record {
         kept = rw e (frame-then _ _ ws ws′ _ (going .kept) (visited-frame (kidsAt ws′) ws′ s under));
@@ -72,11 +57,6 @@ module _ (ws : List ℕ) (n : ℕ) where
 
       pub visited-as : ws″ ≡ visited (kidsAt ws′) ws′ s → ws″ ≡ visited (kidsAt ws) ws′ s
       visited-as e = e ∙ visited-agree (kidsAt ws) (kidsAt ws′) ws′ s turn-kids
-
-      pub tallied-more : ws″ ≡ allNoted ws′ (kidsAt ws′ s) → ws′ ≡ tallied (kidsAt ws) ws s →
-          ws″ ≡ tallied (kidsAt ws) ws (s + 1)
-      unfolding tallied
-      tallied-more e is = rw (add-one s) (e ∙ ap (allNoted ws′) turn-kids ∙ rw is)
 
 -- no visit is left
 pub down-end : (kids : ℕ → List ℕ) (ws all : List ℕ) (s : ℕ) → s ≤ 0 → visitedDown kids ws s ≡ all → ws ≡ all

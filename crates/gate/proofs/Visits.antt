@@ -16,6 +16,7 @@ use Rattle.model.specs.Gate.{reach, reachable, usage}
 use Rattle.laws.proofs.Frame.{frame-store}
 use Rattle.regions.specs.Regions.{SLOTS, USES, REACHED, WORDS}
 use Rattle.laws.proofs.Members.{isIn-true, in-isIn, union-left}
+use Rattle.laws.proofs.Reached.{reach-keeps, reach-misses}
 use Rattle.symbols.specs.Symbols.{kidsAt, symsOf}
 use Rattle.symbols.proofs.Laws.{kids-at}
 use Rattle.gate.specs.Gate.{usesAt, reachedAt, cleared, allNoted, visited, visitedDown, Countable, CountsOnly}
@@ -23,7 +24,7 @@ use Rattle.gate.specs.Gate.{bit, Reached}
 use Rattle.laws.specs.Members.{Under}
 use Rattle.gate.proofs.Words.{OnlyBelow, below-none, below-then, cleared-below, cleared-zero}
 use Rattle.gate.proofs.Words.{allNoted-below, allNoted-frame, allNoted-uses, allNoted-reached}
-use Rattle.gate.proofs.Reach.{reach-keeps, reach-misses, total, slots-total}
+use Rattle.gate.proofs.Reach.{total, slots-total}
 use Rattle.gate.proofs.Run.{kids-under, kids-kept, countable-kept, countable-less}
 
 -- ---- one visit

@@ -8,9 +8,9 @@ use mathlib.Core.Bool.{Bool, true, false}
 use mathlib.Core.List.{List, [], _∷_}
 use lib.Dec.{eqb}
 use lib.ListN.{length, getD, set}
-use Rattle.model.specs.Lists.{isIn, count}
+use Rattle.model.specs.Lists.{isIn}
 use Rattle.model.specs.Intern.{Scope}
-use Rattle.model.specs.Gate.{reach, reachable, usage, allSlots}
+use Rattle.model.specs.Gate.{reach, reachable, usage}
 use Rattle.laws.specs.Frame.{Frame}
 use Rattle.regions.specs.Regions.{SLOTS, USES, REACHED, WORDS, end}
 use Rattle.key.specs.Key.{symbolAt}
@@ -45,11 +45,6 @@ visited kids ws s = elim (eqb (reachedAt ws s) 1) [ true ↦ allNoted ws (kids s
 unfoldable pub visitedDown : (ℕ → List ℕ) → List ℕ → ℕ → List ℕ
 visitedDown kids ws zero = ws
 visitedDown kids ws (suc n) = visitedDown kids (visited kids ws n) n
-
--- the children of every symbol below n noted
-unfoldable pub tallied : (ℕ → List ℕ) → List ℕ → ℕ → List ℕ
-tallied kids ws zero = ws
-tallied kids ws (suc n) = allNoted (tallied kids ws n) (kids n)
 
 -- ---- what holds of the words of symbols
 
@@ -97,11 +92,5 @@ pub record Reached (ws ws′ : List ℕ) (n root : ℕ) : Type 0 where
       usesAt ws′ s ≡ usage (reachable (symsOf bs ws n) scs root) s
   pub reached : (bs : List ℕ) (s : ℕ) → s < n →
       reachedAt ws′ s ≡ bit (isIn s (reach (symsOf bs ws n) (suc root) (root ∷ [])))
-  pub kept : CountsOnly ws ws′
-  pub others : OthersKept n ws ws′
-
--- the slots of all symbols below n are counted
-pub record Tallied (ws ws′ : List ℕ) (n : ℕ) : Type 0 where
-  pub uses : (bs : List ℕ) (s : ℕ) → s < n → usesAt ws′ s ≡ count s (allSlots (symsOf bs ws n))
   pub kept : CountsOnly ws ws′
   pub others : OthersKept n ws ws′

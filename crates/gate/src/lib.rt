@@ -1,6 +1,6 @@
 // Usage and the gate (gate.rs): how often a symbol is used, and whether it may be hoisted. Word s of region USES is the
 // count of symbol s, word s of region REACHED is 1 if it is reached.
-// In order: words cleared, uses noted; what is reached from the root, counted; all uses counted; the gate.
+// In order: words cleared, uses noted; what is reached from the root, counted; the gate.
 use regions::REACHED;
 use regions::SLOTS;
 use regions::USES;
@@ -20,8 +20,8 @@ ghost use Rattle.regions.specs.Regions.{SLOTS, WORDS};
 ghost use Rattle.record.specs.Record.{Laid};
 ghost use Rattle.symbols.specs.Words.{wordsFrom};
 ghost use Rattle.symbols.specs.Symbols.{keyRec, kidsAt, symsOf, Sound};
-ghost use Rattle.gate.specs.Gate.{usesAt, cleared, noted, allNoted, visited, visitedDown, tallied};
-ghost use Rattle.gate.specs.Gate.{Lower, Countable, Small, Notable, Reached, Tallied};
+ghost use Rattle.gate.specs.Gate.{usesAt, cleared, noted, allNoted, visited, visitedDown};
+ghost use Rattle.gate.specs.Gate.{Lower, Countable, Small, Notable, Reached};
 
 fn clear(work: &mut [u32], n: usize)
     requires { ⌜ (n ≤ 512) × (WORDS ≤ length (now work)) ⌝ }
@@ -107,29 +107,6 @@ pub fn reach_and_count(work: &mut [u32], n: usize, root: usize)
     clear(work, n);
     work[REACHED + root] = 1;
     visit(work, root)
-}
-
-fn tally(work: &mut [u32], n: usize)
-    requires { ⌜ Countable (now work) n ⌝ }
-    requires { ⌜ ((s : ℕ) → s < n → usesAt (now work) s ≡ 0) ⌝ }
-    ensures { λ _. ⌜ now (work .exit) ≡ tallied (kidsAt (now (work .entry))) (now (work .entry)) n ⌝ }
-{
-    let mut s = 0;
-    while s < n {
-        note_kids(work, s);
-        s += 1;
-    }
-}
-
-// Counts the uses of each of n symbols by all of them (`flat_usage`), as the lister shows them.
-// Rules out: the slots of a symbol that nothing reaches left out; counts added to what the words held before; a word of
-// a symbol after the last changed.
-pub fn count_all(work: &mut [u32], n: usize)
-    requires { ⌜ Countable (now work) n ⌝ }
-    ensures { λ _. ⌜ Tallied (now (work .entry)) (now (work .exit)) n ⌝ }
-{
-    clear(work, n);
-    tally(work, n)
 }
 
 // Which symbols are context properties, by their records' opcodes.

@@ -11,6 +11,7 @@ pub mod Runs
 pub mod Frame
 pub mod Stack
 pub mod Once
+pub mod Reached
 pub mod Walks
 pub mod Falls
 pub mod Short

@@ -1,4 +1,4 @@
--- A symbol's line. In order: a number; lengths; a line from its parts; the columns of a stored symbol.
+-- A symbol's line. In order: lengths; a line from its parts; the columns of a stored symbol.
 -- Assumes nothing.
 use Prim.Native.Nat.{ℕ, _+_, _<_, _≤_}
 use mathlib.Core.Path.{_≡_, refl, sym, ap}
@@ -10,16 +10,15 @@ use Rattle.model.specs.Text.{text}
 use Rattle.model.specs.Forest.{recordCount}
 use Rattle.model.specs.Intern.{Node, Sym, symAt, constant, unparsed, argument, func, operation}
 use Rattle.model.specs.Gate.{shouldHoist}
-use Rattle.model.specs.Lister.{decimal, hexByte, tagOf, opcodeShown, yesNo, line}
+use Rattle.model.specs.Lister.{numeral, hexByte, tagOf, opcodeShown, yesNo, line}
 use Rattle.regions.specs.Regions.{SLOTS}
 use Rattle.key.specs.declared.Symbol.{Symbol}
 use Rattle.key.specs.Key.{partsOf, symbolAt}
 use Rattle.symbols.specs.Symbols.{recOf, modelNode, symOf, symsOf, Sound}
 use Rattle.symbols.proofs.Laws.{sym-at}
 use Rattle.output.specs.Output.{Wrote}
-use Rattle.text.specs.Text.{numeral}
-use Rattle.text.proofs.Numbers.{decimal-length, numeral-decimal}
-use Rattle.output.proofs.Wrote.{wrote-as, wrote-then, wrote-both}
+use Rattle.text.proofs.Numbers.{numeral-length}
+use Rattle.output.proofs.Wrote.{wrote-then, wrote-both}
 use Rattle.text.proofs.Refusal.{newline}
 use Rattle.lines.specs.Lines.{columns}
 
@@ -27,18 +26,12 @@ space : (32 ∷ []) ≡ text " "
 unfolding text
 space = refl
 
--- ---- a number
-
-pub number-parts : (n b : ℕ) {out o₁ o₂ : List ℕ} {at p₁ p₂ : ℕ} → n < 1000000000 → Wrote out at (numeral n) o₁ p₁ →
-    Wrote o₁ p₁ (b ∷ []) o₂ p₂ → Wrote out at (decimal n ++ (b ∷ [])) o₂ p₂
-number-parts n b h w₁ w₂ = wrote-then (wrote-as (numeral-decimal n h) w₁) w₂
-
 -- ---- lengths
 
--- a number and a byte after it take at most ten bytes
+-- a number has at most twenty digits
 pub number-ends : (n b : ℕ) {out : List ℕ} {at : ℕ} {o : List ℕ} {p : ℕ} →
-    Wrote out at (decimal n ++ (b ∷ [])) o p → p ≤ at + 10
-number-ends n b w = omega (arith, w .ends, decimal-length n, length-append (decimal n) (b ∷ []))
+    Wrote out at (numeral n ++ (b ∷ [])) o p → p ≤ at + 21
+number-ends n b w = omega (arith, w .ends, numeral-length n, length-append (numeral n) (b ∷ []))
 
 one-letter : (n : Node) → length (tagOf n) ≡ 1
 unfolding tagOf text
@@ -48,13 +41,13 @@ one-letter argument = refl
 one-letter (func xs sc) = refl
 one-letter (operation brs) = refl
 
-columns-length : (s : ℕ) (n : Node) (op : ℕ) → length (columns s n op) ≤ 15
+columns-length : (s : ℕ) (n : Node) (op : ℕ) → length (columns s n op) ≤ 26
 unfolding columns hexByte
 columns-length s n op =
-    rw (← space) (simp length-append (omega (arith, decimal-length s, one-letter n)))
+    rw (← space) (simp length-append (omega (arith, numeral-length s, one-letter n)))
 
 pub columns-ends : (s : ℕ) (n : Node) (op : ℕ) {out : List ℕ} {at : ℕ} {o : List ℕ} {p : ℕ} →
-    Wrote out at (columns s n op) o p → p ≤ at + 15
+    Wrote out at (columns s n op) o p → p ≤ at + 26
 columns-ends s n op w = omega (arith, w .ends, columns-length s n op)
 
 yes-or-no : (b : Bool) → length (yesNo b) ≡ 1
@@ -62,19 +55,19 @@ unfolding yesNo text
 yes-or-no true = refl
 yes-or-no false = refl
 
-pub line-length : (s uses : ℕ) (y : Sym) → length (line s uses y) ≤ 40
+pub line-length : (s uses : ℕ) (y : Sym) → length (line s uses y) ≤ 70
 unfolding line hexByte
 line-length s uses y =
     let h = yes-or-no (shouldHoist y uses) in
     let t = one-letter (y .node) in
     rw (← space, ← newline)
-    (simp length-append (omega (arith, decimal-length s, decimal-length (y .scope), decimal-length uses)))
+    (simp length-append (omega (arith, numeral-length s, numeral-length (y .scope), numeral-length uses)))
 
 -- ---- a line from its parts
 
 module _ {out : List ℕ} {at : ℕ} {o₁ o₂ o₃ o₄ : List ℕ} {p₁ p₂ p₃ p₄ : ℕ} where
   pub columns-parts : (s : ℕ) (n : Node) (opcode : ℕ) {t shown : ℕ} → (t ∷ []) ≡ tagOf n →
-      shown ≡ opcodeShown n opcode → Wrote out at (decimal s ++ (32 ∷ [])) o₁ p₁ →
+      shown ≡ opcodeShown n opcode → Wrote out at (numeral s ++ (32 ∷ [])) o₁ p₁ →
       Wrote o₁ p₁ (t ∷ 32 ∷ []) o₂ p₂ → Wrote o₂ p₂ (hexByte shown) o₃ p₃ → Wrote o₃ p₃ (32 ∷ []) o₄ p₄ →
       Wrote out at (columns s n opcode) o₄ p₄
   unfolding columns
@@ -84,11 +77,11 @@ module _ {out : List ℕ} {at : ℕ} {o₁ o₂ o₃ o₄ : List ℕ} {p₁ p₂
   pub line-parts : (s uses : ℕ) (y : Sym) {n : Node} {opcode scope g : ℕ} {hoisted : Bool} → n ≡ y .node →
       opcode ≡ y .rec .opcode → scope ≡ y .scope → hoisted ≡ shouldHoist y uses → (g ∷ []) ≡ yesNo hoisted →
       Wrote out at (columns s n opcode) o₁ p₁ →
-      Wrote o₁ p₁ (decimal scope ++ (32 ∷ [])) o₂ p₂ → Wrote o₂ p₂ (decimal uses ++ (32 ∷ [])) o₃ p₃ →
+      Wrote o₁ p₁ (numeral scope ++ (32 ∷ [])) o₂ p₂ → Wrote o₂ p₂ (numeral uses ++ (32 ∷ [])) o₃ p₃ →
       Wrote o₃ p₃ (g ∷ 10 ∷ []) o₄ p₄ → Wrote out at (line s uses y) o₄ p₄
   unfolding line columns
   line-parts s uses y {scope = scope} {g = g} en eo es eh eg w₁ w₂ w₃ w₄ =
-      let used = wrote-both (wrote-both w₁ (decimal scope) (32 ∷ []) w₂) (decimal uses) (32 ∷ []) w₃ in
+      let used = wrote-both (wrote-both w₁ (numeral scope) (32 ∷ []) w₂) (numeral uses) (32 ∷ []) w₃ in
       rw (← eh, ← eg, ← en, ← eo, ← es, ← newline) (rw space at (wrote-both used (g ∷ []) (10 ∷ []) w₄))
 
 -- ---- the columns of a stored symbol
@@ -105,10 +98,6 @@ module _ (bs ws : List ℕ) (s : ℕ) (x : Symbol) (loads : x ≡ symbolAt ws s)
   pub stored-scope : x .scope ≡ symAt (symsOf bs ws n) s .scope
   unfolding symOf
   stored-scope = rw loads (sym (ap (λ (z : Sym). z .scope) (sym-at bs ws n s lt)))
-
-pub stored-small : (ws : List ℕ) (s : ℕ) (x : Symbol) → x ≡ symbolAt ws s → x .scope < 4096
-unfolding symbolAt
-stored-small ws s x loads = rw loads (omega arith)
 
 pub stored-from : (bs ws : List ℕ) (s : ℕ) (x : Symbol) → x ≡ symbolAt ws s → Sound bs ws (SLOTS .size) s →
     partsOf (x .node) .source < recordCount bs

@@ -8,20 +8,19 @@ ghost use Prim.Native.Nat.{ℕ, _+_, _*_, _<_, _≤_};
 ghost use lib.ListN.{length};
 ghost use Rattle.model.specs.Forest.{recordCount};
 ghost use Rattle.model.specs.Intern.{symAt};
-ghost use Rattle.model.specs.Lister.{decimal, tagOf, opcodeShown, yesNo, line, linesFrom, symbolLines};
-ghost use Rattle.model.specs.Gate.{allSlots};
+ghost use Rattle.model.specs.Lister.{numeral, tagOf, opcodeShown, yesNo, line, symbolLines};
 ghost use Rattle.regions.specs.Regions.{SLOTS, WORDS};
 ghost use Rattle.record.specs.Record.{Laid};
 ghost use Rattle.key.specs.Key.{partsOf};
 ghost use Rattle.symbols.specs.Symbols.{recOf, modelNode, symsOf, Sound};
-ghost use Rattle.output.specs.Output.{over, Wrote};
-ghost use Rattle.lines.specs.Lines.{columns, Listable};
+ghost use Rattle.gate.specs.Gate.{usesAt};
+ghost use Rattle.output.specs.Output.{Wrote};
+ghost use Rattle.lines.specs.Lines.{columns, linesTo, Listable};
 
-// A number, below 10^9 as every number of a line is, and the byte after it.
+// A number and the byte after it.
 fn put_number(out: &mut [u8], at: usize, n: u32, after: u8) -> usize
-    requires { ⌜ n < 1000000000 ⌝ }
-    requires { ⌜ at + 10 ≤ length (now out) ⌝ }
-    ensures { λ r. ⌜ Wrote (now (out .entry)) at (decimal n ++ (after ∷ [])) (now (out .exit)) r ⌝ }
+    requires { ⌜ at + 21 ≤ length (now out) ⌝ }
+    ensures { λ r. ⌜ Wrote (now (out .entry)) at (numeral n ++ (after ∷ [])) (now (out .exit)) r ⌝ }
 {
     let next = text::put_decimal(out, at, n as u64);
     output::put_byte(out, next, after)
@@ -70,7 +69,7 @@ fn put_columns(forest: &[u8], out: &mut [u8], at: usize, s: usize, node: Node) -
     requires { ⌜ Laid (now forest) ⌝ }
     requires { ⌜ partsOf node .source < recordCount (now forest) ⌝ }
     requires { ⌜ s < 512 ⌝ }
-    requires { ⌜ at + 15 ≤ length (now out) ⌝ }
+    requires { ⌜ at + 26 ≤ length (now out) ⌝ }
     ensures { λ r. ⌜ Wrote (now (out .entry)) at
         (columns s (modelNode (now (forest .entry)) node) (recOf (now (forest .entry)) node .opcode))
         (now (out .exit)) r ⌝ }
@@ -85,8 +84,8 @@ fn put_columns(forest: &[u8], out: &mut [u8], at: usize, s: usize, node: Node) -
 fn put_line(forest: &[u8], work: &[u32], out: &mut [u8], at: usize, s: usize, uses: u32) -> usize
     requires { ⌜ Laid (now forest) ⌝ }
     requires { ⌜ Sound (now forest) (now work) (SLOTS .size) s ⌝ }
-    requires { ⌜ (s < 512) × (WORDS ≤ length (now work)) × (uses < 1000000000) ⌝ }
-    requires { ⌜ at + 40 ≤ length (now out) ⌝ }
+    requires { ⌜ (s < 512) × (WORDS ≤ length (now work)) ⌝ }
+    requires { ⌜ at + 70 ≤ length (now out) ⌝ }
     ensures { λ r. ⌜ ((n : ℕ) → s < n → Wrote (now (out .entry)) at
         (line s uses (symAt (symsOf (now (forest .entry)) (now (work .entry)) n) s)) (now (out .exit)) r) ⌝ }
 {
@@ -99,13 +98,12 @@ fn put_line(forest: &[u8], work: &[u32], out: &mut [u8], at: usize, s: usize, us
     text::put_two(out, c, yes_no(hoisted), b'\n')
 }
 
-// The lines of the first n symbols, one after the other, from `start` on.
+// The lines of the first n symbols, one after the other, from `start` on, each with the uses that its word counts.
 fn put_lines(forest: &[u8], work: &[u32], n: usize, out: &mut [u8], start: usize) -> usize
     requires { ⌜ Listable (now forest) (now work) n ⌝ }
-    requires { ⌜ start + 40 * n ≤ length (now out) ⌝ }
-    ensures { λ r. ⌜ Wrote (now (out .entry)) start
-        (linesFrom 0 (allSlots (symsOf (now (forest .entry)) (now (work .entry)) n))
-        (symsOf (now (forest .entry)) (now (work .entry)) n)) (now (out .exit)) r ⌝ }
+    requires { ⌜ start + 70 * n ≤ length (now out) ⌝ }
+    ensures { λ r. ⌜ Wrote (now (out .entry)) start (linesTo (now (forest .entry)) (now (work .entry)) n)
+        (now (out .exit)) r ⌝ }
 {
     let mut at = start;
     let mut s = 0;
@@ -116,15 +114,14 @@ fn put_lines(forest: &[u8], work: &[u32], n: usize, out: &mut [u8], start: usize
     at
 }
 
-// What the lister prints for n symbols, over the output's start; `gate::count_all` has counted their uses.
+// What the lister prints for n symbols, whose uses are counted in the words, over the output's start.
 // The answer is its length. Rules out: that a symbol is reached as its usage; the count of symbols left out.
 pub fn put_symbols(forest: &[u8], work: &[u32], n: usize, out: &mut [u8]) -> usize
     requires { ⌜ Listable (now forest) (now work) n ⌝ }
-    requires { ⌜ 32768 ≤ length (now out) ⌝ }
-    ensures { λ r. ⌜ (r ≡ length (symbolLines (symsOf (now (forest .entry)) (now (work .entry)) n)))
-        × (r ≤ length (now (out .entry))) ⌝ }
-    ensures { λ r. ⌜ now (out .exit) ≡
-        over (now (out .entry)) 0 (symbolLines (symsOf (now (forest .entry)) (now (work .entry)) n)) ⌝ }
+    requires { ⌜ 65535 ≤ length (now out) ⌝ }
+    ensures { λ r. ⌜ Wrote (now (out .entry)) 0
+        (symbolLines (usesAt (now (work .entry))) (symsOf (now (forest .entry)) (now (work .entry)) n))
+        (now (out .exit)) r ⌝ }
 {
     let a = output::put_bytes(out, 0, b"symbols ");
     let b = put_number(out, a, n as u32, b'\n');

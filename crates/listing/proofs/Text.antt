@@ -1,6 +1,6 @@
 -- The lister's text, over the output that the pass left. In order: which text; where it stands.
 -- Assumes nothing.
-use Prim.Native.Nat.{ℕ, _<_, _≤_}
+use Prim.Native.Nat.{ℕ, _≤_}
 use mathlib.Core.Path.{_≡_, sym, ap, _∙_}
 use mathlib.Core.List.{List, _++_}
 use native.Mathlib.Omega.{arith}
@@ -9,14 +9,12 @@ use lib.Seq.{take-at, drop-at}
 use Rattle.model.specs.Answer.{refused, good, _>>=_}
 use Rattle.model.specs.Answer as answer
 use Rattle.model.specs.Intern.{State}
-use Rattle.model.specs.Call.{Call, ample, interned, Written, measured, written, run, outAfter}
-use Rattle.model.specs.Lister.{linesOf, lister, symbolLines, refusalLine}
+use Rattle.model.specs.Gate.{usage}
+use Rattle.model.specs.Call.{Call, ample, interned, reachedOf, Written, measured, written, run, outAfter}
+use Rattle.model.specs.Lister.{linesOf, lister, symbolLines, refusal}
 use Rattle.regions.specs.Regions.{WORDS}
 use Rattle.output.proofs.Over.{over-front}
 use Rattle.output.specs.Output.{Wrote}
-use Rattle.text.specs.Text.{refusal}
-use Rattle.output.proofs.Wrote.{wrote-as}
-use Rattle.text.proofs.Refusal.{refusal-line}
 use Rattle.cse.proofs.Telling.{run-enough}
 use Rattle.listing.specs.Listing.{Listed}
 
@@ -34,12 +32,12 @@ module _ (c : Call) (room : c .room ≡ 65535) (enough : WORDS ≤ c .words) whe
   unfolding lister
   lister-of a e = ap (λ (x : answer.Answer Written). linesOf x (interned (c .forest))) (run-lent ∙ e)
 
-  lister-refused : (n p : ℕ) → run c ≡ refused n p → lister (c .forest) ≡ refusalLine n p
+  lister-refused : (n p : ℕ) → run c ≡ refused n p → lister (c .forest) ≡ refusal n p
   unfolding linesOf
   lister-refused n p e = lister-of (refused n p) e
 
   lister-good : (w : Written) (o : ℕ × State) → run c ≡ good w → interned (c .forest) ≡ good o →
-      lister (c .forest) ≡ symbolLines (o .1 .syms)
+      lister (c .forest) ≡ symbolLines (usage (reachedOf o)) (o .1 .syms)
   unfolding linesOf
   lister-good w o e f = lister-of (good w) e ∙ ap (linesOf (good w)) f
 
@@ -59,10 +57,9 @@ module _ (c : Call) (room : c .room ≡ 65535) (enough : WORDS ≤ c .words) whe
           rest = ap (drop r) parts ∙ drop-at text (drop r mid) r (sym e) ∙ ap (drop r) left;
         }
 
-    pub refusal-listed : (n p : ℕ) → run c ≡ refused n p → n < 1000000000 → p < 1000000000 →
-        Wrote mid 0 (refusal n p) out′ r → Listed c out out′ r
-    refusal-listed n p e small low w = text-stands (lister-refused n p e) (wrote-as (refusal-line n p small low) w)
+    pub refusal-listed : (n p : ℕ) → run c ≡ refused n p → Wrote mid 0 (refusal n p) out′ r → Listed c out out′ r
+    refusal-listed n p e = text-stands (lister-refused n p e)
 
     pub symbols-listed : (w : Written) (o : ℕ × State) → run c ≡ good w → interned (c .forest) ≡ good o →
-        Wrote mid 0 (symbolLines (o .1 .syms)) out′ r → Listed c out out′ r
+        Wrote mid 0 (symbolLines (usage (reachedOf o)) (o .1 .syms)) out′ r → Listed c out out′ r
     symbols-listed w o e f = text-stands (lister-good w o e f)

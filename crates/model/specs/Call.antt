@@ -11,6 +11,7 @@ use Rattle.model.specs.Answer.{Answer, refused, good, _>>=_, checked, at
 use Rattle.model.specs.Tree.{Tree, nil, cons, size, depth, serialise}
 use Rattle.model.specs.Accept.{accept}
 use Rattle.model.specs.Intern.{State, Out, internLast, internForest}
+use Rattle.model.specs.Gate.{Graph, reachable}
 use Rattle.model.specs.Materialize.{materialize}
 
 -- ---- what a call is given
@@ -44,6 +45,10 @@ unfoldable pub interned : List ℕ → Out
 interned bs = do
   ts ← accept bs
   internLast (internForest ts)
+
+-- what is reached from the root's symbol, whose uses the gate and the lister count
+abbrev pub reachedOf : ℕ × State → Graph
+reachedOf o = reachable (o .1 .syms) (o .1 .scopes) (o .0)
 
 -- "the tree document 01 defines", and its bytes: a forest of one tree
 unfoldable pub treeOf : ℕ × State → Tree

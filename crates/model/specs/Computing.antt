@@ -21,7 +21,7 @@ use Rattle.model.specs.Intern.{allocArgs, resolve, bindDef, thunked, int
 use Rattle.model.specs.Intern.{pairProjection, internLast, nodeOf, internGeneral, internField, internFunc}
 use Rattle.model.specs.Intern.{internKind}
 use Rattle.model.specs.Intern.{internForest, intern}
-use Rattle.model.specs.Gate.{reach, slotsOf, reachable, usage, isContextProperty, isInternal, isConst, allSlots}
+use Rattle.model.specs.Gate.{reach, slotsOf, reachable, usage, isContextProperty, isInternal, isConst}
 use Rattle.model.specs.Gate.{shouldHoist}
 use Rattle.model.specs.Schedule.{classify, relOf, each, visitStep, visit, operands, localDepOrder, bodyOnly}
 use Rattle.model.specs.Schedule.{bodyNeighbours, outsiders, collect, freeStep, freeVars, neighbours, schedule}
@@ -31,11 +31,11 @@ use Rattle.model.specs.Materialize.{buildOp, argLit, buildNode, buildSte
 use Rattle.model.specs.Call.{check1, lentChecks, interned, treeOf, bytesOf, check13, check14, treeChecks}
 use Rattle.model.specs.Call.{writtenOf, measured, written, run, numbersOf, numbers, outWith, outAfter, workAfter}
 use Rattle.model.specs.Text.{text}
-use Rattle.model.specs.Lister.{digits, decimal, hexDigit, hexByte, tagOf, opcodeShown, yesNo, line, linesFrom}
-use Rattle.model.specs.Lister.{symbolLines, refusalLine, linesOf, lister}
-use Rattle.model.specs.Sheet.{named, shapeNames, classNames, opcodeNames, numeral, hexBytes, idTexts, argsText}
+use Rattle.model.specs.Lister.{digits, numeral, hexDigit, hexByte, tagOf, opcodeShown, yesNo, line, linesFrom}
+use Rattle.model.specs.Lister.{symbolLines, refusal, linesOf, lister}
+use Rattle.model.specs.Sheet.{named, shapeNames, classNames, opcodeNames, hexBytes, idTexts, argsText}
 use Rattle.model.specs.Sheet.{idText, classText, ownText, literalText, placeText, opcodeText, recordLine}
-use Rattle.model.specs.Sheet.{treeLines, forestLines, refusal, sheetOf, sheet}
+use Rattle.model.specs.Sheet.{treeLines, forestLines, sheetOf, sheet}
 
 unfoldable pub bytes-and-trees : Unit {0}
 unfolding isIn anyIn twice count same add union without last first u16 u32 put16 put32 _>>=_ unless guard checked
@@ -73,13 +73,12 @@ unfolding check1 lentChecks interned treeOf bytesOf check13 check14 treeChecks w
 calling = tt
 
 unfoldable pub listing : Unit {0}
-unfolding text digits decimal hexDigit hexByte tagOf opcodeShown yesNo line linesFrom allSlots symbolLines refusalLine
-    linesOf lister
+unfolding text digits numeral hexDigit hexByte tagOf opcodeShown yesNo line linesFrom symbolLines refusal linesOf lister
 listing = tt
 
 unfoldable pub showing : Unit {0}
-unfolding named shapeNames classNames opcodeNames numeral hexBytes idTexts argsText idText classText ownText literalText
-    placeText opcodeText recordLine treeLines forestLines refusal sheetOf sheet
+unfolding named shapeNames classNames opcodeNames hexBytes idTexts argsText idText classText ownText literalText
+    placeText opcodeText recordLine treeLines forestLines sheetOf sheet
 showing = tt
 
 unfoldable pub computing : Unit {0}

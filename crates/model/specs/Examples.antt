@@ -1,5 +1,5 @@
 -- "Trees to compare": those marked M, in one table with one proposition about it; h as bytes, both ways; the lister's
--- lines of p(z,z).
+-- lines of p(z,z), and of forests that tell what is counted.
 -- Assumes nothing.
 use Prim.Native.Nat.{ℕ}
 use mathlib.Core.Path.{_≡_, refl}
@@ -129,8 +129,20 @@ pub h-read : accept hBytes ≡ good (one h)
 unfolding computing
 h-read = refl
 
--- ---- the lister's lines of p(z,z)
+-- ---- the lister's lines
 
 pub lines : lister (serialise (one (p z z))) ≡ text "symbols 2\n0 O FE 0 2 y\n1 O 9A 0 0 n\n"
 unfolding computing
 lines = refl
+
+-- the uses by an environment tree do not count
+pub lines-unreached : lister (serialise (cons (n (p z z)) (one (n z)))) ≡
+    text "symbols 4\n0 O FE 0 1 n\n1 O 9A 0 0 n\n2 O F0 0 0 n\n3 O F0 0 0 n\n"
+unfolding computing
+lines-unreached = refl
+
+-- an argument that is used twice has y, though it gets no definition
+pub lines-argument : lister (serialise (one (L 7 (p (u 7) (u 7))))) ≡
+    text "symbols 3\n0 A 00 0 2 y\n1 O 9A 1 1 n\n2 O D9 0 0 n\n"
+unfolding computing
+lines-argument = refl

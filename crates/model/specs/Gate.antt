@@ -31,11 +31,6 @@ unfoldable pub slotsOf : List Sym → List ℕ → List ℕ
 slotsOf ss [] = []
 slotsOf ss (s ∷ is) = symAt ss s .kids ++ slotsOf ss is
 
--- of all symbols, as the lister counts them
-unfoldable pub allSlots : List Sym → List ℕ
-allSlots [] = []
-allSlots (s ∷ ss) = s .kids ++ allSlots ss
-
 unfoldable pub reachable : List Sym → List Scope → ℕ → Graph
 reachable ss scs root = record { syms = ss; scopes = scs; slots = slotsOf ss (reach ss (suc root) (root ∷ [])) }
 

@@ -5,11 +5,10 @@ use mathlib.Core.Bool.{Bool, true, false}
 use mathlib.Core.List.{List, [], _∷_, _++_}
 use lib.Dec.{ltb}
 use lib.ListN.{length}
-use Rattle.model.specs.Lists.{count}
 use Rattle.model.specs.Answer.{Answer, refused, good}
 use Rattle.model.specs.Intern.{Node, constant, unparsed, argument, func, operation, Sym, Out}
-use Rattle.model.specs.Gate.{allSlots, shouldHoist}
-use Rattle.model.specs.Call.{Written, ample, run, interned}
+use Rattle.model.specs.Gate.{usage, shouldHoist}
+use Rattle.model.specs.Call.{Written, ample, run, interned, reachedOf}
 use Rattle.model.specs.Text.{text}
 
 -- ---- numbers
@@ -20,9 +19,9 @@ digits zero n rest = rest
 digits (suc fuel) n rest =
     elim (ltb n 10) [ true ↦ (48 + n) ∷ rest | false ↦ digits fuel (n / 10) ((48 + n % 10) ∷ rest) ]
 
--- every number of a line is below 10^9
-unfoldable pub decimal : ℕ → List ℕ
-decimal n = digits 9 n []
+-- below 2^64: twenty digits are enough
+unfoldable pub numeral : ℕ → List ℕ
+numeral n = digits 20 n []
 
 unfoldable pub hexDigit : ℕ → ℕ
 hexDigit n = elim (ltb n 10) [ true ↦ 48 + n | false ↦ 55 + n ]
@@ -54,26 +53,28 @@ yesNo false = text "n"
 
 unfoldable pub line : ℕ → ℕ → Sym → List ℕ
 line i uses s =
-    decimal i ++ text " " ++ tagOf (s .node) ++ text " " ++
-    hexByte (opcodeShown (s .node) (s .rec .opcode)) ++ text " " ++ decimal (s .scope) ++ text " " ++
-    decimal uses ++ text " " ++ yesNo (shouldHoist s uses) ++ text "\n"
+    numeral i ++ text " " ++ tagOf (s .node) ++ text " " ++
+    hexByte (opcodeShown (s .node) (s .rec .opcode)) ++ text " " ++ numeral (s .scope) ++ text " " ++
+    numeral uses ++ text " " ++ yesNo (shouldHoist s uses) ++ text "\n"
 
-unfoldable pub linesFrom : ℕ → List ℕ → List Sym → List ℕ
-linesFrom i slots [] = []
-linesFrom i slots (s ∷ ss) = line i (count i slots) s ++ linesFrom (suc i) slots ss
+-- the lines of symbols from number i on, each used as often as `uses` says
+unfoldable pub linesFrom : (ℕ → ℕ) → ℕ → List Sym → List ℕ
+linesFrom uses i [] = []
+linesFrom uses i (s ∷ ss) = line i (uses i) s ++ linesFrom uses (suc i) ss
 
-unfoldable pub symbolLines : List Sym → List ℕ
-symbolLines ss = text "symbols " ++ decimal (length ss) ++ text "\n" ++ linesFrom 0 (allSlots ss) ss
+unfoldable pub symbolLines : (ℕ → ℕ) → List Sym → List ℕ
+symbolLines uses ss = text "symbols " ++ numeral (length ss) ++ text "\n" ++ linesFrom uses 0 ss
 
-unfoldable pub refusalLine : ℕ → ℕ → List ℕ
-refusalLine n p = text "refused " ++ decimal n ++ text " at " ++ decimal p ++ text "\n"
+-- the line of a refusal: number n, place p
+unfoldable pub refusal : ℕ → ℕ → List ℕ
+refusal n p = text "refused " ++ numeral n ++ text " at " ++ numeral p ++ text "\n"
 
 -- ---- what is printed for a forest, the main call being lent 65,535 output bytes
 
 unfoldable pub linesOf : Answer Written → Out → List ℕ
-linesOf (refused n p) o = refusalLine n p
+linesOf (refused n p) o = refusal n p
 linesOf (good w) (refused n p) = []
-linesOf (good w) (good o) = symbolLines (o .1 .syms)
+linesOf (good w) (good o) = symbolLines (usage (reachedOf o)) (o .1 .syms)
 
 unfoldable pub lister : List ℕ → List ℕ
 lister bs = linesOf (run (ample bs)) (interned bs)

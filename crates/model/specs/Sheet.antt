@@ -5,7 +5,7 @@
 -- `field N` of a selection; `literal` and the literal in hex, if it is not empty.
 -- An opcode's number means the operation that the ErgoTree specification gives it. Names are the paper's where it has
 -- one; an opcode's is otherwise that of its operation, spelled as the Rust spells it.
--- In order: names; numbers; what a record has; its line; trees; forests.
+-- In order: names; bytes and spaces; what a record has; its line; trees; forests.
 -- Assumes nothing.
 use Prim.Native.Nat.{ℕ, suc, _+_, _-_, _*_}
 use mathlib.Core.Bool.{true, false}
@@ -18,7 +18,7 @@ use Rattle.model.specs.Opcodes.{Const}
 use Rattle.model.specs.Binding.{Kind, valUse, valDef, block, lambda, field, other, kind, idOf, argIds}
 use Rattle.model.specs.Accept.{accept}
 use Rattle.model.specs.Text.{text}
-use Rattle.model.specs.Lister.{digits, hexByte}
+use Rattle.model.specs.Lister.{numeral, hexByte, refusal}
 
 -- ---- names: a table is a list of numbers with their names
 
@@ -61,11 +61,7 @@ opcodeNames =
     (0xEC, text "BIN_OR") ∷ (0xED, text "BIN_AND") ∷ (0xEF, text "LOGICAL_NOT") ∷ (0xF0, text "NEGATION") ∷
     (0xF4, text "BIN_XOR") ∷ (0xFE, text "Context") ∷ []
 
--- ---- numbers
-
--- in decimal, below 2^64: twenty digits are enough (an id may have ten, which is more than the lister's numbers have)
-unfoldable pub numeral : ℕ → List ℕ
-numeral n = digits 20 n []
+-- ---- bytes and spaces
 
 -- bytes in hex
 unfoldable pub hexBytes : List ℕ → List ℕ
@@ -136,10 +132,6 @@ unfoldable mutual
 -- of an accepted forest
 unfoldable pub forestLines : Trees → List ℕ
 forestLines ts = treesLines 0 1 ts
-
--- number n, place p
-unfoldable pub refusal : ℕ → ℕ → List ℕ
-refusal n p = text "refused " ++ numeral n ++ text " at " ++ numeral p ++ text "\n"
 
 -- the lines of a forest's records, or, where a check from 2 to 10 refuses it, the one line of that refusal
 unfoldable pub sheetOf : Answer Trees → List ℕ

@@ -17,7 +17,8 @@ use Rattle.model.specs.Tree.{Rec, rec}
 use Rattle.model.specs.Shape.{aArg}
 use Rattle.model.specs.Forest.{recordCount}
 use Rattle.model.specs.Binding.{block, other, kind, idOf, argIds}
-use Rattle.model.specs.Sheet.{named, classNames, shapeNames, numeral, hexBytes, idTexts, argsText, idText, classText}
+use Rattle.model.specs.Lister.{numeral}
+use Rattle.model.specs.Sheet.{named, classNames, shapeNames, hexBytes, idTexts, argsText, idText, classText}
 use Rattle.model.specs.Sheet.{ownText, literalText, placeText, opcodeText, recordLine}
 use Rattle.text.proofs.Numbers.{numeral-least, numeral-before}
 use Rattle.shape.specs.Args.{Left, nextArg, ArgEnd}

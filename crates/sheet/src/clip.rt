@@ -4,8 +4,8 @@
 ghost use Prim.Native.Nat.{_≤_};
 ghost use mathlib.Core.List.{[], _∷_};
 ghost use lib.ListN.{length, replicate};
-ghost use Rattle.model.specs.Lister.{hexByte};
-ghost use Rattle.model.specs.Sheet.{numeral, hexBytes};
+ghost use Rattle.model.specs.Lister.{numeral, hexByte};
+ghost use Rattle.model.specs.Sheet.{hexBytes};
 ghost use Rattle.sheet.specs.Clip.{Clipped};
 
 // Bytes in a row at `at`; the answer is the place after them. Rules out: none of them where there is room for some; the

@@ -1,5 +1,4 @@
--- Numbers as text. In order: the digits of a number; how many; one digit more; numbers of nine digits; hexadecimal
--- digits.
+-- Numbers as text. In order: the digits of a number; how many; one digit more; hexadecimal digits.
 -- Assumes nothing.
 use Prim.Native.Nat.{ℕ, zero, suc, _+_, _-_, _*_, _/_, _%_, _<_, _≤_}
 use mathlib.Core.Path.{_≡_, refl, sym, ap, _∙_}
@@ -10,8 +9,7 @@ use native.Mathlib.Omega.{arith}
 use lib.Dec.{ltb}
 use lib.ListN.{length, length-append}
 use borrow.Author.Tests.{lt-ltb, le-ltb, ltb-true, ltb-false}
-use Rattle.model.specs.Lister.{digits, decimal, hexDigit}
-use Rattle.text.specs.Text.{numeral}
+use Rattle.model.specs.Lister.{digits, numeral, hexDigit}
 
 -- ---- the digits of a number
 
@@ -72,10 +70,6 @@ pub numeral-length : (n : ℕ) → length (numeral n) ≤ 20
 unfolding numeral
 numeral-length n = digits-length 20 n []
 
-pub decimal-length : (n : ℕ) → length (decimal n) ≤ 9
-unfolding decimal
-decimal-length n = digits-length 9 n []
-
 -- ---- one digit more
 
 pub numeral-one : (n d : ℕ) → n < 10 → d ≡ 48 + n → (d ∷ []) ≡ numeral n
@@ -99,12 +93,6 @@ pub numeral-before : (n : ℕ) → 10 ≤ n → n < 18446744073709551616 → len
 numeral-before n l h =
     let e = numeral-more n (48 + n % 10) l h refl in
     omega (arith, ap length e, length-append (numeral (n / 10)) ((48 + n % 10) ∷ []))
-
--- ---- numbers of nine digits
-
-pub numeral-decimal : (n : ℕ) → n < 1000000000 → numeral n ≡ decimal n
-unfolding numeral decimal ten
-numeral-decimal n h = digits-enough 19 8 n [] (omega arith) (omega arith)
 
 -- ---- hexadecimal digits
 

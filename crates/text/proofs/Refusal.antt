@@ -1,20 +1,12 @@
--- The line of a refusal. In order: it is the one of model; its parts.
+-- The line of a refusal, by its parts.
 -- Assumes nothing.
-use Prim.Native.Nat.{ℕ, _<_}
+use Prim.Native.Nat.{ℕ}
 use mathlib.Core.Path.{_≡_, refl}
 use mathlib.Core.List.{List, [], _∷_}
 use Rattle.model.specs.Text.{text}
-use Rattle.model.specs.Lister.{refusalLine}
+use Rattle.model.specs.Lister.{numeral, refusal}
 use Rattle.output.specs.Output.{Wrote}
-use Rattle.text.specs.Text.{numeral, refusal}
-use Rattle.text.proofs.Numbers.{numeral-decimal}
 use Rattle.output.proofs.Wrote.{wrote-then}
-
-pub refusal-line : (n p : ℕ) → n < 1000000000 → p < 1000000000 → refusal n p ≡ refusalLine n p
-unfolding refusal refusalLine
-refusal-line n p h k = rw (numeral-decimal n h, numeral-decimal p k)
-
--- ---- its parts
 
 pub newline : (10 ∷ []) ≡ text "\n"
 unfolding text

@@ -5,9 +5,8 @@ ghost use mathlib.Core.Path.{_≡_};
 ghost use mathlib.Core.List.{[], _∷_};
 ghost use Prim.Native.Nat.{_+_, _<_, _≤_};
 ghost use lib.ListN.{length};
-ghost use Rattle.model.specs.Lister.{hexDigit, hexByte};
+ghost use Rattle.model.specs.Lister.{numeral, hexDigit, hexByte, refusal};
 ghost use Rattle.output.specs.Output.{Wrote};
-ghost use Rattle.text.specs.Text.{numeral, refusal};
 
 // Two bytes at `at`; the answer is the place after them. Rules out: the second first; the first alone.
 pub fn put_two(out: &mut [u8], at: usize, first: u8, second: u8) -> usize

@@ -13,7 +13,7 @@ const STACK: usize = 2 << 20;
 
 /// The main call works free lists out anew, as the original does, each in 0.06 to 0.2 µs on an AMD EPYC: so many take it
 /// up to a second. Their number doubles with each scope inside one that has a definition.
-const MAX_LISTS: u64 = 5_000_000;
+pub const MAX_LISTS: u64 = 5_000_000;
 const TOO_LONG: &str = "over 5,000,000 free lists for the main call";
 
 /// Words past those that the call uses.

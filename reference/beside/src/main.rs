@@ -1,7 +1,8 @@
-//! The proved main call beside the original; see `USAGE`.
+//! The proved main call and lister beside the original; see `USAGE`.
 
 mod compare;
 mod count;
+mod list;
 mod measure;
 
 use std::process::ExitCode;
@@ -11,13 +12,17 @@ usage: beside compare KIND COUNT [SEED [LEAST]]
                                           accepted forests of a kind through both
        beside damaged COUNT [SEED [LEAST]]
                                           refused forests through both
+       beside list KIND COUNT [SEED [LEAST [TELLING]]]
+                                          accepted forests of a kind, or refused ones where KIND is damaged, through the
+                                          program lister, its text beside the reading's; TELLING of them have to tell
+                                          what is counted: by the uses of all symbols they would have another text
        beside measure COUNT [SEED]        time of both, by class
        beside growth                      time of both, as scripts grow
        beside forests KIND COUNT SEED     the forests whose time is measured, in hex
        beside count SIDE                  forests in hex from standard input, each once through the original or the call,
                                           for tools/count_instructions.py
 A difference is printed with its forest, and the status is 1; so it is where fewer than LEAST forests were compared, which
-is COUNT unless it is said, and not 0.";
+is COUNT unless it is said, and not 0, or fewer than TELLING tell what is counted, which is 0 unless it is said.";
 
 fn main() -> ExitCode {
     let arguments: Vec<String> = std::env::args().skip(1).collect();
@@ -52,6 +57,22 @@ fn run(words: &[&str]) -> Option<bool> {
             let count = count.parse().ok()?;
             let least = number(rest.get(1), count).filter(|least| *least > 0)?;
             Some(compare::damaged(count, number(rest.first(), 1)?, least))
+        }
+        ["list", kind, count, rest @ ..] if rest.len() < 4 => {
+            let kind = match *kind {
+                "damaged" => None,
+                kind => Some(cse_reference::generate::Kind::parse(kind)?),
+            };
+            let count = count.parse().ok()?;
+            let seed = number(rest.first(), 1)?;
+            let least = number(rest.get(1), count).filter(|least| *least > 0)?;
+            Some(list::listed(
+                kind,
+                count,
+                seed,
+                least,
+                number(rest.get(2), 0)?,
+            ))
         }
         ["measure", count, rest @ ..] if rest.len() < 2 => {
             measure::classes(count.parse().ok()?, number(rest.first(), 1)?);

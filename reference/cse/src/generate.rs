@@ -46,10 +46,12 @@ pub enum Kind {
     /// Up to 63 scopes inside one another: out of the original's reach, whose time doubles with
     /// each. All other kinds stay at 12.
     Scopes,
+    /// Environment trees, few uses of what is defined, and fields: much that the root does not reach.
+    Unreached,
 }
 
 impl Kind {
-    pub const ALL: [Kind; 13] = [
+    pub const ALL: [Kind; 14] = [
         Kind::Small,
         Kind::Medium,
         Kind::Large,
@@ -63,6 +65,7 @@ impl Kind {
         Kind::Readings,
         Kind::Symbols,
         Kind::Scopes,
+        Kind::Unreached,
     ];
 
     pub fn name(self) -> &'static str {
@@ -80,6 +83,7 @@ impl Kind {
             Kind::Readings => "readings",
             Kind::Symbols => "symbols",
             Kind::Scopes => "scopes",
+            Kind::Unreached => "unreached",
         }
     }
 

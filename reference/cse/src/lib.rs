@@ -9,6 +9,7 @@ pub mod forest;
 pub mod generate;
 pub mod hex;
 pub mod limits;
+pub mod lister;
 pub mod notation;
 pub mod oracle;
 pub mod rows;

@@ -6,7 +6,8 @@ use std::process::ExitCode;
 use cse_reference::check::accept;
 use cse_reference::damage::damaged;
 use cse_reference::generate::{accepted, Kind};
-use cse_reference::oracle::{answer, lister, Answer, NoAnswer, MAX_OUTPUT, MIN_WORK_WORDS};
+use cse_reference::lister::lister;
+use cse_reference::oracle::{answer, Answer, NoAnswer, MAX_OUTPUT, MIN_WORK_WORDS};
 use cse_reference::{hex, notation, rows};
 
 const USAGE: &str = "\

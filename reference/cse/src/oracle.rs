@@ -1,13 +1,12 @@
-//! The main call and the lister of document 01, with the original deciding the tree.
+//! The main call of document 01, with the original deciding the tree.
 
 use std::fmt;
-use std::fmt::Write;
 use std::thread;
 
 use crate::check::{accept, Refusal};
 use crate::convert::{to_expr, to_tree};
 use crate::cost::{expansion, nesting, MAX_EXPANSION, MAX_NESTING};
-use crate::cse::{cse, Interner, KeyTag, SymId};
+use crate::cse::{cse, Interner, SymId};
 use crate::forest::{Forest, Tree};
 use crate::limits::{count, Counts};
 use crate::remembering;
@@ -234,7 +233,7 @@ fn second_shape(tree: &Tree, shapes: &mut [Option<u8>; 256]) -> Option<u8> {
 }
 
 /// The first half of `cse`: the environment trees, then the root.
-fn interned(forest: &Forest) -> (Interner, SymId) {
+pub(crate) fn interned(forest: &Forest) -> (Interner, SymId) {
     let mut interner = Interner::new();
     let symbols: Vec<SymId> = forest
         .trees
@@ -245,7 +244,7 @@ fn interned(forest: &Forest) -> (Interner, SymId) {
     (interner, root)
 }
 
-fn on_large_stack<T: Send>(work: impl FnOnce() -> T + Send) -> T {
+pub(crate) fn on_large_stack<T: Send>(work: impl FnOnce() -> T + Send) -> T {
     thread::scope(|scope| {
         thread::Builder::new()
             .stack_size(STACK)
@@ -254,41 +253,6 @@ fn on_large_stack<T: Send>(work: impl FnOnce() -> T + Send) -> T {
             .join()
             .unwrap_or_else(|panic| std::panic::resume_unwind(panic))
     })
-}
-
-/// The lister's text: a line a symbol, or what the main call refuses with.
-pub fn lister(forest: &[u8]) -> Result<Vec<u8>, NoAnswer> {
-    let answer = answer(forest, MAX_OUTPUT, MIN_WORK_WORDS)?;
-    if answer.number != 0 {
-        let line = format!("refused {} at {}\n", answer.number, answer.place);
-        return Ok(line.into_bytes());
-    }
-    let forest = accept(forest).expect("a forest with an answer is accepted");
-    Ok(on_large_stack(|| symbol_lines(&interned(&forest).0)).into_bytes())
-}
-
-fn symbol_lines(interner: &Interner) -> String {
-    let usage = interner.flat_usage();
-    let mut text = format!("symbols {}\n", interner.syms.len());
-    for (index, info) in interner.syms.iter().enumerate() {
-        let symbol = SymId(index as u32);
-        let (tag, opcode) = match info.key.tag {
-            KeyTag::Const => ('C', 0),
-            KeyTag::Unparsed => ('U', 0),
-            KeyTag::Arg => ('A', 0),
-            KeyTag::Op(opcode) => ('O', opcode),
-        };
-        let uses = usage.get(&symbol).copied().unwrap_or(0);
-        let hoist = if interner.should_hoist(symbol, &usage) {
-            'y'
-        } else {
-            'n'
-        };
-        let scope = info.scope;
-        writeln!(text, "{index} {tag} {opcode:02X} {scope} {uses} {hoist}")
-            .expect("a string takes all text");
-    }
-    text
 }
 
 #[cfg(test)]

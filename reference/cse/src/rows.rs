@@ -3,7 +3,8 @@
 use crate::damage::{damaged, each};
 use crate::forest::Forest;
 use crate::generate::{accepted, Kind, Rng};
-use crate::oracle::{answer, lister, Answer, NoAnswer, MAX_OUTPUT, MIN_WORK_WORDS};
+use crate::lister::lister;
+use crate::oracle::{answer, Answer, NoAnswer, MAX_OUTPUT, MIN_WORK_WORDS};
 use crate::trees::{alone, h};
 
 /// How often a forest is drawn again that is too large, was skipped, or has not the wanted answer.

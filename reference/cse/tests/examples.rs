@@ -1,7 +1,8 @@
 //! Every line of document 01, "Trees to compare".
 
 use cse_reference::forest::{Forest, Tree};
-use cse_reference::oracle::{answer, lister, Answer};
+use cse_reference::lister::lister;
+use cse_reference::oracle::{answer, Answer};
 use cse_reference::trees::*;
 use cse_reference::unfold::keeps_meaning;
 
@@ -169,28 +170,53 @@ fn the_lister() {
 }
 
 #[test]
-fn the_lister_knows_every_tag_and_counts_all_symbols() {
+fn the_lister_knows_every_tag() {
     let unparsed = node(1, 0x00, 0, &[9], vec![]);
     let body = p(p(k(), unparsed), p(val_use(7), val_use(7)));
     lists(
         &alone(lambda(&[7], body)),
         "symbols 7\n0 A 00 0 2 y\n1 C 00 0 1 n\n2 U 00 0 1 n\n3 O 9A 0 1 n\n4 O 9A 1 1 n\n5 O 9A 1 1 n\n6 O D9 0 0 n\n",
     );
-    // The second projection is in no written tree, and still a use of `z`.
+}
+
+#[test]
+fn the_lister_counts_from_the_root() {
+    // The second projection is not reached, and so no use of `z`.
     lists(
         &alone(s1(z())),
-        "symbols 3\n0 O FE 0 2 y\n1 O 8C 0 0 n\n2 O 8C 0 0 n\n",
+        "symbols 3\n0 O FE 0 1 n\n1 O 8C 0 0 n\n2 O 8C 0 0 n\n",
+    );
+    // Nothing uses the definition, whose value uses `z`.
+    lists(
+        &alone(block(vec![(1, p(z(), z()))], n(z()))),
+        "symbols 3\n0 O FE 0 1 n\n1 O 9A 0 0 n\n2 O F0 0 0 n\n",
+    );
+    // An environment tree uses `z` twice; the root is found in it, or uses `z` once more.
+    let environment = |root| Forest {
+        trees: vec![n(p(z(), z())), root],
+    };
+    lists(
+        &environment(p(z(), z())),
+        "symbols 3\n0 O FE 0 2 y\n1 O 9A 0 0 n\n2 O F0 0 0 n\n",
+    );
+    lists(
+        &environment(z()),
+        "symbols 3\n0 O FE 0 0 n\n1 O 9A 0 0 n\n2 O F0 0 0 n\n",
+    );
+    lists(
+        &environment(n(z())),
+        "symbols 4\n0 O FE 0 1 n\n1 O 9A 0 0 n\n2 O F0 0 0 n\n3 O F0 0 0 n\n",
     );
 }
 
 #[test]
 fn the_lister_counts_the_scopes_of_a_second_reading() {
-    // Scopes 1 and 2 open in the first reading, 3 and 4 in the second.
+    // Scopes 1 and 2 open in the first reading, 3 and 4 in the second, which alone the root reaches.
     let branches = if_(h(), n(z()), n(z()));
     lists(
         &alone(s1(tuple(vec![branches]))),
-        "symbols 14\n0 O A3 0 2 n\n1 O FE 1 1 n\n2 O F0 1 1 n\n3 O FE 2 1 n\n4 O F0 2 1 n\n\
-         5 O 95 0 1 n\n6 O 86 0 0 n\n7 O FE 3 1 n\n8 O F0 3 1 n\n9 O FE 4 1 n\n10 O F0 4 1 n\n\
+        "symbols 14\n0 O A3 0 1 n\n1 O FE 1 0 n\n2 O F0 1 0 n\n3 O FE 2 0 n\n4 O F0 2 0 n\n\
+         5 O 95 0 0 n\n6 O 86 0 0 n\n7 O FE 3 1 n\n8 O F0 3 1 n\n9 O FE 4 1 n\n10 O F0 4 1 n\n\
          11 O 95 0 1 n\n12 O 86 0 1 n\n13 O 8C 0 0 n\n",
     );
 }

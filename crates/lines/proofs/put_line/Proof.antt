@@ -3,7 +3,7 @@ use native.Mathlib.Omega.{arith}
 use borrow.Author.Needs.{needs}
 use denote.Ref.{now}
 use Rattle.lines.proofs.Line.{number-ends, columns-ends, line-parts, stored-node, stored-opcode, stored-scope}
-use Rattle.lines.proofs.Line.{stored-small, stored-from}
+use Rattle.lines.proofs.Line.{stored-from}
 use Rattle.lines.proofs.put_line.Statement.{statement}
 use Rattle.lines.proofs.put_line.Tie as tie
 
@@ -17,10 +17,8 @@ put-columns-requires c κs =
 put-number-requires : tie.Need-put-number-requires
 put-number-requires c κs =
     let w = c .before .before .before in
-    let l = w .before .before in
-    let s = l .before .before .before .before in
-    let small = stored-small _ _ _ (l .load .ensures) in
-    (omega arith, omega (arith, s .pre, w .put-columns .kept, columns-ends _ _ _ (w .put-columns .ensures)))
+    let s = w .before .before .before .before .before .before in
+    omega (arith, s .pre, w .put-columns .kept, columns-ends _ _ _ (w .put-columns .ensures))
 
 put-number-requires-2 : tie.Need-put-number-requires-2
 put-number-requires-2 c κs =
@@ -29,7 +27,7 @@ put-number-requires-2 c κs =
     let s = w .before .before .before .before .before .before in
     let e₁ = columns-ends _ _ _ (w .put-columns .ensures) in
     let e₂ = number-ends _ _ (v .put-number .ensures) in
-    (s .pre .1 .1 .0 .2, omega (arith, s .pre, w .put-columns .kept, v .put-number .kept))
+    omega (arith, s .pre, w .put-columns .kept, v .put-number .kept)
 
 should-hoist-requires : tie.Need-should-hoist-requires
 should-hoist-requires c κs =

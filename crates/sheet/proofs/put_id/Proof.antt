@@ -2,7 +2,7 @@
 use mathlib.Core.Path.{ap}
 use borrow.Author.Needs.{needs}
 use Rattle.model.specs.Text.{text}
-use Rattle.model.specs.Sheet.{numeral}
+use Rattle.model.specs.Lister.{numeral}
 use Rattle.sheet.proofs.Clipping.{clipped-then, clipped-as}
 use Rattle.sheet.proofs.put_id.Statement.{statement}
 use Rattle.sheet.proofs.put_id.Tie as tie

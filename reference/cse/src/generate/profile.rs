@@ -181,6 +181,14 @@ impl Profile {
                 forms: mixed.with(&[(Form::If, 80), (Form::AndOr, 150), (Form::Lambda, 150)]),
                 ..mixed
             },
+            Kind::Unreached => Profile {
+                records: (6, 80),
+                environment: 100,
+                copies: 35,
+                uses: 25,
+                forms: mixed.with(&[(Form::Block, 35), (Form::Select, 30), (Form::Two, 30)]),
+                ..mixed
+            },
             // The last three are made elsewhere, by counting.
             Kind::Small | Kind::NearLimit | Kind::Readings | Kind::Symbols => mixed,
         }

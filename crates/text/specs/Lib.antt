@@ -1,2 +1,0 @@
--- What the contracts cite. Assumes nothing.
-pub mod Text

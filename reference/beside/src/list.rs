@@ -1,0 +1,129 @@
+//! Forests through the program lister, its text beside that of the reading.
+
+use std::io::{self, Write};
+use std::path::Path;
+use std::process::{Command, Stdio};
+use std::thread;
+
+use cse_reference::damage::damaged;
+use cse_reference::generate::{accepted, Kind};
+use cse_reference::hex;
+use cse_reference::lister::listing;
+use cse_reference::oracle::NoAnswer;
+
+use crate::compare::MAX_LISTS;
+
+/// The program, once `rt check` or `rt ci` has built it.
+const LISTER: &str = concat!(env!("CARGO_MANIFEST_DIR"), "/../../target/bin/lister");
+
+/// What came of a run, in forests.
+#[derive(Default)]
+struct Tally {
+    /// Those whose texts were compared.
+    compared: u64,
+    /// Of these, those that are refused.
+    refused: u64,
+    /// Those with a symbol of an environment tree that the root does not reach.
+    unreached: u64,
+    /// Those with a definition that nothing uses.
+    unused: u64,
+    /// Those whose text would be another if the uses by all symbols counted.
+    telling: u64,
+    /// Those that were not compared: too much work for a side.
+    skipped: u64,
+    differences: Vec<String>,
+}
+
+impl Tally {
+    fn join(&mut self, other: Tally) {
+        self.compared += other.compared;
+        self.refused += other.refused;
+        self.unreached += other.unreached;
+        self.unused += other.unused;
+        self.telling += other.telling;
+        self.skipped += other.skipped;
+        self.differences.extend(other.differences);
+    }
+}
+
+/// Forests of a kind, or damaged ones where there is none. Whether no text differed, at least so many were compared, and
+/// so many tell what is counted.
+pub fn listed(kind: Option<Kind>, count: u64, seed: u64, least: u64, telling: u64) -> bool {
+    let bytes = move |seed| match kind {
+        Some(kind) => accepted(seed, kind).to_bytes(),
+        None => damaged(seed).bytes,
+    };
+    let half = move |first: u64| {
+        let mut tally = Tally::default();
+        for seed in (seed + first..seed + count).step_by(2) {
+            compare(&bytes(seed), &mut tally);
+        }
+        tally
+    };
+    let other = thread::spawn(move || half(1));
+    let mut tally = half(0);
+    tally.join(other.join().expect("no comparison panics"));
+    let name = kind.map_or("damaged", Kind::name);
+    for line in tally.differences.iter().take(20) {
+        println!("{name}: DIFFERENCE {line}");
+    }
+    println!(
+        "{name}: {} texts compared, at least {least} asked for, {} passed over; {} refusals, {} with unreached symbols of environment trees, \
+         {} with unused definitions, {} that tell what is counted, at least {telling} asked for; {} differences",
+        tally.compared,
+        tally.skipped,
+        tally.refused,
+        tally.unreached,
+        tally.unused,
+        tally.telling,
+        tally.differences.len()
+    );
+    tally.differences.is_empty() && tally.compared >= least && tally.telling >= telling
+}
+
+fn compare(forest: &[u8], tally: &mut Tally) {
+    let expected = match listing(forest) {
+        Ok(listing) if listing.work.map_or(0, |work| work.lists) <= MAX_LISTS => listing,
+        Ok(_) | Err(NoAnswer::Skipped(_)) => {
+            tally.skipped += 1;
+            return;
+        }
+        Err(other) => {
+            tally
+                .differences
+                .push(format!("{other}: {}", hex::print(forest)));
+            return;
+        }
+    };
+    tally.compared += 1;
+    tally.refused += u64::from(expected.text.starts_with("refused"));
+    tally.unreached += u64::from(expected.unreached);
+    tally.unused += u64::from(expected.unused);
+    tally.telling += u64::from(expected.telling);
+    match lister(forest) {
+        Ok(text) if text == expected.text.as_bytes() => {}
+        Ok(text) => tally.differences.push(format!(
+            "{:?} and not {:?}: {}",
+            String::from_utf8_lossy(&text),
+            expected.text,
+            hex::print(forest)
+        )),
+        Err(error) => tally.differences.push(format!("{LISTER}: {error}")),
+    }
+}
+
+/// What the program prints.
+fn lister(forest: &[u8]) -> io::Result<Vec<u8>> {
+    let mut child = Command::new(Path::new(LISTER))
+        .stdin(Stdio::piped())
+        .stdout(Stdio::piped())
+        .spawn()?;
+    let mut stdin = child.stdin.take().expect("it is piped");
+    stdin.write_all(forest)?;
+    drop(stdin);
+    let output = child.wait_with_output()?;
+    match output.status.success() {
+        true => Ok(output.stdout),
+        false => Err(io::Error::other(output.status.to_string())),
+    }
+}
