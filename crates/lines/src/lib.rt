@@ -17,7 +17,7 @@ ghost use Rattle.gate.specs.Gate.{usesAt};
 ghost use Rattle.output.specs.Output.{Wrote};
 ghost use Rattle.lines.specs.Lines.{columns, linesTo, Listable};
 
-// A number and the byte after it.
+// A number, of at most twenty digits, and the byte after it.
 fn put_number(out: &mut [u8], at: usize, n: u32, after: u8) -> usize
     requires { ⌜ at + 21 ≤ length (now out) ⌝ }
     ensures { λ r. ⌜ Wrote (now (out .entry)) at (numeral n ++ (after ∷ [])) (now (out .exit)) r ⌝ }

@@ -8,10 +8,9 @@ use mathlib.Core.List.{List}
 use Prim.Native.Nat.{ℕ, _≤_}
 use native.Mathlib.Omega.{arith}
 use Rattle.model.specs.Lists.{isIn}
-use Rattle.model.specs.Answer.{Answer, refused}
-use Rattle.model.specs.Call.{Call, Written, run, Numbers, numbersOf, numbers}
+use Rattle.model.specs.Answer.{Answer}
+use Rattle.model.specs.Call.{Call, Written, Numbers, numbersOf, numbers}
 use Rattle.model.specs.Conditions.{Applies, NoneApplies, FirstApplies, order}
-use Rattle.laws.proofs.Apart.{refused-good, refused-parts}
 use Rattle.laws.proofs.Members.{isIn-false}
 use Rattle.laws.proofs.Checks.{Check, Passes, FirstAt, passes-or-first, passes-exactly}
 use Rattle.laws.proofs.Checks.{first-exactly}
@@ -42,17 +41,6 @@ module _ (c : Call) where
   first-numbers n p f =
       let e = ap numbersOf (call-first c n p f) in
       (ap (λ (z : Numbers). z .number) e, ap (λ (z : Numbers). z .place) e)
-
-  pub refused-applies : (n p : ℕ) → run c ≡ refused n p → FirstApplies c n p
-  refused-applies n p e = go (passes-or-first all)
-    where
-      go : Passes all ⊎ ((m : ℕ) × (q : ℕ) × FirstAt m q all) → FirstApplies c n p
-      go (inl h) = refused-good (sym e ∙ call-passes c h .1 .2)
-      go (inr (m, q, f)) =
-          let z = refused-parts (sym (call-first c m q f) ∙ e) in
-          let en : m ≡ n = z .0 in
-          let ep : q ≡ p = z .1 in
-          rw (en, ep) at (first-both m q .0 f)
 
   -- no refusal has number 0
   not-0 : (p : ℕ) → FirstAt 0 p all → ⊥
