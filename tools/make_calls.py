@@ -5,7 +5,7 @@ Usage: make_calls.py   (anywhere; needs cargo)
 
 Writes crates/replay/stdin and stdout. A row is eight 32-bit little-endian numbers: forest's length, output's length, work words, and the
 five numbers of the answer; then the forest, then the written tree. The forests:
-  - of each kind that `cse-reference generate` makes, some, with the longest output and 16,384 work words; of those that are written, some
+  - of each kind listed below, some that `cse-reference generate` makes, with the longest output and 16,384 work words; of those that are written, some
     once more with an output exactly as long as the tree, a byte shorter, and none, and with 16,390 words;
   - damaged in a known way, some for each of refusals 2 to 10;
   - the trees that document 01 lists for comparison, in its notation;

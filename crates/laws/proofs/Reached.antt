@@ -1,5 +1,6 @@
--- What is reached from a root. In order: what is seen is reached; what holds of the seen and of children of what it
--- holds of; where children are lower: what a step of `reach` adds, and that children of what is reached are reached.
+-- What is reached from a root. In order: what is seen is reached; a property of what is seen that children take over
+-- holds of all that is reached. Where children are lower: a step of `reach` adds lower symbols only; children of what is
+-- reached are reached.
 -- Assumes nothing.
 use Prim.Native.Nat.{ℕ, zero, suc, _<_, _≤_}
 use mathlib.Core.Path.{_≡_, refl}
@@ -13,19 +14,15 @@ use Rattle.model.specs.Intern.{Sym, symAt}
 use Rattle.model.specs.Gate.{reach}
 use Rattle.laws.specs.Members.{In, Every, Under}
 use Rattle.laws.proofs.Members.{isIn-true, isIn-false, not-in-isIn, union-left, union-right, union-cases}
+use Rattle.laws.proofs.Walks.{if-holds}
 
 module _ (ss : List Sym) where
   pub reach-keeps : (m : ℕ) (seen : List ℕ) (a : ℕ) → In a seen → In a (reach ss m seen)
   unfolding reach
   reach-keeps zero seen a h = h
   reach-keeps (suc m) seen a h =
-      go (isIn m seen) (reach-keeps m (union seen (symAt ss m .kids)) a (union-left a seen (symAt ss m .kids) h))
-      (reach-keeps m seen a h)
-    where
-      go : (t : Bool) → In a (reach ss m (union seen (symAt ss m .kids))) → In a (reach ss m seen) →
-          In a (elim t [ true ↦ reach ss m (union seen (symAt ss m .kids)) | false ↦ reach ss m seen ])
-      go true x y = x
-      go false x y = y
+      if-holds (In a) (isIn m seen) _ _
+      (reach-keeps m (union seen (symAt ss m .kids)) a (union-left a seen (symAt ss m .kids) h)) (reach-keeps m seen a h)
 
   pub reach-every : (P : ℕ → Type 0) → ((t : ℕ) → P t → Every P (symAt ss t .kids)) → (m : ℕ) (seen : List ℕ) →
       Every P seen → Every P (reach ss m seen)
@@ -42,7 +39,7 @@ module _ (ss : List Sym) where
           x (λ a i. ⊎-elim (h a) (down m (h m (isIn-true m seen e)) a) (union-cases a seen (symAt ss m .kids) i))
       go false e x y = y
 
-  -- numbers below m only, where children are lower
+  -- where children are lower
   module _ (n : ℕ) (low : (t : ℕ) → t < n → Under t (symAt ss t .kids)) where
     reach-adds : (m : ℕ) → m ≤ n → (seen : List ℕ) (a : ℕ) → In a (reach ss m seen) → In a seen ⊎ (a < m)
     unfolding reach

@@ -27,10 +27,9 @@ use Rattle.cse.specs.declared.Answer.the-variants.{Written, Refused}
 use Rattle.cse.specs.Call.{five, numbersIn, Tells}
 use Rattle.cse.proofs.Telling.{run-enough}
 
--- after number 0 the forest is accepted and its symbols are made
+-- after number 0 the forest's symbols are made
 pub record Made (c : Call) : Type 0 where
   pub out : ℕ × State
-  pub accepted : accept (c .forest) ≡ good (treesOf (c .forest))
   pub interns : interned (c .forest) ≡ good out
   pub runs : run c ≡ good (writtenOf out)
 
@@ -79,5 +78,5 @@ module _ (c : Call) (r : Answer) (is : numbersIn r ≡ numbers c) where
   told-written len symbols readings e =
       let zero : numbers c .number ≡ 0 = sym (ap (λ (z : Numbers). z .number) (ap numbersIn (sym e) ∙ is)) in
       let w = call-passes c (zero-passes c zero) in
-      let accepts = passes-checked _ (treesOf (c .forest)) (w .0) in
-      record { out = w .1 .0; accepted = accepts; interns = rw accepts (w .1 .1); runs = w .1 .2 }
+      let accepts : accept (c .forest) ≡ good (treesOf (c .forest)) = passes-checked _ (treesOf (c .forest)) (w .0) in
+      record { out = w .1 .0; interns = rw accepts (w .1 .1); runs = w .1 .2 }
