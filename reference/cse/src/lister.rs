@@ -8,12 +8,14 @@ use crate::cse::{Interner, KeyTag, SymId};
 use crate::forest::{Forest, Tree};
 use crate::generate::records::{BLOCK_VALUE, VAL_DEF, VAL_USE};
 use crate::oracle::{
-    answer_deep, interned, on_large_stack, NoAnswer, Work, MAX_OUTPUT, MIN_WORK_WORDS,
+    answer_deep, by_original, interned, on_large_stack, NoAnswer, Work, MAX_OUTPUT, MIN_WORK_WORDS,
 };
 
-/// The lister's text: a line a symbol, or what the main call refuses with.
+/// The lister's text: a line a symbol, or what the main call refuses with. By the original, as far as it ends in time.
 pub fn lister(forest: &[u8]) -> Result<Vec<u8>, NoAnswer> {
-    Ok(listing(forest)?.text.into_bytes())
+    let listing = listing(forest)?;
+    by_original(listing.work)?;
+    Ok(listing.text.into_bytes())
 }
 
 /// The lister's text, and what in the forest its counts hang on.
@@ -30,6 +32,7 @@ pub struct Listing {
     pub work: Option<Work>,
 }
 
+/// The same, however deep scopes are nested.
 pub fn listing(forest: &[u8]) -> Result<Listing, NoAnswer> {
     let told = answer_deep(forest, MAX_OUTPUT, MIN_WORK_WORDS)?;
     if told.answer.number != 0 {
