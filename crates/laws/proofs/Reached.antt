@@ -45,7 +45,8 @@ module _ (ss : List Sym) where
     unfolding reach
     reach-adds zero l seen a h = inl h
     reach-adds (suc m) l seen a h =
-        go (isIn m seen) (λ k. more (reach-adds m (omega arith) (union seen (symAt ss m .kids)) a k))
+        if-holds (λ (xs : List ℕ). In a xs → In a seen ⊎ (a < suc m)) (isIn m seen) _ _
+        (λ k. more (reach-adds m (omega arith) (union seen (symAt ss m .kids)) a k))
         (λ k. up (reach-adds m (omega arith) seen a k)) h
       where
         up : In a seen ⊎ (a < m) → In a seen ⊎ (a < suc m)
@@ -59,13 +60,6 @@ module _ (ss : List Sym) where
         more : In a (union seen (symAt ss m .kids)) ⊎ (a < m) → In a seen ⊎ (a < suc m)
         more (inl i) = both (union-cases a seen (symAt ss m .kids) i)
         more (inr k) = inr (omega arith)
-
-        go : (t : Bool) → (In a (reach ss m (union seen (symAt ss m .kids))) → In a seen ⊎ (a < suc m)) →
-            (In a (reach ss m seen) → In a seen ⊎ (a < suc m)) →
-            In a (elim t [ true ↦ reach ss m (union seen (symAt ss m .kids)) | false ↦ reach ss m seen ]) →
-            In a seen ⊎ (a < suc m)
-        go true x y k = x k
-        go false x y k = y k
 
     -- what is not seen before its turn is not reached
     pub reach-misses : (m : ℕ) → m < n → (seen : List ℕ) → isIn m seen ≡ false → isIn m (reach ss m seen) ≡ false
@@ -91,7 +85,8 @@ module _ (ss : List Sym) where
     reach-closed zero l seen t k lt i j = absurd (omega arith)
     reach-closed (suc m) l seen t k lt i j =
         let le : t ≤ m = omega arith in
-        ⊎-elim (λ e. last e (isIn m seen) refl i) (λ lo. lower (isIn m seen)
+        ⊎-elim (λ e. last e (isIn m seen) refl i)
+        (λ lo. if-holds (λ (xs : List ℕ). In t xs → In k xs) (isIn m seen) _ _
         (λ x. reach-closed m (omega arith) (union seen (symAt ss m .kids)) t k lo x j)
         (λ x. reach-closed m (omega arith) seen t k lo x j) i) (eq-or-lt-of-le le)
       where
@@ -104,9 +99,3 @@ module _ (ss : List Sym) where
             reach-keeps m (union seen (symAt ss m .kids)) k (union-right k seen (symAt ss m .kids) (rw e at j))
         last e false f x =
             absurd (isIn-false m (reach ss m seen) (reach-misses m (omega arith) seen f) (rw e at x))
-
-        lower : (b : Bool) → (In t more → In k more) → (In t (reach ss m seen) → In k (reach ss m seen)) →
-            In t (elim b [ true ↦ more | false ↦ reach ss m seen ]) →
-            In k (elim b [ true ↦ more | false ↦ reach ss m seen ])
-        lower true f g x = f x
-        lower false f g x = g x

@@ -46,7 +46,7 @@ interned bs = do
   ts ← accept bs
   internLast (internForest ts)
 
--- what is reached from the root's symbol, whose uses the gate and the lister count
+-- the symbols and scopes, with what the root's symbol reaches of them: by it the gate and the lister count uses
 abbrev pub reachedOf : ℕ × State → Graph
 reachedOf o = reachable (o .1 .syms) (o .1 .scopes) (o .0)
 

@@ -71,6 +71,7 @@ refusal n p = text "refused " ++ numeral n ++ text " at " ++ numeral p ++ text "
 
 -- ---- what is printed for a forest, the main call being lent 65,535 output bytes
 
+-- usage is `flat_usage_reachable` from the root, which is the gate's own count (request A.2), and y is said at it
 unfoldable pub linesOf : Answer Written → Out → List ℕ
 linesOf (refused n p) o = refusal n p
 linesOf (good w) (refused n p) = []

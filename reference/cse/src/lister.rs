@@ -32,7 +32,7 @@ pub struct Listing {
     pub work: Option<Work>,
 }
 
-/// The same, however deep scopes are nested.
+/// The lister's text with these, however deep scopes are nested.
 pub fn listing(forest: &[u8]) -> Result<Listing, NoAnswer> {
     let told = answer_deep(forest, MAX_OUTPUT, MIN_WORK_WORDS)?;
     if told.answer.number != 0 {
