@@ -8,7 +8,7 @@ use native.Mathlib.Omega.{arith}
 use lib.Dec.{eqb, ltb}
 use borrow.Author.Tests.{eq-eqb, ne-eqb, lt-ltb, le-ltb}
 use Rattle.model.specs.Lists.{isIn}
-use Rattle.model.specs.Tree.{Rec}
+use Rattle.model.specs.Tree.{Rec, class}
 use Rattle.model.specs.Forest.{recordCount}
 use Rattle.model.specs.Intern.{Sym, symAt}
 use Rattle.model.specs.Gate.{isContextProperty, isInternal, isConst, shouldHoist}
@@ -52,7 +52,7 @@ module _ (bs : List ℕ) (i field : ℕ) (y : Sym) (is : y .rec ≡ keyRec bs i 
       let a : y .rec .aux ≡ 0 = ap (λ (r : Rec). r .aux) (is ∙ key-field bs i field f) in
       rw (shape-is, eq-eqb (rowAt bs i .rec .shape) 0 h, a)
 
-  pub const-plain : rowAt bs i .rec .shape ≡ 0 → field ≡ 0 → ltb (rowAt bs i .rec .aux) 6 ≡ isConst y
+  pub const-plain : rowAt bs i .rec .shape ≡ 0 → field ≡ 0 → ltb (class (rowAt bs i .rec .aux)) 6 ≡ isConst y
   unfolding isConst
   const-plain h f =
       let a : y .rec .aux ≡ rowAt bs i .rec .aux = ap (λ (r : Rec). r .aux) (is ∙ key-plain bs i field f) in

@@ -34,7 +34,7 @@ use Rattle.model.specs.Text.{text}
 use Rattle.model.specs.Lister.{digits, numeral, hexDigit, hexByte, tagOf, opcodeShown, yesNo, line, linesFrom}
 use Rattle.model.specs.Lister.{symbolLines, refusal, linesOf, lister}
 use Rattle.model.specs.Sheet.{named, shapeNames, classNames, opcodeNames, hexBytes, idTexts, argsText}
-use Rattle.model.specs.Sheet.{idText, classText, ownText, literalText, placeText, opcodeText, recordLine}
+use Rattle.model.specs.Sheet.{idText, markText, constText, ownText, literalText, placeText, opcodeText, recordLine}
 use Rattle.model.specs.Sheet.{treeLines, forestLines, sheetOf, sheet}
 
 unfoldable pub bytes-and-trees : Unit {0}
@@ -77,7 +77,7 @@ unfolding text digits numeral hexDigit hexByte tagOf opcodeShown yesNo line line
 listing = tt
 
 unfoldable pub showing : Unit {0}
-unfolding named shapeNames classNames opcodeNames hexBytes idTexts argsText idText classText ownText literalText
+unfolding named shapeNames classNames opcodeNames hexBytes idTexts argsText idText markText constText ownText literalText
     placeText opcodeText recordLine treeLines forestLines sheetOf sheet
 showing = tt
 

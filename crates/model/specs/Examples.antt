@@ -1,7 +1,7 @@
 -- "Trees to compare": those marked M, in one table with one proposition about it; h as bytes, both ways; the lister's
--- lines of p(z,z), and of forests that tell what is counted.
+-- lines of p(z,z), and of forests that tell what is counted; constants with marks.
 -- Assumes nothing.
-use Prim.Native.Nat.{ℕ}
+use Prim.Native.Nat.{ℕ, _+_, _*_}
 use mathlib.Core.Path.{_≡_, refl}
 use mathlib.Core.Bool.{Bool, true, false, _&&_}
 use mathlib.Core.List.{List, [], _∷_, _++_}
@@ -27,13 +27,19 @@ z = node (rec 2 0xFE 0 []) nil
 abbrev pub h : Tree
 h = node (rec 2 0xA3 0 []) nil
 
--- an SInt
-abbrev pub k : Tree
-k = node (rec 0 0 3 (4 ∷ 2 ∷ [])) nil
+-- an SInt, with a mark
+abbrev pub kOf : ℕ → Tree
+kOf m = node (rec 0 0 (3 + 7 * m) (4 ∷ 2 ∷ [])) nil
 
--- an other-class constant
+abbrev pub k : Tree
+k = kOf 0
+
+-- an other-class constant, with a mark
+abbrev pub xOf : ℕ → Tree
+xOf m = node (rec 0 0 (6 + 7 * m) (7 ∷ 1 ∷ [])) nil
+
 abbrev pub x : Tree
-x = node (rec 0 0 6 (7 ∷ 1 ∷ [])) nil
+x = xOf 0
 
 -- One under F0
 abbrev pub n : Tree → Tree
@@ -96,6 +102,18 @@ table =
     (one (L 1 (L 1 (u 1))), no 9 1) ∷
     []
 
+-- with marks (request A.5): scalars of two marks; others of equal marks, of two, of 0 and the greatest; aux 251 and 252
+pub marked : List (Trees × Want)
+marked =
+    (one (p (kOf 1) (kOf 1)), tree (p (kOf 1) (kOf 1)) 3) ∷
+    (one (p (kOf 1) (kOf 2)), tree (p (kOf 1) (kOf 2)) 3) ∷
+    (one (p (xOf 1) (xOf 1)), tree (block1 1 (xOf 1) (p (u 1) (u 1))) 3) ∷
+    (one (p (xOf 1) (xOf 2)), tree (p (xOf 1) (xOf 2)) 3) ∷
+    (one (p x (xOf 35)), tree (p x (xOf 35)) 3) ∷
+    (one (p z (node (rec 0 0 251 (7 ∷ [])) nil)), tree (p z (node (rec 0 0 251 (7 ∷ [])) nil)) 3) ∷
+    (one (p z (node (rec 0 0 252 (7 ∷ [])) nil)), no 4 2) ∷
+    []
+
 -- an answer is what is wanted: the bytes of the wanted tree and its readings, or the refusal
 pub holds : Answer Written → Want → Bool
 holds (good w) (tree t rs) = same (w .bytes) (serialise (one t)) && eqb (w .readings) rs
@@ -115,6 +133,10 @@ all (r ∷ rs) = right r && all rs
 pub examples : all table ≡ true
 unfolding all table
 examples = refl
+
+pub examples-marked : all marked ≡ true
+unfolding all marked
+examples-marked = refl
 
 -- ---- h as bytes, both ways
 
@@ -140,6 +162,12 @@ pub lines-unreached : lister (serialise (cons (n (p z z)) (one (n z)))) ≡
     text "symbols 4\n0 O FE 0 1 n\n1 O 9A 0 0 n\n2 O F0 0 0 n\n3 O F0 0 0 n\n"
 unfolding computing
 lines-unreached = refl
+
+-- two marks, two symbols, and none has y
+pub lines-marked : lister (serialise (one (p (xOf 1) (xOf 2)))) ≡
+    text "symbols 3\n0 C 00 0 1 n\n1 C 00 0 1 n\n2 O 9A 0 0 n\n"
+unfolding computing
+lines-marked = refl
 
 -- an argument that is used twice has y, though it gets no definition
 pub lines-argument : lister (serialise (one (L 7 (p (u 7) (u 7))))) ≡

@@ -6,6 +6,7 @@ use mathlib.Core.Bool.{Bool, true, false, not, _&&_}
 use mathlib.Core.List.{List, [], _∷_, _++_}
 use lib.Dec.{eqb, ltb}
 use Rattle.model.specs.Lists.{isIn, union, count}
+use Rattle.model.specs.Tree.{class}
 use Rattle.model.specs.Opcodes.{Const, HeightOp, InputsOp, OutputsOp, SelfBoxOp, GlobalOp}
 use Rattle.model.specs.Intern.{Sym, Scope, symAt}
 
@@ -46,9 +47,9 @@ isContextProperty s = isIn (s .rec .opcode) (HeightOp ∷ InputsOp ∷ OutputsOp
 unfoldable pub isInternal : Sym → Bool
 isInternal s = eqb (s .rec .opcode) GlobalOp
 
--- a constant of a primitive class, SBoolean to SString
+-- a constant of a primitive class, SBoolean to SString, whatever its mark
 unfoldable pub isConst : Sym → Bool
-isConst s = eqb (s .rec .shape) Const && ltb (s .rec .aux) 6
+isConst s = eqb (s .rec .shape) Const && ltb (class (s .rec .aux)) 6
 
 unfoldable pub shouldHoist : Sym → ℕ → Bool
 shouldHoist s uses = ltb 1 uses && not (isContextProperty s) && not (isInternal s) && not (isConst s)

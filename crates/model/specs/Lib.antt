@@ -23,6 +23,7 @@ pub mod Nesting
 pub mod Trace
 pub mod Conditions
 pub mod Demand3
+pub mod Parameters
 pub mod Text
 pub mod Lister
 pub mod Sheet

@@ -87,8 +87,8 @@ free = 65535
 
 unfoldable pub shapes : List Shape
 shapes =
-    -- 0 Const: aux is the class, 0 to 6
-    record { least = 0; most = 0; aux = 6; right = λ a bs. leb 1 (length bs) } ∷
+    -- 0 Const: aux is the class, 0 to 6, plus 7 × the mark, 0 to 35
+    record { least = 0; most = 0; aux = 251; right = λ a bs. leb 1 (length bs) } ∷
     -- 1 Unparsed
     record { least = 0; most = 0; aux = 0; right = λ a bs. true } ∷
     -- 2 Zero, 3 One, 4 Two, 5 Three, 6 Four

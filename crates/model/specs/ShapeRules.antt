@@ -5,7 +5,7 @@
 use mathlib.Core.Path.{_≡_}
 use mathlib.Core.Logic.{_⊎_}
 use mathlib.Core.List.{List, [], _∷_, _++_}
-use Prim.Native.Nat.{ℕ, zero, suc, _≤_, _<_}
+use Prim.Native.Nat.{ℕ, zero, suc, _+_, _*_, _≤_, _<_}
 use lib.ListN.{length, getD}
 use Rattle.model.specs.Bytes.{u32}
 use Rattle.model.specs.Tree.{Row}
@@ -54,8 +54,8 @@ Bits bs = (i : ℕ) → i < length bs → getD bs i 0 < 2
 
 -- `Right shape children aux literal`. "Free" is any 16-bit count. "Aux is 0 but for shapes 0 and 12"
 pub data Right : ℕ → ℕ → ℕ → List ℕ → Type 0 where
-  -- "0 Const: 0; at least 1 byte; aux is the class", 0 to 6
-  is-0 : {a : ℕ} {bs : List ℕ} → a ≤ 6 → 1 ≤ length bs → Right 0 0 a bs
+  -- "0 Const: 0; at least 1 byte"; "a mark from 0 to 35: aux becomes class plus 7 × mark", the class 0 to 6
+  is-0 : {c m : ℕ} {bs : List ℕ} → c ≤ 6 → m ≤ 35 → 1 ≤ length bs → Right 0 0 (c + 7 * m) bs
   -- "1 Unparsed: 0; free"
   is-1 : {bs : List ℕ} → Right 1 0 0 bs
   -- "2 to 6 Zero, One, Two, Three, Four: 0 to 4; empty"

@@ -1,19 +1,19 @@
 -- The sheet of a forest, which `show` prints: a line a record, as bytes; each line ends with a newline.
 -- A line: the record's number, right-aligned in three columns; twice as many spaces as its depth (a root has depth 1);
 -- its shape's name; its opcode in hex, and the opcode's name where the shape does not say it. Then, each after two
--- spaces, what the record has of these: a constant's class; `id N` of a use or a definition; `args N N` of a lambda;
--- `field N` of a selection; `literal` and the literal in hex, if it is not empty.
+-- spaces, what the record has of these: a constant's class, and `mark N` if its mark is not 0; `id N` of a use or a
+-- definition; `args N N` of a lambda; `field N` of a selection; `literal` and the literal in hex, if it is not empty.
 -- An opcode's number means the operation that the ErgoTree specification gives it. Names are the paper's where it has
 -- one; an opcode's is otherwise that of its operation, spelled as the Rust spells it.
 -- In order: names; bytes and spaces; what a record has; its line; trees; forests.
 -- Assumes nothing.
-use Prim.Native.Nat.{ℕ, suc, _+_, _-_, _*_}
+use Prim.Native.Nat.{ℕ, zero, suc, _+_, _-_, _*_}
 use mathlib.Core.Bool.{true, false}
 use mathlib.Core.List.{List, [], _∷_, _++_}
 use lib.Dec.{eqb}
 use lib.ListN.{length, getD, replicate}
 use Rattle.model.specs.Answer.{Answer, refused, good}
-use Rattle.model.specs.Tree.{Rec, Tree, Trees, node, nil, cons, size}
+use Rattle.model.specs.Tree.{Rec, class, mark, Tree, Trees, node, nil, cons, size}
 use Rattle.model.specs.Opcodes.{Const}
 use Rattle.model.specs.Binding.{Kind, valUse, valDef, block, lambda, field, other, kind, idOf, argIds}
 use Rattle.model.specs.Accept.{accept}
@@ -40,7 +40,7 @@ shapeNames =
     (20, text "DeserializeContext") ∷ (21, text "DeserializeRegister") ∷ (22, text "SigmaCollection") ∷
     (23, text "NoneValue") ∷ (24, text "ByIndex") ∷ (25, text "NumericCast") ∷ (26, text "FuncApply") ∷ []
 
--- of constants, by aux
+-- of constants' classes
 unfoldable pub classNames : Names
 classNames =
     (0, text "SBoolean") ∷ (1, text "SByte") ∷ (2, text "SShort") ∷ (3, text "SInt") ∷ (4, text "SLong") ∷
@@ -86,9 +86,14 @@ argsText (i ∷ is) = text "  args" ++ idTexts (i ∷ is)
 unfoldable pub idText : Rec → List ℕ
 idText r = text "  id " ++ numeral (idOf r)
 
+-- a mark, if it is not 0
+unfoldable pub markText : ℕ → List ℕ
+markText zero = []
+markText (suc m) = text " mark " ++ numeral (suc m)
+
 -- of a constant
-unfoldable pub classText : Rec → List ℕ
-classText r = elim (eqb (r .shape) Const) [ true ↦ named (text "  ") classNames (r .aux) | false ↦ [] ]
+unfoldable pub constText : ℕ → List ℕ
+constText aux = named (text "  ") classNames (class aux) ++ markText (mark aux)
 
 unfoldable pub ownText : Rec → List ℕ
 ownText r = elim (kind (r .shape)) [
@@ -97,7 +102,7 @@ ownText r = elim (kind (r .shape)) [
   | block ↦ []
   | lambda ↦ argsText (argIds r)
   | field ↦ text "  field " ++ numeral (getD (r .lit) 0 0)
-  | other ↦ classText r
+  | other ↦ elim (eqb (r .shape) Const) [ true ↦ constText (r .aux) | false ↦ [] ]
 ]
 
 unfoldable pub literalText : List ℕ → List ℕ

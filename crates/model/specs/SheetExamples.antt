@@ -6,7 +6,7 @@ use Rattle.model.specs.Tree.{cons, serialise}
 use Rattle.model.specs.Text.{text}
 use Rattle.model.specs.Sheet.{sheet}
 use Rattle.model.specs.Computing.{computing}
-use Rattle.model.specs.Examples.{z, x, k, n, p, s1, L, u, block1, one}
+use Rattle.model.specs.Examples.{z, x, xOf, k, kOf, n, p, s1, L, u, block1, one}
 
 pub sheet-sum : sheet (serialise (one (p z z))) ≡
     text "  0  Two 9A PLUS\n" ++
@@ -31,6 +31,16 @@ pub sheet-block : sheet (serialise (one (block1 1 x (s1 (u 1))))) ≡
     text "  4      ValUse 72  id 1  literal 01000000\n"
 unfolding computing
 sheet-block = refl
+
+-- marks, of which 0 is not shown
+pub sheet-marked : sheet (serialise (one (p (kOf 3) (p (xOf 35) k)))) ≡
+    text "  0  Two 9A PLUS\n" ++
+    text "  1    Const 00  SInt mark 3  literal 0402\n" ++
+    text "  2    Two 9A PLUS\n" ++
+    text "  3      Const 00  other mark 35  literal 0701\n" ++
+    text "  4      Const 00  SInt  literal 0402\n"
+unfolding computing
+sheet-marked = refl
 
 -- two trees
 pub sheet-trees : sheet (serialise (cons (n z) (one z))) ≡

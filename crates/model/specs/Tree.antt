@@ -1,7 +1,7 @@
 -- Records and trees ("The forest"): what a record says of itself, trees of records, their records in file order, and
 -- their bytes.
 -- Assumes nothing.
-use Prim.Native.Nat.{ℕ, zero, suc, _+_, _*_, max}
+use Prim.Native.Nat.{ℕ, zero, suc, _+_, _*_, _/_, _%_, max}
 use mathlib.Core.Bool.{Bool, true, false, _&&_}
 use mathlib.Core.List.{List, [], _∷_, _++_}
 use lib.Dec.{eqb}
@@ -20,6 +20,13 @@ pub record Rec : Type 0 where
 
 abbrev pub rec : ℕ → ℕ → ℕ → List ℕ → Rec
 rec s o a l = record { shape = s; opcode = o; aux = a; lit = l }
+
+-- a constant's aux: "class plus 7 × mark"; the mark tells parameters of equal value apart
+abbrev pub class : ℕ → ℕ
+class aux = aux % 7
+
+abbrev pub mark : ℕ → ℕ
+mark aux = aux / 7
 
 -- "the same shape, opcode, aux, literal"
 unfoldable pub sameRec : Rec → Rec → Bool

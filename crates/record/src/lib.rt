@@ -1,10 +1,11 @@
-// Records by number (codec.rs). In order: numbers; the header; where a record starts; its fields, its size; its literal,
-// as a part of the forest.
+// Records by number (codec.rs). In order: numbers; the header; where a record starts; its fields; a constant's class and
+// mark; its size; its literal, as a part of the forest.
 ghost use mathlib.Core.Path.{_≡_};
 ghost use Prim.Native.Nat.{_+_, _<_, _≤_};
 ghost use lib.ListN.{length, drop};
 ghost use Rattle.model.specs.Bytes.{u16};
 ghost use Rattle.model.specs.Tree.{rowLen};
+ghost use Rattle.model.specs.Tree as model;
 ghost use Rattle.model.specs.Forest.{treeCount, recordCount};
 ghost use Rattle.record.specs.Record.{Laid, Lies, startOf, rowAt};
 
@@ -86,6 +87,20 @@ pub fn aux(forest: &[u8], i: usize) -> u8
 {
     let at = start(forest, i);
     forest[at + 4]
+}
+
+// The class of a constant, by its aux. Rules out: the mark; the whole aux.
+pub fn class(aux: u8) -> u8
+    ensures { λ r. ⌜ r ≡ model.class aux ⌝ }
+{
+    aux % 7
+}
+
+// The mark of a constant, by its aux. Rules out: the class; the whole aux.
+pub fn mark(aux: u8) -> u8
+    ensures { λ r. ⌜ r ≡ model.mark aux ⌝ }
+{
+    aux / 7
 }
 
 // How many bytes record i has. Rules out: where it starts; how long its literal is.

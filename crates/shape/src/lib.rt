@@ -94,7 +94,7 @@ pub fn fits(shape: u8, kids: usize, aux: u8, lit: &[u8]) -> bool
 {
     let n = lit.len();
     match shape {
-        0 => within(kids, 0, 0, aux, 6) && 1 <= n, // Const
+        0 => within(kids, 0, 0, aux, 251) && 1 <= n, // Const
         1 => within(kids, 0, 0, aux, 0), // Unparsed
         2 => within(kids, 0, 0, aux, 0) && n == 0, // Zero
         3 => within(kids, 1, 1, aux, 0) && n == 0, // One

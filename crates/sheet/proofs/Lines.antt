@@ -1,7 +1,7 @@
--- The texts of a record's line. In order: how many spaces stand before a number; a literal; a lambda's arguments; what
--- a record of a shape has; a line; what is required of its record.
+-- The texts of a record's line. In order: how many spaces stand before a number; a literal; a lambda's arguments; a
+-- constant's mark and class; what a record of a shape has; a line; what is required of its record.
 -- Assumes nothing.
-use Prim.Native.Nat.{ℕ, suc, _+_, _-_, _/_, _<_, _≤_}
+use Prim.Native.Nat.{ℕ, zero, suc, _+_, _-_, _/_, _<_, _≤_}
 use mathlib.Core.Path.{_≡_, refl, ap, _∙_}
 use mathlib.Core.Bool.{Bool, true, false}
 use mathlib.Core.Option.{none}
@@ -13,12 +13,12 @@ use lib.Dec.{eqb}
 use lib.ListN.{length, getD, drop}
 use Rattle.model.specs.Text.{text}
 use Rattle.model.specs.Bytes.{u32}
-use Rattle.model.specs.Tree.{Rec, rec}
+use Rattle.model.specs.Tree.{Rec, rec, class, mark}
 use Rattle.model.specs.Shape.{aArg}
 use Rattle.model.specs.Forest.{recordCount}
 use Rattle.model.specs.Binding.{block, other, kind, idOf, argIds}
 use Rattle.model.specs.Lister.{numeral}
-use Rattle.model.specs.Sheet.{named, classNames, shapeNames, hexBytes, idTexts, argsText, idText, classText}
+use Rattle.model.specs.Sheet.{named, shapeNames, classNames, hexBytes, idTexts, argsText, idText, markText, constText}
 use Rattle.model.specs.Sheet.{ownText, literalText, placeText, opcodeText, recordLine}
 use Rattle.text.proofs.Numbers.{numeral-least, numeral-before}
 use Rattle.shape.specs.Args.{Left, nextArg, ArgEnd}
@@ -107,12 +107,28 @@ pub args-text : (n : ℕ) (lit : List ℕ) → (n ≡ 0 → ⊥) →
 unfolding argsText
 args-text n lit h = rw (ids-cons n lit 0 h)
 
+-- ---- a constant's mark and class
+
+pub mark-none : (m : ℕ) → m ≡ 0 → [] ≡ markText m
+unfolding markText
+mark-none m e = rw e
+
+pub mark-some : (m : ℕ) → (m ≡ 0 → ⊥) → text " mark " ++ numeral m ≡ markText m
+unfolding markText
+mark-some zero n = absurd (n refl)
+mark-some (suc m) n = refl
+
+pub const-text : (aux : ℕ) {c m : ℕ} → c ≡ class aux → m ≡ mark aux →
+    named (text "  ") classNames c ++ markText m ≡ constText aux
+unfolding constText
+const-text aux e f = rw (e, f)
+
 -- ---- what a record of a shape has
 
 module _ (s op aux : ℕ) (lit : List ℕ) where
-  pub own-class : s ≡ 0 → named (text "  ") classNames aux ≡ ownText (rec s op aux lit)
-  unfolding ownText kind classText
-  own-class e = rw e
+  pub own-const : s ≡ 0 → constText aux ≡ ownText (rec s op aux lit)
+  unfolding ownText kind
+  own-const e = rw e
 
   pub own-use : s ≡ 7 → text "  id " ++ numeral (u32 lit) ≡ ownText (rec s op aux lit)
   unfolding ownText kind idText idOf
@@ -133,7 +149,7 @@ module _ (s op aux : ℕ) (lit : List ℕ) where
   -- of any other shape nothing
   pub own-none : ((((Unit {0} × (s ≡ 0 → ⊥)) × (s ≡ 7 → ⊥)) × (s ≡ 10 → ⊥)) × (s ≡ 12 → ⊥)) × (s ≡ 17 → ⊥) →
       [] ≡ ownText (rec s op aux lit)
-  unfolding ownText kind classText
+  unfolding ownText kind
   own-none n = go (eqb s 11) refl
     where
       go : (b : Bool) → eqb s 11 ≡ b → [] ≡ ownText (rec s op aux lit)
@@ -144,7 +160,7 @@ module _ (s op aux : ℕ) (lit : List ℕ) where
           let e17 = ne-eqb s 17 (n .1) in
           let k : kind s ≡ other =
           rw (ne-eqb s 7 (n .0 .0 .0 .1), ne-eqb s 10 (n .0 .0 .1), e, ne-eqb s 12 (n .0 .1), e17, kind) in
-          rw (k, ownText, ne-eqb s 0 (n .0 .0 .0 .0 .1), classText)
+          rw (k, ownText, ne-eqb s 0 (n .0 .0 .0 .0 .1))
 
 -- ---- a line
 

@@ -29,7 +29,7 @@ ghost use Rattle.model.specs.Bytes.{u32};
 ghost use Rattle.model.specs.Tree.{rec, many};
 ghost use Rattle.model.specs.Forest.{recordCount, treesOf};
 ghost use Rattle.model.specs.Lister.{numeral, refusal};
-ghost use Rattle.model.specs.Sheet.{idTexts, argsText, ownText, literalText, placeText, recordLine, forestLines};
+ghost use Rattle.model.specs.Sheet.{idTexts, argsText, markText, constText, ownText, literalText, placeText, recordLine, forestLines};
 ghost use Rattle.shape.specs.Args.{Left};
 ghost use Rattle.walk.specs.Words.{argIdsAt};
 ghost use Rattle.walk.specs.Walk.{treesFrom, recAt, WellFormed};
@@ -111,6 +111,27 @@ fn put_field(out: &mut [u8], at: usize, lit: &[u8]) -> usize
     put_number(out, end, record::wide(lit[0]) as u64)
 }
 
+// A mark, if it is not 0.
+fn put_mark(out: &mut [u8], at: usize, mark: u8) -> usize
+    requires { ⌜ at ≤ length (now out) ⌝ }
+    ensures { λ r. ⌜ Clipped (now (out .entry)) at (markText mark) (now (out .exit)) r ⌝ }
+{
+    if mark == 0 {
+        return at;
+    }
+    let end = put_text(out, at, b" mark ");
+    put_number(out, end, record::wide(mark) as u64)
+}
+
+// The class and the mark of a constant.
+fn put_const(out: &mut [u8], at: usize, aux: u8) -> usize
+    requires { ⌜ at ≤ length (now out) ⌝ }
+    ensures { λ r. ⌜ Clipped (now (out .entry)) at (constText aux) (now (out .exit)) r ⌝ }
+{
+    let end = put_class(out, at, record::class(aux));
+    put_mark(out, end, record::mark(aux))
+}
+
 // What a record of a shape has beside its literal.
 fn put_own(out: &mut [u8], at: usize, shape: u8, aux: u8, lit: &[u8]) -> usize
     requires { ⌜ at ≤ length (now out) ⌝ }
@@ -119,7 +140,7 @@ fn put_own(out: &mut [u8], at: usize, shape: u8, aux: u8, lit: &[u8]) -> usize
         (now (out .exit)) r) ⌝ }
 {
     match shape {
-        0 => put_class(out, at, aux),
+        0 => put_const(out, at, aux),
         7 => put_id(out, at, lit),
         10 => put_id(out, at, lit),
         12 => put_args(out, at, lit, record::wide(aux)),

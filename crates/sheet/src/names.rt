@@ -85,17 +85,16 @@ pub fn put_shape(out: &mut [u8], at: usize, shape: u8) -> usize
     )
 }
 
-// A constant's class, by its aux, at `at`; the answer is the place after it. Rules out: the class of another aux; a
-// name for an aux over 6.
-pub fn put_class(out: &mut [u8], at: usize, aux: u8) -> usize
+// A constant's class at `at`; the answer is the place after it. Rules out: another class; a name for a class over 6.
+pub fn put_class(out: &mut [u8], at: usize, class: u8) -> usize
     requires { ⌜ at ≤ length (now out) ⌝ }
-    ensures { λ r. ⌜ Clipped (now (out .entry)) at (named (text "  ") classNames aux) (now (out .exit)) r ⌝ }
+    ensures { λ r. ⌜ Clipped (now (out .entry)) at (named (text "  ") classNames class) (now (out .exit)) r ⌝ }
 {
     put_entry(
         out,
         at,
         b"\x00  SBoolean,\x01  SByte,\x02  SShort,\x03  SInt,\x04  SLong,\x05  SString,\x06  other,",
-        aux,
+        class,
     )
 }
 

@@ -8,7 +8,7 @@ pub mod Literals
 pub mod ShapeRules
 pub mod OpcodeRules
 pub mod Nesting
-pub mod Marks
+pub mod Faulty
 pub mod Places
 pub mod Depths
 pub mod Placed

@@ -14,10 +14,12 @@ returns-2 c y is =
 
 returns-3 : tie.Need-returns-3
 returns-3 c y is =
-    let s = c .before .before .before in
-    rw (c .aux .ensures)
-    (const-plain _ _ _ y is (sym (s .shape .ensures) ∙ c .before .before .if1 .left) (c .before .if2 .left))
+    let a = c .before in
+    let s = a .before .before .before in
+    rw (c .class .ensures, a .aux .ensures)
+    (const-plain _ _ _ y is (sym (s .shape .ensures) ∙ a .before .before .if1 .left) (a .before .if2 .left))
 
 pub is-const-spec : {M : Type 1} → statement M
 is-const-spec =
-    tie.close (tie.spec (λ c κs. search needs) returns returns-2 (λ c κs. search needs) returns-3)
+    tie.close (tie.spec (λ c κs. search needs) returns returns-2 (λ c κs. search needs) (λ c κs. search needs)
+    returns-3)

@@ -9,7 +9,7 @@ use Rattle.shape.specs.Args.{Left}
 use Rattle.shape.proofs.Fitting.{fits-use, fits-def, fits-func, fits-field}
 use Rattle.walk.specs.Words.{argIdsAt}
 use Rattle.sheet.proofs.Clipping.{clipped-none, clipped-as}
-use Rattle.sheet.proofs.Lines.{own-class, own-use, own-def, own-args, own-field, own-none}
+use Rattle.sheet.proofs.Lines.{own-const, own-use, own-def, own-args, own-field, own-none}
 use Rattle.sheet.proofs.put_own.Statement.{statement}
 use Rattle.sheet.proofs.put_own.Tie as tie
 
@@ -43,7 +43,7 @@ put-field-requires c κs =
 returns : tie.Need-returns
 returns c op =
     let p = c .before .before in
-    clipped-as (p .put-class .ensures) (own-class _ op _ _ (p .before .before .match .keys1))
+    clipped-as (p .put-const .ensures) (own-const _ op _ _ (p .before .before .match .keys1))
 
 returns-2 : tie.Need-returns-2
 returns-2 c op =

@@ -18,7 +18,7 @@ use Rattle.model.specs.Nesting.{Descends, Deeper}
 use Rattle.theory.proofs.Demand3.Nesting.{Spot, top, under, later, spot, all-sizes, below-range, below-top}
 use Rattle.theory.proofs.Demand3.Nesting.{top-below, below-under, under-below, under-not-later, below-later}
 use Rattle.theory.proofs.Demand3.Nesting.{later-below}
-use Rattle.theory.proofs.Demand3.Marks.{Marked, first-of, fault-there, said}
+use Rattle.theory.proofs.Demand3.Faulty.{Faulty, first-of, fault-there, said}
 
 -- ---- trees taken apart
 
@@ -96,7 +96,7 @@ unfolding Deeper
 deeper-there ts zero p h = h
 deeper-there ts (suc n) p h = below-range ts (h .0) p (h .1) .1
 
-too-deep : (ts : Trees) (p : ℕ) → Marked (deeps ts 1) p ↔ Deeper ts 64 p
+too-deep : (ts : Trees) (p : ℕ) → Faulty (deeps ts 1) p ↔ Deeper ts 64 p
 too-deep ts p = (
   λ m. let w = known ts 1 p (fault-there depthCheck ts 1 p m) in
       w .2 .2 64 .1 (omega (arith, ltb-true 64 (w .0) (sym (w .1) ∙ m), w .2 .1)),

@@ -22,7 +22,7 @@ use Rattle.theory.proofs.Demand3.Nesting.{Spot, top, under, later, spot
 use Rattle.theory.proofs.Demand3.Nesting.{extent-under, extent-later, all-sizes, extent-fits, below-range}
 use Rattle.theory.proofs.Demand3.Nesting.{below-top, top-below, below-under, under-below, under-not-later}
 use Rattle.theory.proofs.Demand3.Nesting.{below-later, later-below}
-use Rattle.theory.proofs.Demand3.Marks.{said}
+use Rattle.theory.proofs.Demand3.Faulty.{said}
 
 -- ---- what a record binds
 

@@ -27,7 +27,7 @@ use Rattle.laws.proofs.Members.{in-either}
 use Rattle.laws.proofs.Apart.{false-true}
 use Rattle.laws.proofs.ArgLists.{args-length}
 use Rattle.theory.proofs.Demand3.Nesting.{in-range, extent-fits, below-range, nested}
-use Rattle.theory.proofs.Demand3.Marks.{Marked, first-of, fault-there}
+use Rattle.theory.proofs.Demand3.Faulty.{Faulty, first-of, fault-there}
 use Rattle.theory.proofs.Demand3.Placed.{def-stands}
 use Rattle.theory.proofs.Demand3.Arguments.{argument-read}
 use Rattle.theory.proofs.Demand3.Forces.{Loose, def, arg, known-ids, inside-lambda, lambda-inside, defined-def}
@@ -211,10 +211,10 @@ module _ (ts : Trees) (args : (l : ℕ) → shapeIn ts l ≡ 12 → Args (recIn 
   abbrev r : Rec
   r = recIn ts p
 
-  unbound-use : Marked (unboundIn ts []) p ↔ Unbound ts p
+  unbound-use : Faulty (unboundIn ts []) p ↔ Unbound ts p
   unbound-use = (to, back)
     where
-      to : Marked (unboundIn ts []) p → Unbound ts p
+      to : Faulty (unboundIn ts []) p → Unbound ts p
       to m =
           let w = known-ids unboundAt ts [] p (fault-there (idsCheck unboundAt) ts [] p m) in
           let e = and-both (eqb (r .shape) 7) (not (isIn (idOf r) (w .0))) (sym (w .1) ∙ m) in (
@@ -223,7 +223,7 @@ module _ (ts : Trees) (args : (l : ℕ) → shapeIn ts l ≡ 12 → Args (recIn 
                 (w .2 (idOf r) .1 (inr (force-loose ts args (idOf r) p h))),
           )
 
-      back : Unbound ts p → Marked (unboundIn ts []) p
+      back : Unbound ts p → Faulty (unboundIn ts []) p
       back h =
           let w = known-ids unboundAt ts [] p (in-range ts p 6 (h .0)) in
           let out : In (idOf r) (w .0) → ⊥ = λ k. elim (w .2 (idOf r) .0 k) [
@@ -233,7 +233,7 @@ module _ (ts : Trees) (args : (l : ℕ) → shapeIn ts l ≡ 12 → Args (recIn 
           w .1 ∙ both-and (eqb (r .shape) 7) (not (isIn (idOf r) (w .0))) (eq-eqb (r .shape) 7 (h .0))
           (ap not (not-in-isIn (idOf r) (w .0) out))
 
-  rebinds : Marked (reboundIn ts []) p ↔ Rebinds ts p
+  rebinds : Faulty (reboundIn ts []) p ↔ Rebinds ts p
   rebinds = (to, back)
     where
       go : (env : List ℕ) → ((i : ℕ) → In i env ↔ (In i [] ⊎ Loose ts i p)) → (b : Bool) → anyIn (own r) env ≡ b →
@@ -247,7 +247,7 @@ module _ (ts : Trees) (args : (l : ℕ) → shapeIn ts l ≡ 12 → Args (recIn 
           )
       go env w false f e = inr (own-twice r (args p) .0 e)
 
-      to : Marked (reboundIn ts []) p → Rebinds ts p
+      to : Faulty (reboundIn ts []) p → Rebinds ts p
       to m =
           let w = known-ids reboundAt ts [] p (fault-there (idsCheck reboundAt) ts [] p m) in
           go (w .0) (w .2) (anyIn (own r) (w .0)) refl (sym (w .1) ∙ m)
@@ -256,7 +256,7 @@ module _ (ts : Trees) (args : (l : ℕ) → shapeIn ts l ≡ 12 → Args (recIn 
       binds-there i (inl h) = in-range ts p 9 (h .0)
       binds-there i (inr h) = in-range ts p 11 (h .0)
 
-      back : Rebinds ts p → Marked (reboundIn ts []) p
+      back : Rebinds ts p → Faulty (reboundIn ts []) p
       back (inl (i, h, k)) =
           let w = known-ids reboundAt ts [] p (binds-there i h) in
           w .1 ∙ rw (shared-any i (own r) (w .0) (to-own r (args p) i h)

@@ -20,7 +20,7 @@ use Rattle.laws.proofs.Apart.{false-true}
 use Rattle.theory.proofs.Demand3.Nesting.{Spot, top, under, later, spot, rec-top, rec-under, rec-later, extent-top}
 use Rattle.theory.proofs.Demand3.Nesting.{extent-under, extent-later, all-sizes, below-range, below-top, top-below}
 use Rattle.theory.proofs.Demand3.Nesting.{below-under, under-below, under-not-later, below-later, later-below}
-use Rattle.theory.proofs.Demand3.Marks.{Marked, first-of, none-marked, fault-there, said}
+use Rattle.theory.proofs.Demand3.Faulty.{Faulty, first-of, none-faulty, fault-there, said}
 
 -- ---- children
 
@@ -203,7 +203,7 @@ says-8 ts p l =
       (λ e. elim (w .2 .0 e) [ inl k ↦ k | inr k ↦ false-true (k .0) ], λ h. w .2 .1 (inl h)),
     )
 
-out-of-place : (ts : Trees) (p : ℕ) → Marked (misplacedIn ts false) p ↔ OutOfPlace ts p
+out-of-place : (ts : Trees) (p : ℕ) → Faulty (misplacedIn ts false) p ↔ OutOfPlace ts p
 out-of-place ts p = (to, back)
   where
     test : (x d : Bool) → eqb (shapeIn ts p) 10 ≡ x → not (Bool·beq x d) ≡ true → ((d ≡ true) ↔ BeforeLast ts p) →
@@ -213,7 +213,7 @@ out-of-place ts p = (to, back)
     test false true e f w = inr (w .0 refl, eqb-false _ 10 e)
     test false false e f w = false-true f
 
-    to : Marked (misplacedIn ts false) p → OutOfPlace ts p
+    to : Faulty (misplacedIn ts false) p → OutOfPlace ts p
     to m =
         let l = fault-there placeCheck ts false p m in
         let w = says-8 ts p l in
@@ -227,7 +227,7 @@ out-of-place ts p = (to, back)
     offends true w (inr h) = rw (ne-eqb _ 10 (h .1)) refl
     offends false w (inr h) = false-true (w .1 (h .0))
 
-    back : OutOfPlace ts p → Marked (misplacedIn ts false) p
+    back : OutOfPlace ts p → Faulty (misplacedIn ts false) p
     back h = let w = says-8 ts p (h .0) in w .1 ∙ offends (w .0) (w .2) (h .1)
 
 pub check-8 : (ts : Trees) (p : ℕ) → (check8 ts ≡ some p) ↔ First (OutOfPlace ts) p
@@ -247,4 +247,4 @@ def-stands ts eight d l e = go (w .0) (w .1) (w .2)
     go : (b : Bool) → getD (misplacedIn ts false) d false ≡ not (Bool·beq (eqb (shapeIn ts d) 10) b) →
         ((b ≡ true) ↔ BeforeLast ts d) → BeforeLast ts d
     go true f k = k .0 refl
-    go false f k = absurd (none-marked (misplacedIn ts false) eight d (f ∙ rw (eq-eqb _ 10 e) refl))
+    go false f k = absurd (none-faulty (misplacedIn ts false) eight d (f ∙ rw (eq-eqb _ 10 e) refl))

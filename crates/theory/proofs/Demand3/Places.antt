@@ -25,7 +25,7 @@ use Rattle.model.specs.ShapeRules.{IsRight, ShapeOffends}
 use Rattle.model.specs.OpcodeRules.{Together, OpcodeOffends}
 use Rattle.model.specs.Conditions.{InRange, HeaderOffends, startOf, PairOffends, DirectoryOffends}
 use Rattle.model.specs.Conditions.{TreesOffend, directoryEnd}
-use Rattle.theory.proofs.Demand3.Marks.{Marked, first-of, none-marked}
+use Rattle.theory.proofs.Demand3.Faulty.{Faulty, first-of, none-faulty}
 use Rattle.theory.proofs.Demand3.ShapeRules.{fits-right}
 use Rattle.theory.proofs.Demand3.OpcodeRules.{agrees-together}
 
@@ -48,10 +48,10 @@ at-0 false p = (λ e. none-some e, λ h. absurd (clash false (h .1) refl))
 
 -- ---- records that fail a test
 
-marked-fails : (f : Row → Bool) (P : Row → Type 0) → ((r : Row) → (f r ≡ true) ↔ P r) → (rs : List Row) (p : ℕ) →
-    Marked (map (λ r. not (f r)) rs) p ↔ ((p < length rs) × (P (getD rs p noRecord) → ⊥))
-marked-fails f P same [] p = (λ m. absurd (clash false m refl), λ h. absurd (omega (arith, h .0)))
-marked-fails f P same (r ∷ rs) zero = (
+faulty-fails : (f : Row → Bool) (P : Row → Type 0) → ((r : Row) → (f r ≡ true) ↔ P r) → (rs : List Row) (p : ℕ) →
+    Faulty (map (λ r. not (f r)) rs) p ↔ ((p < length rs) × (P (getD rs p noRecord) → ⊥))
+faulty-fails f P same [] p = (λ m. absurd (clash false m refl), λ h. absurd (omega (arith, h .0)))
+faulty-fails f P same (r ∷ rs) zero = (
   λ m. (omega arith, λ t. clash (f r) (same r .1 t) (not-true (f r) m)),
   λ h. go (f r) (λ e. h .1 (same r .0 e)),
 )
@@ -59,8 +59,8 @@ marked-fails f P same (r ∷ rs) zero = (
     go : (b : Bool) → (b ≡ true → ⊥) → not b ≡ true
     go true h = absurd (h refl)
     go false h = refl
-marked-fails f P same (r ∷ rs) (suc p) =
-    let w = marked-fails f P same rs p in
+faulty-fails f P same (r ∷ rs) (suc p) =
+    let w = faulty-fails f P same rs p in
     (λ m. (omega (arith, w .0 m .0), w .0 m .1), λ h. w .1 (omega (arith, h .0), h .1))
 
 -- ---- pairs
@@ -113,21 +113,21 @@ pair-test total from last p = (λ e. go (or-true _ _ .0 e), back)
 abbrev PairAt : ℕ → ℕ → Pairs → ℕ → Type 0
 PairAt total from ps p = (p < length ps) × Wrong total (startIn from ps p) (suc p ≡ length ps) (pairAt ps p)
 
-marked-pairs : (total from : ℕ) (ps : Pairs) (p : ℕ) → Marked (badPairs total from ps) p ↔ PairAt total from ps p
+faulty-pairs : (total from : ℕ) (ps : Pairs) (p : ℕ) → Faulty (badPairs total from ps) p ↔ PairAt total from ps p
 unfolding badPairs
-marked-pairs total from [] p = (λ m. absurd (clash false m refl), λ h. absurd (omega (arith, h .0)))
-marked-pairs total from (q ∷ []) zero =
+faulty-pairs total from [] p = (λ m. absurd (clash false m refl), λ h. absurd (omega (arith, h .0)))
+faulty-pairs total from (q ∷ []) zero =
     let w = pair-test total from true q in (
       λ m. (omega arith, wrong-same total _ _ _ _ q refl (λ e. refl) (w .0 m)),
       λ h. w .1 (wrong-same total _ _ _ _ q refl (λ e. refl) (h .1)),
     )
-marked-pairs total from (q ∷ r ∷ ps) zero =
+faulty-pairs total from (q ∷ r ∷ ps) zero =
     let w = pair-test total from false q in (
       λ m. (omega arith, wrong-same total _ _ _ _ q refl (λ e. absurd (clash false e refl)) (w .0 m)),
       λ h. w .1 (wrong-same total _ _ _ _ q refl (λ e. absurd (omega (arith, e))) (h .1)),
     )
-marked-pairs total from (q ∷ ps) (suc p) =
-    let w = marked-pairs total (q .0 + q .1) ps p in (
+faulty-pairs total from (q ∷ ps) (suc p) =
+    let w = faulty-pairs total (q .0 + q .1) ps p in (
       λ m. let h =
           w .0 m in (omega (arith, h .0), wrong-same total _ _ _ _ (pairAt ps p) (starts p) (λ e. ap suc e) (h .1)),
       λ h. w .1 (
@@ -248,16 +248,16 @@ module _ (forest : List ℕ) where
   unfolding check3 bodyStart
   check-3 p = (λ e. to (ltb (length forest) (directoryEnd forest)) refl e, back)
     where
-      marks : List Bool
-      marks = badPairs (length forest) (directoryEnd forest) (pairsOf forest)
+      tests : List Bool
+      tests = badPairs (length forest) (directoryEnd forest) (pairsOf forest)
 
       starts : (q : ℕ) → startIn (directoryEnd forest) (pairsOf forest) q ≡ startOf forest q
       starts zero = refl
       starts (suc q) = refl
 
-      same : (q : ℕ) → Marked marks q ↔ PairOffends forest q
+      same : (q : ℕ) → Faulty tests q ↔ PairOffends forest q
       same q =
-          let w = marked-pairs (length forest) (directoryEnd forest) (pairsOf forest) q in
+          let w = faulty-pairs (length forest) (directoryEnd forest) (pairsOf forest) q in
           let n = pair-count forest in (
             λ m. let h = w .0 m in (
               omega (arith, h .0, n),
@@ -270,37 +270,37 @@ module _ (forest : List ℕ) where
           )
 
       to : (b : Bool) → ltb (length forest) (directoryEnd forest) ≡ b →
-          elim b [ true ↦ some 0 | false ↦ first marks ] ≡ some p → DirectoryOffends forest p
+          elim b [ true ↦ some 0 | false ↦ first tests ] ≡ some p → DirectoryOffends forest p
       to true t e = inl (sym (Option·some-injective _ _ e), ltb-true _ _ t)
-      to false t e = inr (ltb-false _ _ t, first-of (PairOffends forest) marks same p .0 e)
+      to false t e = inr (ltb-false _ _ t, first-of (PairOffends forest) tests same p .0 e)
 
       back : DirectoryOffends forest p → check3 forest ≡ some p
       back (inl h) = rw (lt-ltb _ _ (h .1), check3) (ap some (sym (h .0)))
-      back (inr h) = rw (le-ltb _ _ (h .0), check3) (first-of (PairOffends forest) marks same p .1 (h .1))
+      back (inr h) = rw (le-ltb _ _ (h .0), check3) (first-of (PairOffends forest) tests same p .1 (h .1))
 
   pub check-4 : (p : ℕ) → (check4 forest ≡ some p) ↔ First (ShapeOffends forest) p
   unfolding check4
   check-4 = first-of (ShapeOffends forest) (map (λ r. not (fits r)) (rowsIn forest)) λ q.
-      rw (← row-count forest) (marked-fails fits IsRight fits-right (rowsIn forest) q)
+      rw (← row-count forest) (faulty-fails fits IsRight fits-right (rowsIn forest) q)
 
   -- where it passes, every record is right for its shape
   pub row-right : check4 forest ≡ none → (p : ℕ) → p < recordCount forest → IsRight (recordAt forest p)
   unfolding check4
   row-right four p l = go (fits (recordAt forest p)) refl
     where
-      marks : List Bool
-      marks = map (λ r. not (fits r)) (rowsIn forest)
+      tests : List Bool
+      tests = map (λ r. not (fits r)) (rowsIn forest)
 
       go : (b : Bool) → fits (recordAt forest p) ≡ b → IsRight (recordAt forest p)
       go true e = fits-right (recordAt forest p) .0 e
       go false e =
-          absurd (none-marked marks four p (marked-fails fits IsRight fits-right (rowsIn forest) p .1
+          absurd (none-faulty tests four p (faulty-fails fits IsRight fits-right (rowsIn forest) p .1
           (omega (arith, row-count forest), λ t. clash _ (fits-right (recordAt forest p) .1 t) e)))
 
   pub check-5 : (p : ℕ) → (check5 forest ≡ some p) ↔ First (OpcodeOffends forest) p
   unfolding check5
   check-5 = first-of (OpcodeOffends forest) (map (λ r. not (agrees (r .rec))) (rowsIn forest)) λ q.
-      rw (← row-count forest) (marked-fails (λ r. agrees (r .rec)) (λ r. Together (r .rec .opcode) (r .rec .shape))
+      rw (← row-count forest) (faulty-fails (λ r. agrees (r .rec)) (λ r. Together (r .rec .opcode) (r .rec .shape))
       (λ r. agrees-together (r .rec)) (rowsIn forest) q)
 
   pub check-6 : (p : ℕ) → (check6 forest ≡ some p) ↔ TreesOffend forest p

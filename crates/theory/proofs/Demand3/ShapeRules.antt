@@ -5,7 +5,7 @@ use mathlib.Core.Path.{_≡_, refl, subst}
 use mathlib.Core.Logic.{_↔_}
 use mathlib.Core.Bool.{Bool, true, _&&_}
 use mathlib.Core.List.{List, [], _∷_}
-use Prim.Native.Nat.{ℕ, zero, suc, _+_, _≤_}
+use Prim.Native.Nat.{ℕ, zero, suc, _+_, _*_, _/_, _%_, _≤_}
 use native.Mathlib.Omega.{arith}
 use lib.Dec.{leb}
 use lib.ListN.{length, getD}
@@ -84,7 +84,7 @@ Lines n (s ∷ ss) = Line n s × Lines (suc n) ss
 
 -- those whose aux or literal is of another kind
 abbrev const : Shape
-const = record { least = 0; most = 0; aux = 6; right = λ a bs. leb 1 (length bs) }
+const = record { least = 0; most = 0; aux = 251; right = λ a bs. leb 1 (length bs) }
 
 abbrev unparsed : Shape
 unparsed = record { least = 0; most = 0; aux = 0; right = λ a bs. true }
@@ -102,7 +102,8 @@ move e f h = rw (e, f) h
 line-0 : Line 0 const
 line-0 k a bs e =
     let w = tested-all const k a bs .0 e in
-    move (omega (arith, w .1)) refl (is-0 (w .2) (leb-true 1 (length bs) (w .3)))
+    move (omega (arith, w .1)) (omega arith)
+    (is-0 {c = a % 7} {m = a / 7} (omega arith) (omega (arith, w .2)) (leb-true 1 (length bs) (w .3)))
 
 line-1 : Line 1 unparsed
 line-1 k a bs e =
@@ -193,8 +194,8 @@ bareFixed-back m = bare-back m m m (omega arith) (omega arith)
 
 right-tested : {n k a : ℕ} {bs : List ℕ} → Right n k a bs → tested (getD shapes n noShape) k a bs ≡ true
 unfolding shapes
-right-tested (is-0 {a} {bs} l h) =
-    tested-all const 0 a bs .1 (omega arith, omega arith, l, le-leb 1 (length bs) h)
+right-tested (is-0 {c} {m} {bs} l u h) =
+    tested-all const 0 (c + 7 * m) bs .1 (omega arith, omega arith, omega arith, le-leb 1 (length bs) h)
 right-tested (is-1 {bs}) = tested-all unparsed 0 0 bs .1 (omega arith, omega arith, omega arith, refl)
 right-tested is-2 = bareFixed-back 0
 right-tested is-3 = bareFixed-back 1

@@ -1,5 +1,5 @@
--- What a check that marks records finds: the first place that is marked; what the walk of checks 7 to 10 marks.
--- In order: the first marked place; no place found; what the walk says of each record.
+-- What a check finds that has a test for each record: the first faulty place; what the walk of checks 7 to 10 says.
+-- In order: the first faulty place; no place found; what the walk says of each record.
 -- Assumes nothing.
 use mathlib.Core.Path.{_≡_, refl, ap, sym, _∙_, subst}
 use mathlib.Core.Logic.{_↔_}
@@ -23,32 +23,32 @@ use Rattle.laws.proofs.Clear.{first-clear, faultsIn-length}
 use Rattle.theory.proofs.Demand3.Nesting.{Spot, top, under, later, spot, by-parts, joined-left, joined-right}
 use Rattle.theory.proofs.Demand3.Nesting.{rec-top, rec-under, rec-later, all-sizes, nil-sizes}
 
--- a list with a test for each record, in the file's order, marks record p
-abbrev pub Marked : List Bool → ℕ → Type 0
-Marked tests p = getD tests p false ≡ true
+-- in a list with a test for each record, in the file's order, that of record p is true
+abbrev pub Faulty : List Bool → ℕ → Type 0
+Faulty tests p = getD tests p false ≡ true
 
--- ---- the first marked place
+-- ---- the first faulty place
 
-first-some : (bs : List Bool) (p : ℕ) → first bs ≡ some p → First (Marked bs) p
+first-some : (bs : List Bool) (p : ℕ) → first bs ≡ some p → First (Faulty bs) p
 unfolding first
 first-some [] p e = none-some e
 first-some (true ∷ bs) p e =
-    subst (First (Marked (true ∷ bs))) (Option·some-injective _ _ e) (refl, λ q l. absurd (omega arith))
+    subst (First (Faulty (true ∷ bs))) (Option·some-injective _ _ e) (refl, λ q l. absurd (omega arith))
 first-some (false ∷ bs) p e = go (first bs) refl e (λ i f. first-some bs i f)
   where
-    step : (i : ℕ) → First (Marked bs) i → First (Marked (false ∷ bs)) (suc i)
+    step : (i : ℕ) → First (Faulty bs) i → First (Faulty (false ∷ bs)) (suc i)
     step i h = (h .0, lower)
       where
-        lower : (q : ℕ) → q < suc i → Marked (false ∷ bs) q → ⊥
+        lower : (q : ℕ) → q < suc i → Faulty (false ∷ bs) q → ⊥
         lower zero l m = clash false m refl
         lower (suc q) l m = h .1 q (omega arith) m
 
     go : (o : Option ℕ) → first bs ≡ o → elim o [ none ↦ none | some i ↦ some (suc i) ] ≡ some p →
-        ((i : ℕ) → first bs ≡ some i → First (Marked bs) i) → First (Marked (false ∷ bs)) p
+        ((i : ℕ) → first bs ≡ some i → First (Faulty bs) i) → First (Faulty (false ∷ bs)) p
     go none f e rest = none-some e
-    go (some i) f e rest = subst (First (Marked (false ∷ bs))) (Option·some-injective _ _ e) (step i (rest i f))
+    go (some i) f e rest = subst (First (Faulty (false ∷ bs))) (Option·some-injective _ _ e) (step i (rest i f))
 
-some-first : (bs : List Bool) (p : ℕ) → First (Marked bs) p → first bs ≡ some p
+some-first : (bs : List Bool) (p : ℕ) → First (Faulty bs) p → first bs ≡ some p
 unfolding first
 some-first [] p h = absurd (clash false (h .0) refl)
 some-first (true ∷ bs) zero h = refl
@@ -56,8 +56,8 @@ some-first (true ∷ bs) (suc p) h = absurd (h .1 0 (omega arith) refl)
 some-first (false ∷ bs) zero h = absurd (clash false (h .0) refl)
 some-first (false ∷ bs) (suc p) h = rw (some-first bs p (h .0, λ q l m. h .1 (suc q) (omega arith) m), first)
 
--- `first` gives the least place that is marked: the first of which P holds, where the marks say P
-pub first-of : (P : ℕ → Type 0) (bs : List Bool) → ((q : ℕ) → Marked bs q ↔ P q) → (p : ℕ) → (first bs ≡ some p) ↔ First P p
+-- `first` gives the least place that is faulty: the first of which P holds, where the tests say P
+pub first-of : (P : ℕ → Type 0) (bs : List Bool) → ((q : ℕ) → Faulty bs q ↔ P q) → (p : ℕ) → (first bs ≡ some p) ↔ First P p
 first-of P bs same p = (
   λ e. let h = first-some bs p e in (same p .0 (h .0), λ q l m. h .1 q l (same q .1 m)),
   λ h. some-first bs p (same p .1 (h .0), λ q l m. h .1 q l (same q .0 m)),
@@ -65,17 +65,17 @@ first-of P bs same p = (
 
 -- ---- no place found
 
-clear-marked : (bs : List Bool) → Clear bs → (p : ℕ) → Marked bs p → ⊥
-clear-marked [] h p m = false-true m
-clear-marked (b ∷ bs) h zero m = clash b m (h .0)
-clear-marked (b ∷ bs) h (suc p) m = clear-marked bs (h .1) p m
+clear-faulty : (bs : List Bool) → Clear bs → (p : ℕ) → Faulty bs p → ⊥
+clear-faulty [] h p m = false-true m
+clear-faulty (b ∷ bs) h zero m = clash b m (h .0)
+clear-faulty (b ∷ bs) h (suc p) m = clear-faulty bs (h .1) p m
 
-pub none-marked : (bs : List Bool) → first bs ≡ none → (p : ℕ) → Marked bs p → ⊥
-none-marked bs e = clear-marked bs (first-clear bs e)
+pub none-faulty : (bs : List Bool) → first bs ≡ none → (p : ℕ) → Faulty bs p → ⊥
+none-faulty bs e = clear-faulty bs (first-clear bs e)
 
--- what is marked is there
-marked-there : (bs : List Bool) (n p : ℕ) → length bs ≡ n → Marked bs p → p < n
-marked-there bs n p e m = go (ltb p n) refl
+-- what is faulty is there
+faulty-there : (bs : List Bool) (n p : ℕ) → length bs ≡ n → Faulty bs p → p < n
+faulty-there bs n p e m = go (ltb p n) refl
   where
     go : (b : Bool) → ltb p n ≡ b → p < n
     go true f = ltb-true p n f
@@ -85,8 +85,8 @@ marked-there bs n p e m = go (ltb p n) refl
 -- ---- what the walk says of each record
 
 module _ {C : Type 0} (k : Check C) where
-  pub fault-there : (ts : Trees) (c : C) (p : ℕ) → Marked (faultsIn k ts c) p → p < sizes ts
-  fault-there ts c p = marked-there (faultsIn k ts c) (sizes ts) p (faultsIn-length k ts c)
+  pub fault-there : (ts : Trees) (c : C) (p : ℕ) → Faulty (faultsIn k ts c) p → p < sizes ts
+  fault-there ts c p = faulty-there (faultsIn k ts c) (sizes ts) p (faultsIn-length k ts c)
 
   -- d is what the check knows at record p of trees in a row, at which it knows c: `At ts c p d`. It is what it knows at
   -- the first record, or at one below it, or at one of the later trees
@@ -96,7 +96,7 @@ module _ {C : Type 0} (k : Check C) where
       At us (k .inner r (k .here c ts)) q d → At (cons (node r us) ts) c (suc q) d)
       (at-later : (r : Rec) (us ts : Trees) (c : C) (q : ℕ) (d : C) → At ts (k .later (node r us) c) q d →
       At (cons (node r us) ts) c (suc (sizes us + q)) d) where
-    -- the mark of record p is the test of it, with what the check knows there
+    -- the test of record p is made with what the check knows there
     abbrev Said : Trees → C → ℕ → Type 0
     Said ts c p = (d : C) × (getD (faultsIn k ts c) p false ≡ k .offends d (recIn ts p)) × At ts c p d
 
