@@ -143,7 +143,9 @@ fn is_const(forest: &[u8], i: usize, field: u32) -> bool
     if field != 0 {
         return true;
     }
-    record::class(record::aux(forest, i)) < 6
+    let aux = record::aux(forest, i);
+    let class = record::class(aux);
+    class < 6
 }
 
 // The gate: whether symbol s, which is used `uses` times, becomes a definition.

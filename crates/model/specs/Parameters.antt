@@ -6,14 +6,15 @@
 use mathlib.Core.Path.{_≡_}
 use mathlib.Core.Logic.{_↔_}
 use mathlib.Core.Option.{Option, none, some}
-use mathlib.Core.List.{List, [], _∷_, _++_}
-use Prim.Native.Nat.{ℕ, zero, suc}
+use mathlib.Core.List.{List, [], _∷_}
+use Prim.Native.Nat.{ℕ, zero, suc, _<_}
+use lib.ListN.{length}
 use Rattle.model.specs.Answer.{good}
 use Rattle.model.specs.Tree.{Rec, mark, Tree, Trees, node, nil, cons, root}
 use Rattle.model.specs.Opcodes.{Const}
 use Rattle.model.specs.Forest.{treesOf}
 use Rattle.model.specs.Unfold.{Unfolded, Unfoldeds, arg, lam, made, done, more, unfolded}
-use Rattle.model.specs.Intern.{Sym, State, Env, symAt, intern}
+use Rattle.model.specs.Intern.{State, Env, symAt, intern}
 use Rattle.model.specs.Call.{treeOf}
 
 -- ---- paths in an unfolding
@@ -50,20 +51,26 @@ abbrev mutual
 
 -- ---- a constant's symbol
 
--- the constant r, read as some record in some scope with some ids bound, has symbol s, and st is the state after it
+-- the constant r, read as some record in some scope with some ids bound, has symbol s; st is the state after it
 pub record HasSymbol (r : Rec) (s : ℕ) (st : State) : Type 0 where
-  pub constant : r .shape ≡ Const
+  pub is-constant : r .shape ≡ Const
   pub place : ℕ
   pub scope : ℕ
   pub env : Env
   pub before : State
   pub reads : intern (node r nil) place scope env before ≡ good (s, st)
+  pub there : s < length (st .syms)
 
 -- the symbols of st are the first of those of fin, as they are of every later state
 abbrev pub Leads : State → State → Type 0
-Leads st fin = (later : List Sym) × (fin .syms ≡ st .syms ++ later)
+Leads st fin = (i : ℕ) → i < length (st .syms) → symAt (st .syms) i ≡ symAt (fin .syms) i
 
 -- ---- the statement
+
+-- the constant r stands at a path of what the written tree unfolds to, and of what the root unfolds to
+abbrev pub AlikeAt : List ℕ → ℕ × State → List ℕ → Rec → Type 0
+AlikeAt forest o path r =
+    ConstantAt path (unfolded (treeOf o)) r × ConstantAt path (unfolded (root (treesOf forest))) r
 
 -- of an interned forest, with the root's symbol and the state at the end
 pub record ParametersKept (forest : List ℕ) (o : ℕ × State) : Type 0 where
@@ -73,9 +80,9 @@ pub record ParametersKept (forest : List ℕ) (o : ℕ × State) : Type 0 where
   -- "Constants are equal only if their marks are too": no two with different marks ever have one symbol
   pub marks-apart : (r q : Rec) (s : ℕ) (st st′ : State) → HasSymbol r s st → HasSymbol q s st′ → Leads st (o .1) →
       Leads st′ (o .1) → mark (r .aux) ≡ mark (q .aux)
-  -- each constant of the written tree stands in what the root unfolds to
-  pub stands : EachConstant
-      (λ r. (path : List ℕ) × ConstantAt path (unfolded (root (treesOf forest))) r) (treeOf o)
-  -- at each path the written tree and the root unfold to the same constant, or neither to one
+  -- each constant of the written tree, with its mark, stands in what the tree unfolds to, and at the same path in what
+  -- the root unfolds to
+  pub stands : EachConstant (λ r. (path : List ℕ) × AlikeAt forest o path r) (treeOf o)
+  -- whatever the path, a constant that stands there in one of the two stands there in the other
   pub same-path : (path : List ℕ) (r : Rec) →
       ConstantAt path (unfolded (treeOf o)) r ↔ ConstantAt path (unfolded (root (treesOf forest))) r

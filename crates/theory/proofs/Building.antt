@@ -1,4 +1,5 @@
--- Building keeps the meaning: the tree of a symbol unfolds to what the symbol stands for, and is checked.
+-- Building keeps the meaning: the tree of a symbol unfolds to what the symbol stands for, and is checked; and its
+-- constants are those of reached symbols.
 -- Assumes nothing.
 pub mod Reach
 pub mod Written
@@ -7,3 +8,4 @@ pub mod Numbered
 pub mod Given
 pub mod Scopes
 pub mod Built
+pub mod Constants

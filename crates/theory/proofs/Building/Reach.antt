@@ -29,7 +29,7 @@ pub data Below (ss : List Sym) (r : ℕ) : ℕ → Type 0 where
   here : Below ss r r
   kid : (y k : ℕ) → Below ss r y → In k (symKids ss y) → Below ss r k
 
-below-then : (ss : List Sym) (r y s : ℕ) → Below ss r y → Below ss y s → Below ss r s
+pub below-then : (ss : List Sym) (r y s : ℕ) → Below ss r y → Below ss y s → Below ss r s
 below-then ss r y s h here = h
 below-then ss r y s h (kid x k b l) = kid x k (below-then ss r y x h b) l
 

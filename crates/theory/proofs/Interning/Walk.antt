@@ -157,7 +157,7 @@ read-kept {st} {A} {cur} {o} k = record {
 mutual
   unfolding intern unfoldAt
 
-  intern-keeps : (t : Tree) (at cur : ℕ) (env : Env) (A : Args) (b : Bool) (st : State) → Checked t b (keys env) →
+  pub intern-keeps : (t : Tree) (at cur : ℕ) (env : Env) (A : Args) (b : Bool) (st : State) → Checked t b (keys env) →
       Holds (KeepsMeaning st A cur env (unfoldAt t)) (intern t at cur env st)
   intern-keeps (node r ts) at cur env A b st c =
       let kids : Kids = λ c e s. internAll ts (r .opcode) 0 (suc at) c e s in

@@ -44,7 +44,7 @@ module _ (o : ℕ × State) (t : Tree) (h : RootInterned (o .1) (o .0) t) where
       root-built (reachable (st .syms) (st .scopes) (o .0)) (symCount st) (h .inv .good) (h .inv .place-ok)
       (λ x l xs b e. h .inv .lam-ok x l xs b e .scope-low) (o .0) (h .low) (h .pair) (h .closed)
 
-  tree-unfolds : unfolded (treeOf o) ≡ unfolded t
+  pub tree-unfolds : unfolded (treeOf o) ≡ unfolded t
   unfolding unfolded
   tree-unfolds =
       tree-built .means (λ a d. arg 0 0) [] (λ x i e. absurd (none-given x i e)) 0 ∙ h .means (λ a d. arg 0 0) 0
