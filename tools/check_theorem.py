@@ -20,6 +20,7 @@ hoist      define-built takes from `member` that a definition's symbol is of the
 one-id     numbered-once: the ids of a lambda's arguments stand once. Else two arguments are one, and check 9 refuses the tree.
 body-from  env-args: no id in force is above the last one given. Else a definition in a lambda's body takes an argument's id.
 literals   isKey-true: a symbol found by its key has the record that was sought. Else another literal is written for it.
+marks      sameRec-true: records that are the same are equal, marks and all. Else a parameter is written for another of equal value.
 children   isKey-true: a symbol found by its key has the children that were sought. Else other children are written for it.
 next-id    ids-def: each id given is in force after its definition. Else a use is written of an id that nothing binds.
 placement  climb-stays: a symbol stays inside each lambda on whose arguments it depends. Else it is written outside of it.
@@ -28,9 +29,10 @@ edit       the fact that fails: a number is given exactly where its condition ho
 readings   cut-read, of the log of an interning without limits: the reading that interning refuses is the 2,049th.
 symbols    cut-read, which has the limit of symbols too: none of those up to the 512th is refused.
 inputs     listed: the tables say the paper's statements on opcodes, and so the one on A4. Else a forest is written that 5 is for.
-depth      too-deep: check 7 marks what is deeper than 64. Else a forest gets another number.
+depth      too-deep: check 7 finds what is deeper than 64. Else a forest gets another number.
 
 The conditions are edited as well, which are no part of what the call does; the check is then not exact for them:
+high-mark  right-tested: no mark is over 35 (4).
 tuple      both-listed: 86 and Tuple go together both ways (5).
 parent     stands-under: a definition stands in a block, in no other record (8).
 own-value  force-loose: a definition is not in force in its own value (9, 10).
@@ -58,7 +60,7 @@ TOP = os.path.dirname(os.path.dirname(os.path.abspath(__file__)))
 CRATES = ("model", "laws", "theory")
 
 COUNTER = """-- What becomes of a small forest: is the written tree accepted, and does it unfold to what the root unfolds to?
-use Prim.Native.Nat.{ℕ, zero, suc}
+use Prim.Native.Nat.{ℕ, zero, suc, _+_, _*_}
 use mathlib.Core.Path.{_≡_, refl}
 use mathlib.Core.Bool.{Bool, true, false, _&&_}
 use mathlib.Core.List.{List, [], _∷_, _++_}
@@ -139,6 +141,10 @@ h = node (rec 2 0xA3 0 []) nil
 k : ℕ → Tree
 k n = node (rec 0 0 3 (n ∷ [])) nil
 
+-- an SInt with a mark
+m : ℕ → Tree
+m n = node (rec 0 0 (3 + 7 * n) (1 ∷ [])) nil
+
 n : Tree → Tree
 n a = node (rec 3 0xF0 0 []) (cons a nil)
 
@@ -173,12 +179,12 @@ deep (suc d) = n (deep d)
 """
 FATE = """
 {name} : fate ({tree}) ≡ {fate}
-unfolding fate called after-call read-back equal equalRecs equalOpts z h k n p u L L2 i deep computing
+unfolding fate called after-call read-back equal equalRecs equalOpts z h k m n p u L L2 i deep computing
 {name} = refl
 """
 WRITTEN = """
 {name}-tree : is (called ({tree})) ({written}) ≡ true
-unfolding is called z h k n p u L L2 B i deep computing
+unfolding is called z h k m n p u L L2 B i deep computing
 {name}-tree = refl
 """
 
@@ -228,6 +234,12 @@ EDITS = [
          [(FINISH, "and-both (sameRec (recAt ss i) r)", "and-both (sameRec " + SAME_REC.format("recAt ss i") + ")"),
           (FINISH, "Tree.{Rec, sameRec}", "Tree.{Rec, rec, sameRec}")],
          "isKey-true", "p (k 1) (k 2)", "unfolds false", "p (k 1) (k 1)"),
+    Edit("marks", "keys are equal whatever their marks",
+         [("model/specs/Tree", "eqb (a .aux) (b .aux)", "eqb (class (a .aux)) (class (b .aux))")],
+         [("laws/proofs/Members", "let x = eqb (a .aux) (b .aux) in", "let x = eqb (class (a .aux)) (class (b .aux)) in"),
+          ("laws/proofs/Members", "eqb-true (a .aux) (b .aux) (q .1)", "eqb-true (class (a .aux)) (class (b .aux)) (q .1)"),
+          ("laws/proofs/Members", "Tree.{Rec, sameRec}", "Tree.{Rec, class, sameRec}")],
+         "sameRec-true", "p (m 1) (m 2)", "unfolds false", "p (m 1) (m 1)"),
     Edit("children", "keys are equal without their child symbols",
          [(INTERN, "same (symAt ss i .kids) ks", "same ks ks")],
          [(FINISH, "(same (symKids ss i) ks) e in", "(same ks ks) e in")],
@@ -265,6 +277,8 @@ EDITS = [
          [("theory/proofs/Acceptance/Bytes", "le-ltb 64 d", "le-ltb 65 d"), (DEPTHS, "ltb 64 e", "ltb 65 e"),
           (DEPTHS, "ltb-true 64", "ltb-true 65"), (DEPTHS, "lt-ltb 64", "lt-ltb 65")],
          "too-deep", "deep 64", "call-refuses 14 0", None, "call-refuses 7 64"),
+    Edit("high-mark", "a mark may be 36",
+         [("model/specs/ShapeRules", "m ≤ 35", "m ≤ 36")], [], "right-tested"),
     Edit("tuple", "opcode 86 is for Tuple, which may have another opcode",
          [(RULES, "(o ≡ 0x86) ↔ (s ≡ 16)", "o ≡ 0x86 → s ≡ 16")],
          [(TOGETHER, "tuple = (x .1 .1 .1 .1 .1 .0, y .1 .1 .1 .1 .1 .0)", "tuple = x .1 .1 .1 .1 .1 .0"),

@@ -6,7 +6,6 @@ use mathlib.Core.Path.{_≡_, refl, ap, sym, _∙_, subst}
 use mathlib.Core.List.{List, []}
 use mathlib.Core.Bool.{Bool, true}
 use Prim.Native.Nat.{ℕ}
-use lib.Dec.{ltb}
 use lib.Seq.{getD-append-seam}
 use Rattle.model.specs.Lists.{without}
 use Rattle.model.specs.Answer.{good, _>>=_}
@@ -46,7 +45,7 @@ constant-rec : (r : Rec) → r .shape ≡ 0 → (at cur : ℕ) (env : Env) (st :
     Holds (λ o. recAt (o .1 .syms) (o .0) ≡ r) (intern (node r nil) at cur env st)
 unfolding intern internKind internGeneral kind _>>=_
 constant-rec r e at cur env st =
-    holds-guard P (ltb (st .readings) 2048) 11 at _ λ l.
+    holds-guard P _ 11 at _ λ l.
     subst (λ (k : Kind). Holds P (internKind k at cur r env (λ c e s. good ([], [], s)) (read st))) (sym is-other)
     (finish-cases P at cur r [] [] (nodeOf r []) (read st)
     (λ i f. isKey-true (st .syms) r [] i (lookup-found (st .syms) r [] (st .tables) i f .1) .0)
