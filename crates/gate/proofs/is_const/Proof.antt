@@ -1,6 +1,9 @@
 -- `gate::is_const` meets its contract. Assumes nothing.
-use mathlib.Core.Path.{sym, _∙_}
+use Prim.Native.Nat.{ℕ}
+use mathlib.Core.Path.{sym, ap, _∙_}
+use lib.Dec.{ltb}
 use borrow.Author.Needs.{needs}
+use Rattle.model.specs.Tree.{class}
 use Rattle.gate.proofs.Gate.{const-shape, const-field, const-plain}
 use Rattle.gate.proofs.is_const.Statement.{statement}
 use Rattle.gate.proofs.is_const.Tie as tie
@@ -16,8 +19,8 @@ returns-3 : tie.Need-returns-3
 returns-3 c y is =
     let a = c .before in
     let s = a .before .before .before in
-    rw (c .class .ensures, a .aux .ensures)
-    (const-plain _ _ _ y is (sym (s .shape .ensures) ∙ a .before .before .if1 .left) (a .before .if2 .left))
+    ap (λ (n : ℕ). ltb n 6) (c .class .ensures ∙ ap class (a .aux .ensures)) ∙
+    const-plain _ _ _ y is (sym (s .shape .ensures) ∙ a .before .before .if1 .left) (a .before .if2 .left)
 
 pub is-const-spec : {M : Type 1} → statement M
 is-const-spec =
