@@ -1,7 +1,7 @@
 //! Checks 2 to 10 of document 01, each over the whole forest before the next. Written from the
 //! paper alone, so that it can be set beside other readings of it.
 
-use crate::forest::{Forest, Record, Tree};
+use crate::forest::{Forest, Record, Tree, CLASSES, MARKS};
 
 /// Why a call gives no tree: the number of document 01 and its place.
 #[derive(Clone, Copy, PartialEq, Eq, Debug)]
@@ -150,7 +150,8 @@ fn children_fit(shape: u8, count: usize) -> bool {
 
 fn aux_fits(shape: u8, aux: u8) -> bool {
     match shape {
-        CONST => aux <= 6,
+        // Every class with every mark.
+        CONST => aux < CLASSES * MARKS,
         FUNC_VALUE => aux <= 15,
         _ => aux == 0,
     }

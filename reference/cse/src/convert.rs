@@ -4,7 +4,7 @@ use ergo_ser::opcode::{Expr, IrNode, Payload, UnparsedErgoTree};
 use ergo_ser::sigma_type::SigmaType;
 use ergo_ser::sigma_value::SigmaValue;
 
-use crate::forest::{Record, Tree};
+use crate::forest::{constant_aux, Record, Tree};
 
 /// The expression of an accepted tree.
 ///
@@ -19,8 +19,11 @@ pub fn to_expr(tree: &Tree) -> Expr {
     let payload = match record.shape {
         0 => {
             return Expr::Const {
-                tpe: SigmaType::of_class(record.aux).expect("check 4 has seen the class"),
-                val: SigmaValue(record.literal.clone()),
+                tpe: SigmaType::of_class(record.class()).expect("a class is below 7"),
+                val: SigmaValue {
+                    bytes: record.literal.clone(),
+                    mark: record.mark(),
+                },
             }
         }
         1 => {
@@ -166,7 +169,10 @@ impl Literal<'_> {
 /// validation error, or a scalar type inside a literal, which `to_expr` never makes.
 pub fn to_tree(expr: &Expr) -> Tree {
     match expr {
-        Expr::Const { tpe, val } => leaf(0, 0, tpe.class(), val.0.clone()),
+        Expr::Const { tpe, val } => {
+            let aux = constant_aux(tpe.class(), val.mark);
+            leaf(0, 0, aux, val.bytes.clone())
+        }
         Expr::Unparsed(tree) => {
             assert!(tree.validation_error.is_none(), "no place for an error");
             leaf(1, 0, 0, tree.bytes.clone())

@@ -1,5 +1,10 @@
 //! Forests: records, trees, and their bytes.
 
+pub use ergo_ser::sigma_value::{constant_aux, CLASSES, MARKS};
+
+/// The shape of constants, the only one with a class and a mark.
+const CONST: u8 = 0;
+
 /// What a record says of itself.
 #[derive(Clone, PartialEq, Eq, Debug)]
 pub struct Record {
@@ -22,6 +27,23 @@ pub struct Forest {
     pub trees: Vec<Tree>,
 }
 
+impl Record {
+    /// A constant's class, which stands for its type.
+    pub fn class(&self) -> u8 {
+        self.aux % CLASSES
+    }
+
+    /// A constant's mark.
+    pub fn mark(&self) -> u8 {
+        self.aux / CLASSES
+    }
+
+    /// Gives a constant another mark.
+    pub fn set_mark(&mut self, mark: u8) {
+        self.aux = constant_aux(self.class(), mark);
+    }
+}
+
 impl Tree {
     /// The number of records in the tree.
     pub fn size(&self) -> usize {
@@ -42,6 +64,15 @@ impl Tree {
         out.push(bytes);
         for child in &self.children {
             child.push_records(out);
+        }
+    }
+
+    fn push_constants<'a>(&'a mut self, out: &mut Vec<&'a mut Record>) {
+        if self.record.shape == CONST {
+            out.push(&mut self.record);
+        }
+        for child in &mut self.children {
+            child.push_constants(out);
         }
     }
 }
@@ -72,5 +103,23 @@ impl Forest {
     /// The number of records in all trees.
     pub fn size(&self) -> usize {
         self.trees.iter().map(Tree::size).sum()
+    }
+
+    /// The constants of all trees, in file order.
+    pub fn constants_mut(&mut self) -> Vec<&mut Record> {
+        let mut constants = Vec::new();
+        for tree in &mut self.trees {
+            tree.push_constants(&mut constants);
+        }
+        constants
+    }
+
+    /// The forest with mark 0 on every constant.
+    pub fn without_marks(&self) -> Forest {
+        let mut forest = self.clone();
+        for constant in forest.constants_mut() {
+            constant.set_mark(0);
+        }
+        forest
     }
 }

@@ -33,6 +33,12 @@ pub fn x() -> Tree {
     node(0, 0x00, 6, &[7, 1], vec![])
 }
 
+/// A constant with a mark.
+pub fn marked(mut constant: Tree, mark: u8) -> Tree {
+    constant.record.set_mark(mark);
+    constant
+}
+
 pub fn n(a: Tree) -> Tree {
     node(3, 0xF0, 0, &[], vec![a])
 }

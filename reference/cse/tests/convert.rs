@@ -76,7 +76,8 @@ fn samples() -> Vec<Tree> {
         leaves(1),
     );
     samples.push(node(11, 0xD8, 0, &[], vec![typed_definition, val_use(1)]));
-    samples.extend((0..=6).map(|class| node(0, 0x00, class, &[class, 5], vec![])));
+    // Every class with every mark.
+    samples.extend((0..=251).map(|aux| node(0, 0x00, aux, &[aux, 5], vec![])));
     samples.extend([0, 1, 2, 255].map(|field| select(field, z())));
     samples
 }
@@ -103,6 +104,18 @@ fn every_sample_is_accepted_and_its_bytes_read_back() {
     for tree in samples() {
         let forest = alone(tree);
         assert_eq!(accept(&forest.to_bytes()), Ok(forest));
+    }
+}
+
+#[test]
+fn aux_is_class_and_seven_times_mark() {
+    let cases = [(0, 0, 0), (6, 6, 0), (7, 0, 1), (24, 3, 3), (251, 6, 35)];
+    for (aux, class, mark) in cases {
+        let Expr::Const { tpe, val } = to_expr(&node(0, 0x00, aux, &[9], vec![])) else {
+            panic!("shape 0 is a constant");
+        };
+        assert_eq!((tpe.class(), val.mark), (class, mark), "{aux}");
+        assert_eq!(val.bytes, [9]);
     }
 }
 

@@ -60,6 +60,55 @@ fn what_is_used_twice_is_defined_once() {
 }
 
 #[test]
+fn marks_tell_constants_apart() {
+    let pair = |constant: fn() -> Tree, left, right| {
+        alone(p(marked(constant(), left), marked(constant(), right)))
+    };
+    let symbols = |forest: &Forest| call(forest).symbols;
+    assert_eq!(symbols(&pair(k, 1, 2)), 3);
+    assert_eq!(symbols(&pair(k, 1, 1)), 2);
+    // A scalar with a mark is a scalar still, and any other constant is hoisted with its mark.
+    gives(&pair(k, 1, 1), p(marked(k(), 1), marked(k(), 1)));
+    gives(&pair(k, 1, 2), p(marked(k(), 1), marked(k(), 2)));
+    for mark in [1, 35] {
+        gives(
+            &pair(x, mark, mark),
+            block(vec![(1, marked(x(), mark))], p(val_use(1), val_use(1))),
+        );
+    }
+    gives(&pair(x, 1, 2), p(marked(x(), 1), marked(x(), 2)));
+    gives(&pair(x, 0, 35), p(x(), marked(x(), 35)));
+}
+
+/// p(x:1,x:1), byte for byte: aux is 6 + 7 × 1.
+#[test]
+fn a_mark_is_in_the_written_tree() {
+    let forest = alone(p(
+        node(0, 0x00, 13, &[7, 1], vec![]),
+        node(0, 0x00, 13, &[7, 1], vec![]),
+    ));
+    let directory = [
+        [28, 0, 5, 0],
+        [33, 0, 10, 0],
+        [43, 0, 7, 0],
+        [50, 0, 5, 0],
+        [55, 0, 9, 0],
+        [64, 0, 9, 0],
+    ];
+    let records: [&[u8]; 6] = [
+        &[11, 0xD8, 2, 0, 0],
+        &[10, 0xD6, 1, 0, 0, 1, 0, 0, 0, 0],
+        &[0, 0x00, 0, 0, 13, 7, 1],
+        &[4, 0x9A, 2, 0, 0],
+        &[7, 0x72, 0, 0, 0, 1, 0, 0, 0],
+        &[7, 0x72, 0, 0, 0, 1, 0, 0, 0],
+    ];
+    let header = [1, 0, 6, 0];
+    let expected = [&header[..], &directory.concat(), &records.concat()].concat();
+    assert_eq!(call(&forest).tree, expected);
+}
+
+#[test]
 fn branches_share_only_what_was_built_before_them() {
     let branches = if_(z(), n(z()), n(z()));
     gives(
@@ -167,6 +216,25 @@ fn the_lister() {
         "symbols 2\n0 O FE 0 2 y\n1 O 9A 0 0 n\n",
     );
     lists(&alone(val_use(3)), "refused 10 at 0\n");
+}
+
+#[test]
+fn the_lister_shows_no_marks() {
+    // What the gate says and how often a symbol is used still hang on them.
+    let pair = |left, right| alone(p(marked(x(), left), marked(x(), right)));
+    let shared = "symbols 2\n0 C 00 0 2 y\n1 O 9A 0 0 n\n";
+    lists(&pair(0, 0), shared);
+    lists(&pair(35, 35), shared);
+    let apart = "symbols 3\n0 C 00 0 1 n\n1 C 00 0 1 n\n2 O 9A 0 0 n\n";
+    lists(&pair(1, 2), apart);
+    // Class 5 with mark 1 is a scalar, as class 5 is; so is class 0 with mark 1, which is aux 7.
+    for aux in [5, 12, 7] {
+        let scalar = node(0, 0x00, aux, &[7, 1], vec![]);
+        lists(
+            &alone(p(scalar.clone(), scalar)),
+            "symbols 2\n0 C 00 0 2 n\n1 O 9A 0 0 n\n",
+        );
+    }
 }
 
 #[test]

@@ -86,6 +86,13 @@ fn every_other_part_stays() {
     differ(&z(), &h());
     differ(&k(), &node(0, 0x00, 4, &[4, 2], vec![]));
     differ(&k(), &node(0, 0x00, 3, &[4, 3], vec![]));
+    differ(&k(), &marked(k(), 1));
+    differ(&marked(k(), 34), &marked(k(), 35));
+    same(&marked(k(), 35), &marked(k(), 35));
+    differ(
+        &block(vec![(1, marked(x(), 1))], val_use(1)),
+        &block(vec![(1, marked(x(), 2))], val_use(1)),
+    );
     differ(
         &node(4, 0x9A, 0, &[], vec![z(), z()]),
         &node(24, 0x9A, 0, &[], vec![z(), z()]),

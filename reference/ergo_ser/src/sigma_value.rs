@@ -1,4 +1,4 @@
-//! The values of constants, as bytes.
+//! The values of constants, as bytes, and their marks.
 
 use std::convert::Infallible;
 
@@ -6,18 +6,32 @@ use ergo_primitives::writer::VlqWriter;
 
 use crate::sigma_type::SigmaType;
 
-/// A constant's literal, not looked into.
-#[derive(Clone, PartialEq, Eq, Debug)]
-pub struct SigmaValue(pub Vec<u8>);
+/// How many classes a constant's type may have, from 0 on.
+pub const CLASSES: u8 = 7;
 
-/// Writes a constant's class, then its literal: constants of equal bytes and different class are
-/// not equal (document 01 counts aux).
+/// How many marks a constant may have, from 0 on.
+pub const MARKS: u8 = 36;
+
+/// A constant's literal, not looked into, and its mark, below [`MARKS`].
+#[derive(Clone, PartialEq, Eq, Debug)]
+pub struct SigmaValue {
+    pub bytes: Vec<u8>,
+    pub mark: u8,
+}
+
+/// A constant's aux (document 01, shape 0): one byte for class and mark.
+pub fn constant_aux(class: u8, mark: u8) -> u8 {
+    class + CLASSES * mark
+}
+
+/// Writes a constant's aux, then its literal: constants of equal bytes and different class or mark
+/// are not equal (document 01 counts aux).
 pub fn write_constant(
     writer: &mut VlqWriter,
     tpe: &SigmaType,
     val: &SigmaValue,
 ) -> Result<(), Infallible> {
-    writer.put_u8(tpe.class());
-    writer.put_bytes(&val.0);
+    writer.put_u8(constant_aux(tpe.class(), val.mark));
+    writer.put_bytes(&val.bytes);
     Ok(())
 }

@@ -3,6 +3,7 @@
 use super::literal::{arguments, joined, parts, ways_to_spoil, Way};
 use super::nodes::{child_counts, MANY};
 use super::{base, Fault, File, Raw};
+use crate::forest::{constant_aux, CLASSES, MARKS};
 use crate::generate::records::*;
 use crate::generate::Rng;
 
@@ -75,8 +76,9 @@ fn wrong_aux(rng: &mut Rng, record: &mut Raw) -> &'static str {
     let any = rng.range(16, 255) as u8;
     match record.shape {
         CONST => {
-            record.aux = rng.pick(&[7, 8, 255, any]);
-            "class"
+            // 252 to 255: mark 36, as far as a byte reaches.
+            record.aux = rng.range((CLASSES * MARKS).into(), 255) as u8;
+            "class and mark"
         }
         FUNC_VALUE => {
             // As many arguments as it says: only their number is wrong.
@@ -85,7 +87,7 @@ fn wrong_aux(rng: &mut Rng, record: &mut Raw) -> &'static str {
             "too many arguments"
         }
         _ => {
-            record.aux = rng.pick(&[1, 3, 128, any]);
+            record.aux = rng.pick(&[1, 3, 7, 128, 251, any]);
             "aux not 0"
         }
     }
@@ -188,7 +190,7 @@ fn sample(rng: &mut Rng, shape: u8) -> Raw {
     let mut literal = joined(&parts);
     match shape {
         CONST => {
-            aux = rng.below(7) as u8;
+            aux = right_aux(rng);
             literal = rng.bytes(3);
         }
         UNPARSED => literal = rng.bytes(3),
@@ -203,6 +205,18 @@ fn sample(rng: &mut Rng, shape: u8) -> Raw {
         aux,
         literal,
     }
+}
+
+/// A constant's aux: any, and often with the highest mark.
+fn right_aux(rng: &mut Rng) -> u8 {
+    let last = MARKS - 1;
+    let any = rng.below((CLASSES * MARKS).into()) as u8;
+    rng.pick(&[
+        constant_aux(0, last),
+        constant_aux(CLASSES - 1, last),
+        any,
+        any,
+    ])
 }
 
 /// Opcodes and shapes that stand only together.

@@ -58,7 +58,7 @@ impl Features {
         self.see("shape", record.shape.into());
         self.see("opcode", record.opcode.into());
         match record.shape {
-            0 => self.see("class", record.aux.into()),
+            0 => self.see("class", (record.aux % 7).into()),
             1 => self.see("unparsed, empty or not", literal.len().min(1)),
             9 | 10 => {
                 self.see(

@@ -90,7 +90,7 @@ fn assert_record(tree: &Tree) {
     };
     assert!(rest.is_empty());
     assert!(match shape {
-        0 => aux <= 6,
+        0 => aux <= 251,
         12 => aux <= 15,
         _ => aux == 0,
     });

@@ -95,7 +95,8 @@ fn four_aux() {
         for aux in 0..=255u8 {
             let arguments = [1, 0, 0, 0, 0].repeat(usize::from(aux));
             let (literal, most) = match shape {
-                0 => (a_literal(0), 6),
+                // 7 classes with 36 marks.
+                0 => (a_literal(0), 251),
                 12 => (arguments.as_slice(), 15),
                 _ => (a_literal(shape), 0),
             };
@@ -106,6 +107,28 @@ fn four_aux() {
             );
         }
     }
+}
+
+#[test]
+fn four_marks() {
+    let constant = |aux| (0, 0x00, 0, aux, &[1][..]);
+    let zero = |aux| (2, 0xFE, 0, aux, &[][..]);
+    for aux in [0, 6, 7, 245, 250, 251] {
+        accepts(&raw(2, &[zero(0), constant(aux)]));
+    }
+    for aux in 252..=255 {
+        refuses(&raw(2, &[zero(0), constant(aux)]), 4, 1);
+        refuses(
+            &raw(3, &[constant(251), constant(aux), constant(252)]),
+            4,
+            1,
+        );
+    }
+    // What is a mark of a constant is none of another shape.
+    for aux in [1, 6, 7, 245, 251, 252] {
+        refuses(&raw(2, &[constant(aux.min(251)), zero(aux)]), 4, 1);
+    }
+    refuses(&raw(1, &[(1, 0x00, 0, 7, &[1])]), 4, 0);
 }
 
 #[test]
