@@ -4,11 +4,14 @@
 //! `tuple(a,...)` are records with their operands; `{1=z; 2=n(1); p(1,2)}` is a block, `{z}` one with
 //! a result only; `L7.a`, `L7,8.a` and `L.a` are lambdas; a bare number is a use. Environment trees
 //! stand first, each followed by `|`. White space is free. No type can be written.
+//!
+//! Beyond document 01, a constant's mark stands after its word: `k:3`, `x:35`. `k:0` is `k`, which is how
+//! it is printed.
 
 mod printer;
 mod reader;
 
-use crate::forest::{Forest, Record, Tree};
+use crate::forest::{Forest, Record, Tree, MARKS};
 use printer::print_tree;
 use reader::Reader;
 
@@ -72,9 +75,19 @@ impl Word {
         record(self.shape, self.opcode, self.aux, self.literal.to_vec())
     }
 
+    fn is_constant(&self) -> bool {
+        self.shape == 0
+    }
+
+    /// Whatever the mark of a constant.
     fn stands_for(&self, tree: &Tree) -> bool {
         let of = &tree.record;
-        (of.shape, of.opcode, of.aux) == (self.shape, self.opcode, self.aux)
+        let same_aux = match self.is_constant() {
+            true => of.class() == self.aux && of.mark() < MARKS,
+            false => of.aux == self.aux,
+        };
+        (of.shape, of.opcode) == (self.shape, self.opcode)
+            && same_aux
             && of.literal == self.literal
             && self.operands.is_none_or(|n| n == tree.children.len())
     }

@@ -34,6 +34,10 @@ fn words_stand_for_their_records() {
         ("h", tree(2, 0xA3, 0, &[], vec![])),
         ("k", tree(0, 0, 3, &[4, 2], vec![])),
         ("x", tree(0, 0, 6, &[7, 1], vec![])),
+        ("k:1", tree(0, 0, 10, &[4, 2], vec![])),
+        ("k:35", tree(0, 0, 248, &[4, 2], vec![])),
+        ("x:1", tree(0, 0, 13, &[7, 1], vec![])),
+        ("x:35", tree(0, 0, 251, &[7, 1], vec![])),
         ("3", use_of(3)),
         ("4294967295", tree(7, 0x72, 0, &[255; 4], vec![])),
         ("n(z)", tree(3, 0xF0, 0, &[], vec![z()])),
@@ -119,6 +123,9 @@ fn canonical_texts_come_back() {
         "z | x | {z} | L7.7 | tuple()",
         "p(L7.7,L7,8.p(8,7))",
         "{{{1=L2.2; {1}}}}",
+        "p(k:1,k:2)",
+        "p(x,x:35)",
+        "x:9 | {1=x:10; L7.tuple(1,k:34,7)}",
     ];
     for text in texts {
         let forest = parse(text).expect(text);
@@ -135,6 +142,18 @@ fn white_space_is_free() {
         Some("n(z) | L7,8.{1=s1(7); p(1,8)}")
     );
     assert_eq!(print(&parse("007").unwrap()).as_deref(), Some("7"));
+    let marks = " p ( k : 3 ,\tx\n:\r\n35 ) ";
+    assert_eq!(
+        print(&parse(marks).unwrap()).as_deref(),
+        Some("p(k:3,x:35)")
+    );
+}
+
+#[test]
+fn a_mark_of_0_is_read_and_not_printed() {
+    assert_eq!(parse("p(k:0,x:0)"), parse("p(k,x)"));
+    assert_eq!(print(&parse("k:0").unwrap()).as_deref(), Some("k"));
+    assert_eq!(print(&parse("x:007").unwrap()).as_deref(), Some("x:7"));
 }
 
 #[test]
@@ -171,6 +190,19 @@ fn errors_name_the_column() {
         ("L7 8.z", "column 4: `,` or `.` is missing in a lambda"),
         ("L7.", "column 4: a tree is missing"),
         (&many, "column 512: too many arguments"),
+        ("k:36", "column 3: a mark is at most 35, not 36"),
+        ("p(z,x : 256)", "column 9: a mark is at most 35, not 256"),
+        ("k:4294967296", "column 3: number too large: 4294967296"),
+        ("k:", "column 3: a mark's number is missing"),
+        ("p(k: ,z)", "column 6: a mark's number is missing"),
+        ("k:-1", "column 3: a mark's number is missing"),
+        ("k:x", "column 3: a mark's number is missing"),
+        ("k:1:2", "column 4: trailing text"),
+        ("k:1()", "column 4: `k` takes no operands"),
+        ("z:1", "column 2: only a constant has a mark"),
+        ("h :0", "column 3: only a constant has a mark"),
+        ("p(z,n:1(z))", "column 6: only a constant has a mark"),
+        ("tuple:1()", "column 6: only a constant has a mark"),
         ("n(4294967296)", "column 3: number too large: 4294967296"),
         (
             "{99999999999=z; z}",
@@ -201,6 +233,10 @@ fn records_outside_the_notation_print_nothing() {
         tree(2, 0xA4, 0, &[], vec![]),
         tree(0, 0, 3, &[4, 3], vec![]),
         tree(0, 0, 6, &[4, 2], vec![]),
+        // Class and mark of x with k's literal, and what would be k with mark 36.
+        tree(0, 0, 251, &[4, 2], vec![]),
+        tree(0, 0, 255, &[4, 2], vec![]),
+        tree(2, 0xFE, 7, &[], vec![]),
         tree(3, 0xF1, 0, &[], vec![z()]),
         tree(3, 0xF0, 0, &[], vec![]),
         tree(3, 0xF0, 1, &[], vec![z()]),
@@ -254,7 +290,18 @@ fn records_outside_the_notation_print_nothing() {
 
 /// A tree within the notation, at most so deep.
 fn random_tree(rng: &mut Rng, depth: usize) -> Tree {
-    let leaves = ["z", "h", "k", "x", "0", "7", "4294967295", "tuple()"];
+    let leaves = [
+        "z",
+        "h",
+        "k",
+        "x",
+        "k:1",
+        "x:35",
+        "0",
+        "7",
+        "4294967295",
+        "tuple()",
+    ];
     if depth == 1 || rng.chance(15) {
         return parse(rng.pick(&leaves)).unwrap().trees.remove(0);
     }

@@ -32,6 +32,10 @@ fn begin<'a>(tree: &'a Tree, out: &mut String) -> Option<Vec<Part<'a>>> {
     let mut next = Vec::new();
     if let Some(word) = WORDS.iter().find(|word| word.stands_for(tree)) {
         out.push_str(word.name);
+        let mark = tree.record.mark();
+        if word.is_constant() && mark > 0 {
+            out.push_str(&format!(":{mark}"));
+        }
         if word.operands == Some(0) {
             return Some(next);
         }

@@ -1,7 +1,7 @@
 //! From text to trees.
 
 use super::{block, definition, lambda, value_use, Word, MAX_ARGUMENTS, WORDS};
-use crate::forest::{Record, Tree};
+use crate::forest::{Record, Tree, MARKS};
 
 /// Text nested deeper than this is refused; no accepted forest comes near it.
 const MAX_NESTING: usize = 10_000;
@@ -94,7 +94,7 @@ impl Reader {
         }
     }
 
-    /// Reads a word and, if it takes operands, the parenthesis.
+    /// Reads a word, a constant's mark and, if the word takes operands, the parenthesis.
     fn call(&mut self, open: &mut Vec<Open>) -> Result<Option<Tree>, String> {
         let column = self.at;
         while self
@@ -108,17 +108,24 @@ impl Reader {
         let Some(word) = WORDS.iter().find(|word| word.name == name) else {
             return Err(error_at(column, &format!("unknown word `{name}`")));
         };
+        let mut record = word.record();
+        if self.peek() == Some(':') {
+            if !word.is_constant() {
+                return Err(self.error("only a constant has a mark"));
+            }
+            record.set_mark(self.mark()?);
+        }
         if word.operands == Some(0) {
             return match self.peek() {
                 Some('(') => Err(self.error(&format!("`{name}` takes no operands"))),
-                _ => Ok(Some(leaf(word.record()))),
+                _ => Ok(Some(leaf(record))),
             };
         }
         if !self.take('(') {
             return Err(self.error(&format!("`(` is missing after `{name}`")));
         }
         if word.operands.is_none() && self.take(')') {
-            return Ok(Some(leaf(word.record())));
+            return Ok(Some(leaf(record)));
         }
         open.push(Open::Call {
             word,
@@ -225,6 +232,24 @@ impl Reader {
             }
             if !self.take(',') {
                 return Err(self.error("`,` or `.` is missing in a lambda"));
+            }
+        }
+    }
+
+    /// Reads a colon and the mark after it.
+    fn mark(&mut self) -> Result<u8, String> {
+        self.take(':');
+        let Some('0'..='9') = self.peek() else {
+            return Err(self.error("a mark's number is missing"));
+        };
+        let column = self.at;
+        let number = self.number()?;
+        match u8::try_from(number) {
+            Ok(mark) if mark < MARKS => Ok(mark),
+            _ => {
+                let most = MARKS - 1;
+                let what = format!("a mark is at most {most}, not {number}");
+                Err(error_at(column, &what))
             }
         }
     }
