@@ -12,7 +12,7 @@ mod record;
 mod structure;
 
 use crate::forest::{Forest, Tree};
-use crate::generate::{accepted, Kind, Rng};
+use crate::generate::{at_times_marked, Kind, Rng};
 
 const MAX_BYTES: usize = 65_535;
 const MAX_RECORDS: usize = 256;
@@ -75,7 +75,7 @@ struct Fault {
     way: &'static str,
 }
 
-/// An accepted forest to start from.
+/// An accepted forest to start from, a third of them with marks.
 fn base(rng: &mut Rng) -> Forest {
     let kind = rng.weighted(&[
         (Kind::Small, 40),
@@ -88,7 +88,7 @@ fn base(rng: &mut Rng) -> Forest {
         (Kind::Large, 5),
         (Kind::Deep, 5),
     ]);
-    accepted(rng.bits(), kind)
+    at_times_marked(rng.bits(), kind)
 }
 
 /// A forest as the file holds it, where counts need not fit what follows.

@@ -67,12 +67,10 @@ impl Tree {
         }
     }
 
-    fn push_constants<'a>(&'a mut self, out: &mut Vec<&'a mut Record>) {
-        if self.record.shape == CONST {
-            out.push(&mut self.record);
-        }
+    fn push_records_mut<'a>(&'a mut self, out: &mut Vec<&'a mut Record>) {
+        out.push(&mut self.record);
         for child in &mut self.children {
-            child.push_constants(out);
+            child.push_records_mut(out);
         }
     }
 }
@@ -105,13 +103,20 @@ impl Forest {
         self.trees.iter().map(Tree::size).sum()
     }
 
-    /// The constants of all trees, in file order.
-    pub fn constants_mut(&mut self) -> Vec<&mut Record> {
-        let mut constants = Vec::new();
+    /// The records of all trees, in file order.
+    pub fn records_mut(&mut self) -> Vec<&mut Record> {
+        let mut records = Vec::new();
         for tree in &mut self.trees {
-            tree.push_constants(&mut constants);
+            tree.push_records_mut(&mut records);
         }
-        constants
+        records
+    }
+
+    /// Those of them that are constants.
+    pub fn constants_mut(&mut self) -> Vec<&mut Record> {
+        let mut records = self.records_mut();
+        records.retain(|record| record.shape == CONST);
+        records
     }
 
     /// The forest with mark 0 on every constant.

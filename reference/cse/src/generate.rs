@@ -5,6 +5,7 @@ mod builder;
 mod counted;
 mod limits;
 mod literals;
+mod marks;
 mod plants;
 mod profile;
 pub mod records;
@@ -93,10 +94,72 @@ impl Kind {
     }
 }
 
-/// The accepted forest of that seed and kind.
+/// The forests of a kind, with marks on their constants or without.
+#[derive(Clone, Copy, PartialEq, Eq, Debug)]
+pub struct Family {
+    pub kind: Kind,
+    pub marked: bool,
+}
+
+/// What stands before a kind's name for its forests with marks.
+const MARKED: &str = "marked-";
+
+impl Family {
+    pub fn name(self) -> String {
+        let before = if self.marked { MARKED } else { "" };
+        format!("{before}{}", self.kind.name())
+    }
+
+    /// The family of that name: a kind's, or that behind `marked-`.
+    pub fn parse(name: &str) -> Option<Family> {
+        let kind = name.strip_prefix(MARKED);
+        Some(Family {
+            kind: Kind::parse(kind.unwrap_or(name))?,
+            marked: kind.is_some(),
+        })
+    }
+
+    /// The accepted forest of that seed.
+    pub fn forest(self, seed: u64) -> Forest {
+        match self.marked {
+            true => with_marks(seed, self.kind),
+            false => accepted(seed, self.kind),
+        }
+    }
+}
+
+impl From<Kind> for Family {
+    fn from(kind: Kind) -> Family {
+        Family {
+            kind,
+            marked: false,
+        }
+    }
+}
+
+/// The accepted forest of that seed and kind, with marks for every third seed.
+pub fn at_times_marked(seed: u64, kind: Kind) -> Forest {
+    let marked = seed % 3 == 0;
+    Family { kind, marked }.forest(seed)
+}
+
+/// The tree shapes of [`accepted`], other constants in place of some leaves, and marks.
+fn with_marks(seed: u64, kind: Kind) -> Forest {
+    let mut forest = accepted(seed, kind);
+    // Another stream than the forest's own.
+    let mut rng = Rng::new(stream(seed, kind) ^ 0x3A4B_ED00);
+    marks::put_marks(&mut rng, &mut forest);
+    forest
+}
+
+/// Kinds with the same seed draw from different streams.
+fn stream(seed: u64, kind: Kind) -> u64 {
+    seed ^ ((kind as u64 + 1) << 56)
+}
+
+/// The accepted forest of that seed and kind, all its marks 0.
 pub fn accepted(seed: u64, kind: Kind) -> Forest {
-    // Kinds with the same seed draw from different streams.
-    let mut rng = Rng::new(seed ^ ((kind as u64 + 1) << 56));
+    let mut rng = Rng::new(stream(seed, kind));
     match kind {
         Kind::NearLimit => limits::near_limit(&mut rng),
         Kind::Readings => counted::near_readings(&mut rng),

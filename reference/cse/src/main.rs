@@ -5,7 +5,7 @@ use std::process::ExitCode;
 
 use cse_reference::check::accept;
 use cse_reference::damage::damaged;
-use cse_reference::generate::{accepted, Kind};
+use cse_reference::generate::{Family, Kind};
 use cse_reference::lister::lister;
 use cse_reference::oracle::{answer, Answer, NoAnswer, MAX_OUTPUT, MIN_WORK_WORDS};
 use cse_reference::{hex, notation, rows};
@@ -24,6 +24,7 @@ usage: cse-reference COMMAND
   to-notation                      forests in: notation
   forest NOTATION                  the forest's bytes
   notation                         a forest's bytes in: notation
+Before each KIND marked- may stand: the constants then have marks.
 Elsewhere standard input has one forest a line, in hex, - for no bytes. Fields are parted by tabs. A forest that
 is too much work for the original gives the line: skipped";
 
@@ -92,9 +93,9 @@ fn run(arguments: &[String], out: &mut impl Write) -> Result<(), Failure> {
         }
         "generate" => {
             let arguments = parsed(&["KIND", "COUNT"], &["--seed"])?;
-            let kind = kind(&arguments.operands[0])?;
+            let family = family(&arguments.operands[0])?;
             for seed in arguments.seeds(1)? {
-                writeln!(out, "{}", hex::print(&accepted(seed, kind).to_bytes()))?;
+                writeln!(out, "{}", hex::print(&family.forest(seed).to_bytes()))?;
             }
             Ok(())
         }
@@ -213,11 +214,11 @@ fn or_skipped(text: Result<String, NoAnswer>) -> Result<String, String> {
     }
 }
 
-fn kind(name: &str) -> Result<Kind, Failure> {
-    Kind::parse(name).ok_or_else(|| {
+fn family(name: &str) -> Result<Family, Failure> {
+    Family::parse(name).ok_or_else(|| {
         let names: Vec<&str> = Kind::ALL.iter().map(|kind| kind.name()).collect();
         Failure::Usage(format!(
-            "no kind is called {name}, only {}",
+            "no kind is called {name}, only {}, and these with marked- before them",
             names.join(", ")
         ))
     })

@@ -143,6 +143,28 @@ pub fn answer_deep(forest: &[u8], out_len: usize, work_words: usize) -> Result<T
     })
 }
 
+/// Whether marks matter to a forest with that answer, where plenty is lent: without them it has other
+/// symbols or another tree, the marks in the tree left aside. False where it has no answer then.
+pub fn tells_marks(forest: &[u8], given: &Answer) -> bool {
+    let Some(unmarked) = without_marks(forest) else {
+        return false;
+    };
+    match answer_deep(&unmarked, MAX_OUTPUT, MIN_WORK_WORDS) {
+        Ok(Told { answer, .. }) => {
+            // A refusal has no tree.
+            let tree = without_marks(&given.tree).unwrap_or_default();
+            (answer.symbols, answer.tree) != (given.symbols, tree)
+        }
+        Err(_) => false,
+    }
+}
+
+/// The bytes of an accepted forest with its marks taken off.
+pub(crate) fn without_marks(forest: &[u8]) -> Option<Vec<u8>> {
+    let forest = accept(forest).ok()?;
+    Some(forest.without_marks().to_bytes())
+}
+
 /// The answer to a forest with that written tree.
 fn measured(tree: Tree, counts: Counts, out_len: usize) -> Answer {
     let (records, depth) = (tree.size(), tree.depth());

@@ -2,7 +2,7 @@
 
 use crate::damage::{damaged, each};
 use crate::forest::Forest;
-use crate::generate::{accepted, Kind, Rng};
+use crate::generate::{at_times_marked, Kind, Rng};
 use crate::lister::lister;
 use crate::oracle::{answer, Answer, NoAnswer, MAX_OUTPUT, MIN_WORK_WORDS};
 use crate::trees::{alone, h};
@@ -20,7 +20,7 @@ pub struct Row {
 }
 
 /// The row of a seed, its forest of at most so many records: of 100 rows some 70 are forests to
-/// accept, 25 damaged ones, and 5 at a limit.
+/// accept, a third of them with marks, 25 damaged ones, and 5 at a limit.
 pub fn row(seed: u64, max_records: u64) -> Result<Row, NoAnswer> {
     let mut rng = Rng::new(seed);
     match rng.below(100) {
@@ -43,7 +43,7 @@ pub fn list_row(seed: u64) -> Result<(Vec<u8>, Vec<u8>), NoAnswer> {
 }
 
 /// The forest of a seed, for the checks alone: in turn one damaged for each of refusals 2 to 10, and
-/// five to accept.
+/// five to accept, a third of them with marks.
 pub fn check_row(seed: u64) -> Vec<u8> {
     const ACCEPTED: [Kind; 10] = [
         Kind::Small,
@@ -59,7 +59,7 @@ pub fn check_row(seed: u64) -> Vec<u8> {
     ];
     match seed % 14 {
         turn @ 0..9 => each(turn as u32 + 2, seed).bytes,
-        _ => accepted(seed, ACCEPTED[(seed / 14 % 10) as usize]).to_bytes(),
+        _ => at_times_marked(seed, ACCEPTED[(seed / 14 % 10) as usize]).to_bytes(),
     }
 }
 
@@ -98,7 +98,7 @@ fn first(
 fn plain(rng: &mut Rng, max_records: u64) -> Result<Row, NoAnswer> {
     let draw = || {
         let kind = rng.pick(&[Kind::Small, Kind::Medium]);
-        let forest = accepted(rng.bits(), kind);
+        let forest = at_times_marked(rng.bits(), kind);
         fits(&forest, max_records).then(|| call(forest.to_bytes()))
     };
     match first(draw, |_| true)? {
@@ -151,7 +151,7 @@ fn at_limit(rng: &mut Rng, max_records: u64) -> Result<Row, NoAnswer> {
         }
     };
     let draw = || {
-        let forest = accepted(rng.bits(), kind);
+        let forest = at_times_marked(rng.bits(), kind);
         fits(&forest, max_records).then(|| call(forest.to_bytes()))
     };
     match first(draw, |row| row.answer.number == number)? {

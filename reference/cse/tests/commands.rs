@@ -3,6 +3,9 @@
 use std::io::Write;
 use std::process::{Command, Stdio};
 
+use cse_reference::check::accept;
+use cse_reference::hex;
+
 /// Runs the binary: its exit status, standard output and standard error.
 fn run(arguments: &[&str], input: &[u8]) -> (i32, String, String) {
     let mut child = Command::new(env!("CARGO_BIN_EXE_cse-reference"))
@@ -89,7 +92,7 @@ fn what_is_too_much_work_is_skipped() {
 
 #[test]
 fn generated_forests_have_answers() {
-    for kind in ["small", "medium"] {
+    for kind in ["small", "medium", "marked-small", "marked-medium"] {
         let forests = prints(&["generate", kind, "20", "--seed", "3"], "");
         assert_eq!(forests.lines().count(), 20);
         let answers = prints(&["answer"], &forests);
@@ -142,14 +145,34 @@ fn rows_are_calls_with_their_answers() {
 fn list_rows_are_forests_with_their_text() {
     for line in prints(&["list-rows", "30"], "").lines() {
         let (forest, text) = line.split_once('\t').unwrap();
-        let text = cse_reference::hex::parse(text).unwrap();
+        let text = hex::parse(text).unwrap();
         assert_eq!(prints(&["list"], forest).into_bytes(), text);
+    }
+}
+
+/// Every third forest to accept is from a marked kind, which leaves some without marks.
+#[test]
+fn rows_have_marks() {
+    for command in ["rows", "list-rows", "check-rows"] {
+        let lines = prints(&[command, "300"], "");
+        let forests = lines.lines().filter_map(|line| {
+            let forest = line.split('\t').next().unwrap();
+            accept(&hex::parse(forest).unwrap()).ok()
+        });
+        let (mut accepted, mut with) = (0, 0);
+        for mut forest in forests {
+            accepted += 1;
+            let constants = forest.constants_mut();
+            with += u32::from(constants.iter().any(|record| record.aux >= 7));
+        }
+        let share = 100 * with / accepted;
+        assert!((12..=35).contains(&share), "{command}: {share} of 100");
     }
 }
 
 #[test]
 fn wrong_command_lines() {
-    let cases: [(&[&str], &str); 17] = [
+    let cases: [(&[&str], &str); 19] = [
         (&[], "a command is wanted"),
         (&["answers"], "no command is called answers"),
         (&["answer", "--length", "3"], "no option is called --length"),
@@ -166,6 +189,14 @@ fn wrong_command_lines() {
         (
             &["generate", "tiny", "1"],
             "no kind is called tiny, only small",
+        ),
+        (
+            &["generate", "marked-tiny", "1"],
+            "no kind is called marked-tiny, only small",
+        ),
+        (
+            &["generate", "marked", "1"],
+            "unreached, and these with marked- before them",
         ),
         (&["generate", "small", "many"], "COUNT is to be a number"),
         (&["damage"], "damage: wants COUNT"),

@@ -2,7 +2,7 @@
 
 use cse_reference::forest::{Forest, Tree};
 use cse_reference::lister::lister;
-use cse_reference::oracle::{answer, Answer};
+use cse_reference::oracle::{answer, tells_marks, Answer};
 use cse_reference::trees::*;
 use cse_reference::unfold::keeps_meaning;
 
@@ -78,6 +78,25 @@ fn marks_tell_constants_apart() {
     }
     gives(&pair(x, 1, 2), p(marked(x(), 1), marked(x(), 2)));
     gives(&pair(x, 0, 35), p(x(), marked(x(), 35)));
+}
+
+#[test]
+fn a_forest_tells_marks_where_they_keep_constants_apart() {
+    let tells = |root: Tree| {
+        let forest = alone(root);
+        tells_marks(&forest.to_bytes(), &call(&forest))
+    };
+    let constants = |of: fn() -> Tree, left, right| p(marked(of(), left), marked(of(), right));
+    // Other symbols, another tree.
+    assert!(tells(constants(k, 1, 2)));
+    assert!(tells(constants(x, 0, 35)));
+    // The same but for the marks themselves, or no marks.
+    assert!(!tells(constants(k, 1, 1)));
+    assert!(!tells(constants(x, 35, 35)));
+    assert!(!tells(constants(x, 0, 0)));
+    assert!(!tells(p(marked(k(), 1), marked(x(), 2))));
+    // Refused with marks and without.
+    assert!(!tells(val_use(3)));
 }
 
 /// p(x:1,x:1), byte for byte: aux is 6 + 7 × 1.

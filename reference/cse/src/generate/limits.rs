@@ -4,7 +4,7 @@ use super::records::*;
 use super::Rng;
 use crate::forest::{Forest, Tree};
 
-const MAX_BYTES: usize = 65_535;
+pub(super) const MAX_BYTES: usize = 65_535;
 
 pub(super) fn zero() -> Tree {
     plain(ZERO, Vec::new())

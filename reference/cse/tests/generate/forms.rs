@@ -167,7 +167,7 @@ fn bound(tree: &Tree) -> Vec<u32> {
 #[test]
 fn every_form_occurs() {
     let mut features = Features::default();
-    for (_, _, forest) in forests() {
+    for (_, _, forest) in forests(unmarked()) {
         features.forest(&forest);
     }
     features.assert_seen("shape", 0..27);

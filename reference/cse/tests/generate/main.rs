@@ -1,22 +1,31 @@
 //! Generated forests are accepted, reach what their kinds aim at, and damaged ones are told apart.
 
 mod forms;
+mod marks;
 
 use std::collections::{BTreeMap, BTreeSet};
 
 use cse_reference::damage::{damaged, described, each};
 use cse_reference::forest::{Forest, Record, Tree};
 use cse_reference::generate::records::{nested_scopes, opcodes, SHAPES};
-use cse_reference::generate::{accepted, Kind};
+use cse_reference::generate::{accepted, Family, Kind};
 use cse_reference::oracle::{answer, MAX_OUTPUT, MIN_WORK_WORDS};
 
 /// Seeds a kind.
 const SEEDS: u64 = 350;
 
-fn forests() -> impl Iterator<Item = (Kind, u64, Forest)> {
+fn unmarked() -> impl Iterator<Item = Family> {
+    Kind::ALL.into_iter().map(Family::from)
+}
+
+fn marked() -> impl Iterator<Item = Family> {
     Kind::ALL
         .into_iter()
-        .flat_map(|kind| (0..SEEDS).map(move |seed| (kind, seed, accepted(seed, kind))))
+        .map(|kind| Family { kind, marked: true })
+}
+
+fn forests(families: impl Iterator<Item = Family>) -> impl Iterator<Item = (Family, u64, Forest)> {
+    families.flat_map(|family| (0..SEEDS).map(move |seed| (family, seed, family.forest(seed))))
 }
 
 fn ids(record: &Record) -> Vec<u32> {
@@ -126,15 +135,15 @@ fn assert_in_place(tree: &Tree, as_item: bool, in_force: &mut Vec<u32>) {
 
 #[test]
 fn generated_forests_are_accepted() {
-    for (kind, seed, forest) in forests() {
-        let context = format!("{} {seed}", kind.name());
+    for (family, seed, forest) in forests(unmarked().chain(marked())) {
+        let context = format!("{} {seed}", family.name());
         assert!((1..=16).contains(&forest.trees.len()), "{context}");
         assert!((1..=256).contains(&forest.size()), "{context}");
         assert!(forest.to_bytes().len() <= 65_535, "{context}");
         for tree in &forest.trees {
             assert!(tree.depth() <= 64, "{context}");
             assert_in_place(tree, false, &mut Vec::new());
-            let scopes = if kind == Kind::Scopes { 63 } else { 12 };
+            let scopes = if family.kind == Kind::Scopes { 63 } else { 12 };
             assert!(nested_scopes(tree) <= scopes, "{context}");
         }
     }
@@ -154,11 +163,14 @@ fn an_opcode_has_one_shape() {
 fn a_seed_gives_one_forest() {
     for kind in Kind::ALL {
         assert_eq!(Kind::parse(kind.name()), Some(kind));
-        assert_eq!(accepted(7, kind), accepted(7, kind));
+        assert_eq!(Family::from(kind).forest(7), accepted(7, kind));
+    }
+    for family in unmarked().chain(marked()) {
+        assert_eq!(family.forest(7), family.forest(7));
         let all: BTreeSet<Vec<u8>> = (0..100)
-            .map(|seed| accepted(seed, kind).to_bytes())
+            .map(|seed| family.forest(seed).to_bytes())
             .collect();
-        assert!(all.len() > 60, "{}", kind.name());
+        assert!(all.len() > 60, "{}", family.name());
     }
     assert_eq!(Kind::parse("tiny"), None);
 }
