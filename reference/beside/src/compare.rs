@@ -4,9 +4,9 @@ use std::collections::BTreeMap;
 use std::thread;
 
 use cse_library::{call, Numbers, MAX_WRITTEN, WORK_WORDS};
-use cse_reference::generate::Kind;
-use cse_reference::oracle::{answer_deep, Answer, NoAnswer, Skipped, Work};
-use cse_reference::{damage, generate, hex};
+use cse_reference::generate::Family;
+use cse_reference::oracle::{answer_deep, tells_marks, Answer, NoAnswer, Skipped, Work};
+use cse_reference::{damage, hex};
 
 /// The stack of a Rust thread by default; every call has to pass in it.
 const STACK: usize = 2 << 20;
@@ -26,6 +26,8 @@ struct Tally {
     compared: BTreeMap<u32, u64>,
     /// The most scopes inside one another in these.
     nesting: usize,
+    /// Those of them that tell marks apart.
+    telling: u64,
     /// Calls by number and who made the tree.
     calls: BTreeMap<(u32, &'static str), u64>,
     /// Forests that were not compared, by reason.
@@ -39,6 +41,7 @@ impl Tally {
             *self.compared.entry(number).or_default() += count;
         }
         self.nesting = self.nesting.max(other.nesting);
+        self.telling += other.telling;
         for (key, count) in other.calls {
             *self.calls.entry(key).or_default() += count;
         }
@@ -48,8 +51,9 @@ impl Tally {
         self.differences.extend(other.differences);
     }
 
-    /// Prints it all; whether nothing differed and at least so many forests were compared.
-    fn print(&self, name: &str, least: u64) -> bool {
+    /// Prints it all; whether nothing differed, at least so many forests were compared and, if it is asked, so many tell
+    /// marks apart.
+    fn print(&self, name: &str, least: u64, telling: Option<u64>) -> bool {
         for ((number, maker), count) in &self.calls {
             println!("{name}: {count} calls with answer {number} ({maker})");
         }
@@ -62,14 +66,18 @@ impl Tally {
         let numbers = self.compared.iter();
         let numbers: Vec<_> = numbers.map(|(n, count)| format!("{n}: {count}")).collect();
         let compared: u64 = self.compared.values().sum();
+        let told = telling.map_or(String::new(), |telling| {
+            let count = self.telling;
+            format!(" {count} that tell marks apart, at least {telling} asked for;")
+        });
         println!(
-            "{name}: {compared} forests compared, at least {least} asked for, {} passed over; by answer {}; nested up to {} deep; {} differences",
+            "{name}: {compared} forests compared, at least {least} asked for, {} passed over;{told} by answer {}; nested up to {} deep; {} differences",
             self.skipped.values().sum::<u64>(),
             numbers.join(", "),
             self.nesting,
             self.differences.len()
         );
-        self.differences.is_empty() && compared >= least
+        self.differences.is_empty() && compared >= least && self.telling >= telling.unwrap_or(0)
     }
 }
 
@@ -79,12 +87,17 @@ struct Lent {
     work: Vec<u32>,
 }
 
-pub fn accepted(kind: Kind, count: u64, seed: u64, least: u64) -> bool {
-    let bytes = |seed| generate::accepted(seed, kind).to_bytes();
+/// Forests of a family. Whether nothing differed, at least so many were compared and, of marked ones, so many tell marks
+/// apart.
+pub fn accepted(family: Family, count: u64, seed: u64, least: u64, telling: u64) -> bool {
     in_two(count, seed, |seed, lent, tally| {
-        compare(&bytes(seed), seed, lent, tally)
+        let forest = family.forest(seed).to_bytes();
+        let given = compare(&forest, seed, lent, tally);
+        if family.marked {
+            tally.telling += u64::from(given.is_some_and(|given| tells_marks(&forest, &given)));
+        }
     })
-    .print(kind.name(), least)
+    .print(&family.name(), least, family.marked.then_some(telling))
 }
 
 pub fn damaged(count: u64, seed: u64, least: u64) -> bool {
@@ -92,7 +105,7 @@ pub fn damaged(count: u64, seed: u64, least: u64) -> bool {
         let damaged = damage::damaged(seed);
         compare(&damaged.bytes, seed, lent, tally);
     })
-    .print("damaged", least)
+    .print("damaged", least, None)
 }
 
 /// The seeds from `seed` on, every other one in each of two threads with a small stack.
@@ -127,11 +140,10 @@ fn in_two(count: u64, seed: u64, each: impl Fn(u64, &mut Lent, &mut Tally) + Syn
     })
 }
 
-/// One forest: lent plenty, then an output exactly long enough and one a byte shorter, and at times too few words.
-fn compare(forest: &[u8], seed: u64, lent: &mut Lent, tally: &mut Tally) {
-    let Some(first) = compare_call(forest, MAX_WRITTEN, WORK_WORDS, seed, lent, tally) else {
-        return;
-    };
+/// One forest: lent plenty, then an output exactly long enough and one a byte shorter, and at times too few words. The
+/// answer that it has to give where plenty is lent, or none if it was not compared.
+fn compare(forest: &[u8], seed: u64, lent: &mut Lent, tally: &mut Tally) -> Option<Answer> {
+    let first = compare_call(forest, MAX_WRITTEN, WORK_WORDS, seed, lent, tally)?;
     *tally.compared.entry(first.number).or_default() += 1;
     let mut one = |out_length: usize, words: usize| {
         compare_call(forest, out_length, words, seed, lent, tally);
@@ -144,6 +156,7 @@ fn compare(forest: &[u8], seed: u64, lent: &mut Lent, tally: &mut Tally) {
     if seed % 64 == 0 {
         one(MAX_WRITTEN, WORK_WORDS - 1);
     }
+    Some(first)
 }
 
 /// One call; the answer that it has to give, or none if it was not made.
@@ -262,4 +275,22 @@ fn difference(
     (2..=10)
         .contains(&again)
         .then(|| format!("the written tree is refused with {again}"))
+}
+
+#[cfg(test)]
+mod tests {
+    use super::*;
+
+    #[test]
+    fn fewer_than_are_asked_for_is_a_failure() {
+        let tally = Tally {
+            compared: [(0, 4), (12, 1)].into(),
+            telling: 3,
+            ..Tally::default()
+        };
+        assert!(tally.print("forests", 5, None));
+        assert!(!tally.print("forests", 6, None));
+        assert!(tally.print("forests", 5, Some(3)));
+        assert!(!tally.print("forests", 5, Some(4)));
+    }
 }

@@ -7,7 +7,7 @@ use std::io;
 
 use cse_library::{call, Numbers, MAX_WRITTEN, WORK_WORDS};
 use cse_reference::check::accept;
-use cse_reference::generate::Kind;
+use cse_reference::generate::Family;
 use cse_reference::hex;
 use cse_reference::oracle::{exprs, original};
 use ergo_ser::opcode::Expr;
@@ -34,8 +34,8 @@ impl Side {
 }
 
 /// Prints the forests that are measured, in hex.
-pub fn forests(kind: Kind, count: usize, seed: u64) {
-    for (_, bytes) in written(kind, seed).take(count) {
+pub fn forests(family: Family, count: usize, seed: u64) {
+    for (_, bytes) in written(family, seed).take(count) {
         println!("{}", hex::print(&bytes));
     }
 }

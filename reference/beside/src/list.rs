@@ -5,9 +5,9 @@ use std::process::{Command, Stdio};
 use std::thread;
 
 use cse_reference::damage::damaged;
-use cse_reference::generate::{accepted, Kind};
+use cse_reference::generate::Family;
 use cse_reference::hex;
-use cse_reference::lister::listing;
+use cse_reference::lister::{listing, tells_marks};
 use cse_reference::oracle::NoAnswer;
 
 use crate::compare::MAX_LISTS;
@@ -26,7 +26,7 @@ struct Tally {
     unreached: u64,
     /// Those with a definition that nothing uses.
     unused: u64,
-    /// Those whose text would be another if the uses by all symbols counted.
+    /// Those that tell what they have to.
     telling: u64,
     /// Those that were not compared: too much work for a side.
     skipped: u64,
@@ -45,30 +45,43 @@ impl Tally {
     }
 }
 
-/// Forests of a kind, or damaged ones where there is none. Whether no text differed, at least so many were compared, and
-/// so many tell what is counted.
-pub fn listed(kind: Option<Kind>, count: u64, seed: u64, least: u64, telling: u64) -> bool {
-    let bytes = move |seed| match kind {
-        Some(kind) => accepted(seed, kind).to_bytes(),
+/// What a forest has to tell, where it is asked for.
+#[derive(Clone, Copy)]
+enum Told {
+    /// Its text would be another if the uses by all symbols counted.
+    Counted,
+    /// Its text would be another without marks.
+    Marks,
+}
+
+/// Forests of a family, or damaged ones where there is none. Whether no text differed, at least so many were compared, and
+/// so many tell what is counted or, with marks, tell these apart.
+pub fn listed(family: Option<Family>, count: u64, seed: u64, least: u64, telling: u64) -> bool {
+    let bytes = move |seed| match family {
+        Some(family) => family.forest(seed).to_bytes(),
         None => damaged(seed).bytes,
+    };
+    let (told, words) = match family.is_some_and(|family| family.marked) {
+        true => (Told::Marks, "tell marks apart"),
+        false => (Told::Counted, "tell what is counted"),
     };
     let half = move |first: u64| {
         let mut tally = Tally::default();
         for seed in (seed + first..seed + count).step_by(2) {
-            compare(&bytes(seed), &mut tally);
+            compare(&bytes(seed), told, &mut tally);
         }
         tally
     };
     let other = thread::spawn(move || half(1));
     let mut tally = half(0);
     tally.join(other.join().expect("no comparison panics"));
-    let name = kind.map_or("damaged", Kind::name);
+    let name = family.map_or("damaged".to_string(), Family::name);
     for line in tally.differences.iter().take(20) {
         println!("{name}: DIFFERENCE {line}");
     }
     println!(
         "{name}: {} texts compared, at least {least} asked for, {} passed over; {} refusals, {} with unreached symbols of environment trees, \
-         {} with unused definitions, {} that tell what is counted, at least {telling} asked for; {} differences",
+         {} with unused definitions, {} that {words}, at least {telling} asked for; {} differences",
         tally.compared,
         tally.skipped,
         tally.refused,
@@ -80,7 +93,7 @@ pub fn listed(kind: Option<Kind>, count: u64, seed: u64, least: u64, telling: u6
     tally.differences.is_empty() && tally.compared >= least && tally.telling >= telling
 }
 
-fn compare(forest: &[u8], tally: &mut Tally) {
+fn compare(forest: &[u8], told: Told, tally: &mut Tally) {
     let expected = match listing(forest) {
         Ok(listing) if listing.work.map_or(0, |work| work.lists) <= MAX_LISTS => listing,
         Ok(_) | Err(NoAnswer::Skipped(_)) => {
@@ -98,7 +111,10 @@ fn compare(forest: &[u8], tally: &mut Tally) {
     tally.refused += u64::from(expected.text.starts_with("refused"));
     tally.unreached += u64::from(expected.unreached);
     tally.unused += u64::from(expected.unused);
-    tally.telling += u64::from(expected.telling);
+    tally.telling += u64::from(match told {
+        Told::Counted => expected.telling,
+        Told::Marks => tells_marks(forest, &expected),
+    });
     match lister(forest) {
         Ok(text) if text == expected.text.as_bytes() => {}
         Ok(text) => tally.differences.push(format!(

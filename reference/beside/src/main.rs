@@ -7,22 +7,27 @@ mod measure;
 
 use std::process::ExitCode;
 
+use cse_reference::generate::Family;
+
 const USAGE: &str = "\
-usage: beside compare KIND COUNT [SEED [LEAST]]
-                                          accepted forests of a kind through both
+usage: beside compare KIND COUNT [SEED [LEAST [TELLING]]]
+                                          accepted forests of a kind through both; with marks, TELLING of them have to
+                                          tell these apart: without they would have other symbols or another tree
        beside damaged COUNT [SEED [LEAST]]
                                           refused forests through both
        beside list KIND COUNT [SEED [LEAST [TELLING]]]
                                           accepted forests of a kind, or refused ones where KIND is damaged, through the
                                           program lister, its text beside the reading's; TELLING of them have to tell
-                                          what is counted: by the uses of all symbols they would have another text
+                                          what is counted: by the uses of all symbols they would have another text; or,
+                                          with marks, tell these apart: without they would have another text
        beside measure COUNT [SEED]        time of both, by class
        beside growth                      time of both, as scripts grow
        beside forests KIND COUNT SEED     the forests whose time is measured, in hex
        beside count SIDE                  forests in hex from standard input, each once through the original or the call,
                                           for tools/count_instructions.py
-A difference is printed with its forest, and the status is 1; so it is where fewer than LEAST forests were compared, which
-is COUNT unless it is said, and not 0, or fewer than TELLING tell what is counted, which is 0 unless it is said.";
+Before each KIND marked- may stand: the constants then have marks. A difference is printed with its forest, and the
+status is 1; so it is where fewer than LEAST forests were compared, which is COUNT unless it is said, and not 0, or fewer
+than TELLING tell what they have to, which is 0 unless it is said; compare takes another for marked kinds only.";
 
 fn main() -> ExitCode {
     let arguments: Vec<String> = std::env::args().skip(1).collect();
@@ -42,16 +47,15 @@ fn run(words: &[&str]) -> Option<bool> {
     let number =
         |word: Option<&&str>, default| word.map_or(Some(default), |word| word.parse().ok());
     match words {
-        ["compare", kind, count, rest @ ..] if rest.len() < 3 => {
-            let kind = cse_reference::generate::Kind::parse(kind)?;
+        ["compare", kind, count, rest @ ..] if rest.len() < 4 => {
+            let family = Family::parse(kind)?;
             let count = count.parse().ok()?;
+            let seed = number(rest.first(), 1)?;
             let least = number(rest.get(1), count).filter(|least| *least > 0)?;
-            Some(compare::accepted(
-                kind,
-                count,
-                number(rest.first(), 1)?,
-                least,
-            ))
+            // Without marks none tells them apart.
+            let telling =
+                number(rest.get(2), 0).filter(|telling| family.marked || *telling == 0)?;
+            Some(compare::accepted(family, count, seed, least, telling))
         }
         ["damaged", count, rest @ ..] if rest.len() < 3 => {
             let count = count.parse().ok()?;
@@ -59,15 +63,15 @@ fn run(words: &[&str]) -> Option<bool> {
             Some(compare::damaged(count, number(rest.first(), 1)?, least))
         }
         ["list", kind, count, rest @ ..] if rest.len() < 4 => {
-            let kind = match *kind {
+            let family = match *kind {
                 "damaged" => None,
-                kind => Some(cse_reference::generate::Kind::parse(kind)?),
+                kind => Some(Family::parse(kind)?),
             };
             let count = count.parse().ok()?;
             let seed = number(rest.first(), 1)?;
             let least = number(rest.get(1), count).filter(|least| *least > 0)?;
             Some(list::listed(
-                kind,
+                family,
                 count,
                 seed,
                 least,
@@ -83,8 +87,8 @@ fn run(words: &[&str]) -> Option<bool> {
             Some(true)
         }
         ["forests", kind, count, seed] => {
-            let kind = cse_reference::generate::Kind::parse(kind)?;
-            count::forests(kind, count.parse().ok()?, seed.parse().ok()?);
+            let family = Family::parse(kind)?;
+            count::forests(family, count.parse().ok()?, seed.parse().ok()?);
             Some(true)
         }
         ["count", side] => Some(count::count(count::Side::parse(side)?)),

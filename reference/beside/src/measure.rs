@@ -8,7 +8,7 @@ use cse_library::{call, MAX_WRITTEN, WORK_WORDS};
 use cse_reference::check::accept;
 use cse_reference::cost::{nesting, MAX_NESTING};
 use cse_reference::forest::Forest;
-use cse_reference::generate::{accepted, Kind};
+use cse_reference::generate::{Family, Kind};
 use cse_reference::notation;
 use cse_reference::oracle::{answer, exprs, original};
 
@@ -103,7 +103,7 @@ fn class(kind: Kind, count: usize, seed: u64) {
     let (mut theirs, mut ours, mut ratios) = (Vec::new(), Vec::new(), Vec::new());
     let mut out = vec![0; MAX_WRITTEN];
     let mut work = vec![0; WORK_WORDS];
-    for (forest, bytes) in written(kind, seed).take(count) {
+    for (forest, bytes) in written(kind.into(), seed).take(count) {
         let (their, our) = times(&forest, &bytes, &mut out, &mut work);
         ratios.push(their.as_secs_f64() / our.as_secs_f64());
         theirs.push(micros(their));
@@ -127,9 +127,9 @@ fn class(kind: Kind, count: usize, seed: u64) {
 }
 
 /// The forests of a kind that are written, with their bytes, by seeds from `seed` on.
-pub fn written(kind: Kind, seed: u64) -> impl Iterator<Item = (Forest, Vec<u8>)> {
+pub fn written(family: Family, seed: u64) -> impl Iterator<Item = (Forest, Vec<u8>)> {
     (seed..).filter_map(move |seed| {
-        let bytes = accepted(seed, kind).to_bytes();
+        let bytes = family.forest(seed).to_bytes();
         let answer = answer(&bytes, MAX_WRITTEN, WORK_WORDS).ok()?;
         if answer.number != 0 {
             return None;

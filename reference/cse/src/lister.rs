@@ -8,7 +8,8 @@ use crate::cse::{Interner, KeyTag, SymId};
 use crate::forest::{Forest, Tree};
 use crate::generate::records::{BLOCK_VALUE, VAL_DEF, VAL_USE};
 use crate::oracle::{
-    answer_deep, by_original, interned, on_large_stack, NoAnswer, Work, MAX_OUTPUT, MIN_WORK_WORDS,
+    answer_deep, by_original, interned, on_large_stack, without_marks, NoAnswer, Work, MAX_OUTPUT,
+    MIN_WORK_WORDS,
 };
 
 /// The lister's text: a line a symbol, or what the main call refuses with. By the original, as far as it ends in time.
@@ -54,6 +55,13 @@ pub fn listing(forest: &[u8]) -> Result<Listing, NoAnswer> {
             text,
         }
     }))
+}
+
+/// Whether marks matter to a forest with that listing: without them its text would be another. False where it would have
+/// none.
+pub fn tells_marks(forest: &[u8], given: &Listing) -> bool {
+    let unmarked = without_marks(forest).and_then(|forest| listing(&forest).ok());
+    unmarked.is_some_and(|unmarked| unmarked.text != given.text)
 }
 
 fn symbol_lines(interner: &Interner, usage: &BTreeMap<SymId, usize>) -> String {

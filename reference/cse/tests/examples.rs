@@ -1,7 +1,7 @@
 //! Every line of document 01, "Trees to compare".
 
 use cse_reference::forest::{Forest, Tree};
-use cse_reference::lister::lister;
+use cse_reference::lister::{self, lister, listing};
 use cse_reference::oracle::{answer, tells_marks, Answer};
 use cse_reference::trees::*;
 use cse_reference::unfold::keeps_meaning;
@@ -84,7 +84,11 @@ fn marks_tell_constants_apart() {
 fn a_forest_tells_marks_where_they_keep_constants_apart() {
     let tells = |root: Tree| {
         let forest = alone(root);
-        tells_marks(&forest.to_bytes(), &call(&forest))
+        let bytes = forest.to_bytes();
+        let answer = tells_marks(&bytes, &call(&forest));
+        let text = lister::tells_marks(&bytes, &listing(&bytes).unwrap());
+        assert_eq!(text, answer);
+        answer
     };
     let constants = |of: fn() -> Tree, left, right| p(marked(of(), left), marked(of(), right));
     // Other symbols, another tree.
