@@ -8,7 +8,7 @@ five numbers of the answer; then the forest, then the written tree. The forests:
   - of each kind listed below, some that `cse-reference generate` makes, with the longest output and 16,384 work words; of those that are written, some
     once more with an output exactly as long as the tree, a byte shorter, and none, and with 16,390 words;
   - damaged in a known way, some for each of refusals 2 to 10;
-  - the trees that document 01 lists for comparison, in its notation;
+  - the trees that document 01 lists for comparison, in its notation, and a few with marks;
   - each of the first with 16,383 words.
 Numbers, places and trees are those of `cse-reference answer`: the unchanged original with the limits and refusals of document 01 around it.
 Forests over 65,536 bytes are left out, since the program holds no more, and so are those that the Rust side passes over; both are counted."""
@@ -22,7 +22,7 @@ LONGEST, WORDS, MOST = 65535, 16384, 65536
 # kind, how many, of at most so many bytes: large forests would make the list long
 KINDS = [("small", 200, 400), ("medium", 150, 1200), ("large", 40, 3000), ("deep", 60, 2500), ("wide", 60, 2500), ("thunks", 120, 1500),
          ("lambdas", 120, 1500), ("projections", 120, 1500), ("blocks", 120, 1500), ("near-limit", 50, 6000), ("readings", 60, 4000),
-         ("symbols", 50, 6000)]
+         ("symbols", 50, 6000), ("marked-small", 100, 400), ("marked-medium", 80, 1200)]
 TREES = """h
 p(h,h)
 p(k,k)
@@ -36,7 +36,12 @@ L7.p(n(7),n(7))
 L7.p(n(z),n(z))
 s1(tuple(z,z))
 3
-L1.L1.1""".split("\n")
+L1.L1.1
+p(k:1,k:2)
+p(k:1,k:1)
+p(x:1,x:1)
+p(x:1,x:2)
+p(x,x:35)""".split("\n")
 
 
 def reference(*words, lines=None):
