@@ -19,7 +19,7 @@ pub struct SigmaValue {
     pub mark: u8,
 }
 
-/// A constant's aux (document 01, shape 0): one byte for class and mark.
+/// A constant's aux: class and mark in one byte (request A.5).
 pub fn constant_aux(class: u8, mark: u8) -> u8 {
     class + CLASSES * mark
 }
