@@ -246,7 +246,7 @@ impl Builder {
     }
 
     fn block(&mut self, room: Room) -> Tree {
-        let mark = self.in_force.len();
+        let outer = self.in_force.len();
         let mut inside = room.inside();
         let mut definitions: Vec<Tree> = Vec::new();
         // A definition needs two records and two levels. The result gets a third of the records, so
@@ -285,7 +285,7 @@ impl Builder {
             self.bind(id);
         }
         let result = self.tree(inside);
-        self.release(mark);
+        self.release(outer);
         block(definitions, result)
     }
 
@@ -307,7 +307,7 @@ impl Builder {
         let count =
             self.rng
                 .weighted(&[(0, 8), (1, 50), (2, 20), (3, 8), (4, 4), (some, 6), (15, 4)]);
-        let mark = self.in_force.len();
+        let outer = self.in_force.len();
         let mut ids = Vec::new();
         for _ in 0..count {
             let id = self.new_id(&ids);
@@ -321,7 +321,7 @@ impl Builder {
             self.bind(id);
         }
         let body = self.tree(room.inside().scope());
-        self.release(mark);
+        self.release(outer);
         lambda(&arguments, body)
     }
 
@@ -372,8 +372,8 @@ impl Builder {
     }
 
     /// Ends what was bound since there were so many ids in force.
-    fn release(&mut self, mark: usize) {
-        let ended = self.in_force.split_off(mark);
+    fn release(&mut self, outer: usize) {
+        let ended = self.in_force.split_off(outer);
         self.unused.retain(|id| !ended.contains(id));
     }
 

@@ -55,7 +55,7 @@ impl Plants {
 /// The ids that a tree uses from outside, and those that it binds.
 pub(super) fn names(tree: &Tree) -> (Vec<u32>, Vec<u32>) {
     fn walk(tree: &Tree, inside: &mut Vec<u32>, free: &mut Vec<u32>, bound: &mut Vec<u32>) {
-        let mark = inside.len();
+        let outer = inside.len();
         match tree.record.shape {
             VAL_USE => {
                 let id = first_id(&tree.record);
@@ -78,7 +78,7 @@ pub(super) fn names(tree: &Tree) -> (Vec<u32>, Vec<u32>) {
                 inside.push(id);
             }
         }
-        inside.truncate(mark);
+        inside.truncate(outer);
     }
     let (mut free, mut bound) = (Vec::new(), Vec::new());
     walk(tree, &mut Vec::new(), &mut free, &mut bound);
