@@ -3,9 +3,9 @@
 -- In order: paths; a reached symbol, and a constant's (`constant-stands`); definitions and blocks; the trees of reached
 -- symbols (`tree-constants`).
 -- Promise/Parameters uses these two. Assumes nothing.
-use mathlib.Core.Path.{_≡_, refl, ap, sym, _∙_}
+use mathlib.Core.Path.{_≡_, refl, ap, _∙_}
 use mathlib.Core.Logic.{inl, inr}
-use mathlib.Core.Bool.{Bool, true, false}
+use mathlib.Core.Bool.{true}
 use mathlib.Core.Option.{Option, none, some, Option·some-injective}
 use mathlib.Core.List.{List, [], _∷_, _++_}
 use Prim.Native.Nat.{ℕ, zero, suc, _+_, _<_}
@@ -13,12 +13,12 @@ use native.Mathlib.Omega.{arith}
 use lib.ListN.{length, getD}
 use Rattle.model.specs.Down.{under, downFuel, down}
 use Rattle.model.specs.Tree.{Rec, rec, Tree, Trees, node, nil, cons, below, snoc}
-use Rattle.model.specs.Unfold.{Unfolded, made, done}
+use Rattle.model.specs.Unfold.{Unfolded, made}
 use Rattle.model.specs.Intern.{Node, constant, unparsed, argument, func, operation, Sym, Scope, Env, thunked}
 use Rattle.model.specs.Gate.{Graph, symOf}
 use Rattle.model.specs.Schedule.{schedule}
-use Rattle.model.specs.Materialize.{Builder, Defined, valUseOf, valDefOf, renames, onlyOf, wrapBlock, idGiven, define}
-use Rattle.model.specs.Materialize.{processScope, buildOp, argLit, argEnv, buildNode, buildStep, buildValue}
+use Rattle.model.specs.Materialize.{Builder, valUseOf, valDefOf, renames, onlyOf, wrapBlock, idGiven, define}
+use Rattle.model.specs.Materialize.{processScope, buildOp, argEnv, buildNode, buildStep, buildValue}
 use Rattle.model.specs.Parameters.{operandIn, operand, partAt, ConstantAt, EachConstant, EachConstants}
 use Rattle.laws.proofs.Apart.{none-some}
 use Rattle.laws.specs.Members.{In, Every}
@@ -27,7 +27,7 @@ use Rattle.laws.proofs.Defining.{along}
 use Rattle.theory.proofs.Meaning.Mean.{Val, Mean, bindSyms, meanAll, mean}
 use Rattle.theory.proofs.Meaning.Coincide.{mean-lam, mean-plain}
 use Rattle.theory.proofs.Acceptance.Records.{const-child}
-use Rattle.theory.specs.Good.{recAt, symKids, nodeAt, noArg, Plain, NodeOk, SymOk, Goods}
+use Rattle.theory.specs.Good.{recAt, symKids, nodeAt, noArg, Plain, NodeOk, Goods}
 use Rattle.theory.proofs.Building.Reach.{Below, here, kid, below-then, below-low, schedule-below}
 
 -- ---- paths

@@ -2,24 +2,23 @@
 -- In order: a constant's symbol; an accepted forest, `parameters-kept`; that every state of its interning leads to the
 -- last, `reading-leads`.
 -- Assumes nothing.
-use mathlib.Core.Path.{_≡_, refl, ap, sym, _∙_, subst}
+use mathlib.Core.Path.{_≡_, ap, sym, _∙_, subst}
 use mathlib.Core.List.{List, []}
 use mathlib.Core.Bool.{Bool, true}
 use Prim.Native.Nat.{ℕ}
 use lib.Seq.{getD-append-seam}
 use Rattle.model.specs.Lists.{without}
 use Rattle.model.specs.Answer.{good, _>>=_}
-use Rattle.model.specs.Tree.{Rec, mark, Tree, Trees, node, nil, root}
+use Rattle.model.specs.Tree.{Rec, mark, Tree, node, nil, root}
 use Rattle.model.specs.Forest.{treesOf}
-use Rattle.model.specs.Accept.{checks, accept}
+use Rattle.model.specs.Accept.{accept}
 use Rattle.model.specs.Binding.{Kind, kind, other}
-use Rattle.model.specs.Unfold.{Unfolded, arg, unfolded}
+use Rattle.model.specs.Unfold.{arg, unfolded}
 use Rattle.model.specs.Intern.{Node, Sym, State, Env, noSym, read, nodeOf, unionDeps, push, internGeneral, internKind, intern}
 use Rattle.model.specs.Gate.{reachable}
 use Rattle.model.specs.Materialize.{materialize}
 use Rattle.model.specs.Call.{interned, treeOf}
 use Rattle.model.specs.Parameters.{EachConstant, HasSymbol, Leads, AlikeAt, ParametersKept}
-use Rattle.laws.proofs.Checks.{passes-checked}
 use Rattle.laws.proofs.Holds.{Holds, holds-guard, holds-good, holds-map}
 use Rattle.theory.specs.Checked.{Checked}
 use Rattle.theory.specs.Good.{recAt, symCount}
