@@ -25,7 +25,7 @@ usage: beside compare KIND COUNT [SEED [LEAST [TELLING]]]
        beside forests KIND COUNT SEED     the forests whose time is measured, in hex
        beside count SIDE                  forests in hex from standard input, each once through the original or the call,
                                           for tools/count_instructions.py
-Before each KIND marked- may stand: the constants then have marks. A difference is printed with its forest, and the
+A KIND may have marked- before it: its constants then have marks. A difference is printed with its forest, and the
 status is 1; so it is where fewer than LEAST forests were compared, which is COUNT unless it is said, and not 0, or fewer
 than TELLING tell what they have to, which is 0 unless it is said; compare takes another for marked kinds only.";
 

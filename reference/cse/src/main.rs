@@ -24,7 +24,7 @@ usage: cse-reference COMMAND
   to-notation                      forests in: notation
   forest NOTATION                  the forest's bytes
   notation                         a forest's bytes in: notation
-Before each KIND marked- may stand: the constants then have marks.
+A KIND may have marked- before it: its constants then have marks.
 Elsewhere standard input has one forest a line, in hex, - for no bytes. Fields are parted by tabs. A forest that
 is too much work for the original gives the line: skipped";
 
