@@ -1,6 +1,7 @@
 -- Request A.5: "the meaning we sell includes which parameter a value came from", a parameter being a constant's mark. Said
 -- of a forest that is interned, and of the tree that is written for it; `theory` (Promise/Parameters) proves
--- `ParametersKept` of every accepted forest.
+-- `ParametersKept` of every accepted forest. Of symbols it is said whatever the state in which a constant is read, and so
+-- of each at which interning comes by.
 -- In order: paths in an unfolding; the constants of a tree; a constant's symbol; the statement.
 -- Assumes nothing.
 use mathlib.Core.Path.{_≡_}
@@ -51,7 +52,8 @@ abbrev mutual
 
 -- ---- a constant's symbol
 
--- the constant r, read as some record in some scope with some ids bound, has symbol s; st is the state after it
+-- the constant r, read from some state, as some record, in some scope, with some ids bound, has symbol s, which is one of
+-- those of the state st after it
 pub record HasSymbol (r : Rec) (s : ℕ) (st : State) : Type 0 where
   pub is-constant : r .shape ≡ Const
   pub place : ℕ
@@ -61,7 +63,8 @@ pub record HasSymbol (r : Rec) (s : ℕ) (st : State) : Type 0 where
   pub reads : intern (node r nil) place scope env before ≡ good (s, st)
   pub there : s < length (st .syms)
 
--- the symbols of st are the first of those of fin, as they are of every later state
+-- the symbols of st are the first of those of fin: so it is with a state and any later one, since interning puts new
+-- symbols at the end (`push`) and changes none
 abbrev pub Leads : State → State → Type 0
 Leads st fin = (i : ℕ) → i < length (st .syms) → symAt (st .syms) i ≡ symAt (fin .syms) i
 

@@ -1,8 +1,9 @@
 -- The sheet of a forest, which `show` prints: a line a record, as bytes; each line ends with a newline.
 -- A line: the record's number, right-aligned in three columns; twice as many spaces as its depth (a root has depth 1);
 -- its shape's name; its opcode in hex, and the opcode's name where the shape does not say it. Then, each after two
--- spaces, what the record has of these: a constant's class, and `mark N` if its mark is not 0; `id N` of a use or a
--- definition; `args N N` of a lambda; `field N` of a selection; `literal` and the literal in hex, if it is not empty.
+-- spaces, what the record has of these: a constant's class, with its mark if that is not 0, as `SInt mark 3`; `id N` of
+-- a use or a definition; `args N N` of a lambda; `field N` of a selection; `literal` and the literal in hex, if it is
+-- not empty.
 -- An opcode's number means the operation that the ErgoTree specification gives it. Names are the paper's where it has
 -- one; an opcode's is otherwise that of its operation, spelled as the Rust spells it.
 -- In order: names; bytes and spaces; what a record has; its line; trees; forests.

@@ -1,6 +1,7 @@
 -- `symbols::same_rec` meets its contract. Assumes nothing.
 use denote.Ref.{now}
 use Rattle.symbols.proofs.Same.{shapes-differ, opcodes-differ, auxes-differ, literals-decide}
+use native.Mathlib.Omega.{arith}
 use borrow.Author.Needs.{needs}
 use Rattle.symbols.proofs.same_rec.Statement.{statement}
 use Rattle.symbols.proofs.same_rec.Tie as tie
@@ -31,7 +32,7 @@ returns-3 c =
     let a = h .before .before .before .args in
     auxes-differ (now (a .forest)) (a .i) (a .f) (a .j) (a .g) (h .before .shape .ensures) (h .shape2 .ensures)
     (i .if1 .left) (o .before .opcode .ensures) (o .opcode2 .ensures) (k .if2 .left) (x .before .aux-of .ensures)
-    (x .aux-of2 .ensures) (c .if3 .taken)
+    (x .aux-of2 .ensures) (λ e. c .if3 .taken (omega (arith, e)))
 
 returns-4 : tie.Need-returns-4
 returns-4 c =
