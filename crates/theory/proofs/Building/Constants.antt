@@ -10,7 +10,7 @@ use mathlib.Core.Option.{Option, none, some, Option·some-injective}
 use mathlib.Core.List.{List, [], _∷_, _++_}
 use Prim.Native.Nat.{ℕ, zero, suc, _+_, _<_}
 use native.Mathlib.Omega.{arith}
-use lib.ListN.{length, getD}
+use lib.ListN.{length, getD, drop-of-length-le}
 use Rattle.model.specs.Down.{under, downFuel, down}
 use Rattle.model.specs.Tree.{Rec, rec, Tree, Trees, node, nil, cons, below, snoc}
 use Rattle.model.specs.Unfold.{Unfolded, made}
@@ -55,10 +55,6 @@ unfolding operandIn meanAll
 operand-in f [] k m ρ d = absurd m
 operand-in f (x ∷ ks) k (inl e) ρ d = (0, rw e)
 operand-in f (x ∷ ks) k (inr m) ρ d = let w = operand-in f ks k m ρ d in (suc (w .0), w .1)
-
-no-kids : (ks : List ℕ) → length ks ≡ 0 → ks ≡ []
-no-kids [] e = refl
-no-kids (k ∷ ks) e = absurd (omega arith)
 
 module _ (fin : List Sym) (scs : List Scope) (n : ℕ) (good : Goods fin scs n) where
   -- operand j of what y stands for is what k stands for, with some valuation, at some depth
@@ -124,7 +120,8 @@ module _ (fin : List Sym) (scs : List Scope) (n : ℕ) (good : Goods fin scs n) 
     constant-stands s b p q e =
         let w = below-within s b in
         let l : s < n = omega (arith, below-low fin scs n good r low s b) in
-        let none = no-kids (symKids fin s) (const-child (recAt fin s) (length (symKids fin s)) e (p .fits-is)) in (
+        let count = const-child (recAt fin s) (length (symKids fin s)) e (p .fits-is) in
+        let none = drop-of-length-le (symKids fin s) {i = 0} (omega (arith, count)) in (
           w .path,
           w .is ∙ ap some (mean-plain fin scs s (good s l) (p .kind-is) q (w .val) (w .depth)) ∙
               ap (λ (ks : List ℕ). some (made (recAt fin s) (meanAll (mean fin) ks (w .val) (w .depth)))) none,

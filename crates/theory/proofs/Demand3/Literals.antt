@@ -10,7 +10,7 @@ use mathlib.Core.List.{List, [], _∷_, _++_, append-nil, append-assoc}
 use Prim.Native.Nat.{ℕ, zero, suc, _≤_, _<_}
 use native.Mathlib.Omega.{arith}
 use lib.Dec.{eqb, leb, ltb}
-use lib.ListN.{length, take, drop, length-append, length-take, take-append-drop}
+use lib.ListN.{length, take, drop, length-append, length-take, take-append-drop, drop-of-length-le}
 use lib.Seq.{drop-at}
 use borrow.Author.Tests.{eqb-true, leb-true, le-leb, ltb-true, lt-ltb}
 use Rattle.model.specs.Shape.{Reader, aEnd, aByte, aId, aType, aOpt, _then_, aArg, times, aCounted, whole, bits}
@@ -29,16 +29,12 @@ pub whole-exact : (f : Reader) (P : Part) → Exact f P → (bs : List ℕ) → 
 unfolding whole
 whole-exact f P x bs = (λ e. go (f bs) refl e, λ h. rw (sym (ap f (append-nil bs)) ∙ x .finds bs [] h, whole) refl)
   where
-    empty : (rest : List ℕ) → length rest ≡ 0 → rest ≡ []
-    empty [] e = refl
-    empty (r ∷ rs) e = absurd (omega arith)
-
     go : (o : Option (List ℕ)) → f bs ≡ o →
         elim o as (λ z. Bool) [ none ↦ false | some rest ↦ eqb (length rest) 0 ] ≡ true → P bs
     go none e t = false-true t
     go (some rest) e t =
         let w = x .takes bs rest e in
-        let z : rest ≡ [] = empty rest (eqb-true (length rest) 0 t) in
+        let z : rest ≡ [] = drop-of-length-le rest {i = 0} (omega (arith, eqb-true (length rest) 0 t)) in
         let y : w .0 ≡ bs = sym (w .1 ∙ ap (w .0 ++_) z ∙ append-nil (w .0)) in
         subst P y (w .2)
 

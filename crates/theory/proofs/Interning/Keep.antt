@@ -12,7 +12,7 @@ use mathlib.Core.List.{List, [], _∷_}
 use Prim.Native.Nat.{ℕ, _≤_}
 use native.Mathlib.Omega.{arith}
 use lib.Dec.{eqb}
-use lib.ListN.{length}
+use lib.ListN.{length, drop-of-length-le}
 use borrow.Author.Tests.{eqb-true}
 use Rattle.model.specs.Lists.{last}
 use Rattle.model.specs.Answer.{good}
@@ -165,14 +165,11 @@ nodeOf-plain : (fin : List Sym) (scs : List Scope) (r : Rec) (ks brs : List ℕ)
 unfolding nodeOf
 nodeOf-plain fin scs r ks brs f p = go (eqb (r .shape) 0) refl (eqb (r .shape) 1) refl
   where
-    empty : (l : List ℕ) → length l ≡ 0 → l ≡ []
-    empty [] e = refl
-    empty (x ∷ l) e = absurd (omega arith)
-
     go : (a : Bool) → eqb (r .shape) 0 ≡ a → (b : Bool) → eqb (r .shape) 1 ≡ b →
         PlainNode fin scs r ks (elim a [ true ↦ constant | false ↦ elim b [ true ↦ unparsed | false ↦ operation brs ] ])
-    go true e b g = empty ks (const-child r (length ks) (eqb-true (r .shape) 0 e) f)
-    go false e true g = empty ks (unparsed-child r (length ks) (eqb-true (r .shape) 1 g) f)
+    go true e b g = drop-of-length-le ks {i = 0} (omega (arith, const-child r (length ks) (eqb-true (r .shape) 0 e) f))
+    go false e true g =
+        drop-of-length-le ks {i = 0} (omega (arith, unparsed-child r (length ks) (eqb-true (r .shape) 1 g) f))
     go false e false g = p
 
 -- a node is right for a record and its children's thunks
