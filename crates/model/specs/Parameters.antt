@@ -1,7 +1,7 @@
 -- Request A.5: "the meaning we sell includes which parameter a value came from", a parameter being a constant's mark. Said
 -- of a forest that is interned, and of the tree that is written for it; `theory` (Promise/Parameters) proves
--- `ParametersKept` of every accepted forest. Of symbols it is said whatever the state in which a constant is read, and so
--- of each at which interning comes by.
+-- `ParametersKept` of every accepted forest. What it says of symbols has two conditions: the constant's symbol is one of
+-- those of the state after it (`there`), and these are the first of those at the end (`Leads`).
 -- In order: paths in an unfolding; the constants of a tree; a constant's symbol; the statement.
 -- Assumes nothing.
 use mathlib.Core.Path.{_≡_}
@@ -63,8 +63,8 @@ pub record HasSymbol (r : Rec) (s : ℕ) (st : State) : Type 0 where
   pub reads : intern (node r nil) place scope env before ≡ good (s, st)
   pub there : s < length (st .syms)
 
--- the symbols of st are the first of those of fin: so it is with a state and any later one, since interning puts new
--- symbols at the end (`push`) and changes none
+-- the symbols of st are the first of those of fin. That it is so with every state of an interning and the last one is to
+-- be seen at `push`, which alone makes symbols and puts them at the end; proved is it of the reading of a checked tree
 abbrev pub Leads : State → State → Type 0
 Leads st fin = (i : ℕ) → i < length (st .syms) → symAt (st .syms) i ≡ symAt (fin .syms) i
 
@@ -83,8 +83,8 @@ pub record ParametersKept (forest : List ℕ) (o : ℕ × State) : Type 0 where
   -- "Constants are equal only if their marks are too": no two with different marks ever have one symbol
   pub marks-apart : (r q : Rec) (s : ℕ) (st st′ : State) → HasSymbol r s st → HasSymbol q s st′ → Leads st (o .1) →
       Leads st′ (o .1) → mark (r .aux) ≡ mark (q .aux)
-  -- each constant of the written tree, with its mark, stands in what the tree unfolds to, and at the same path in what
-  -- the root unfolds to
+  -- each constant of the written tree, with its mark, stands at some path of what the tree unfolds to, and at the same
+  -- path of what the root unfolds to. Not said is that the path leads to this very record, and not to one equal to it
   pub stands : EachConstant (λ r. (path : List ℕ) × AlikeAt forest o path r) (treeOf o)
   -- whatever the path, a constant that stands there in one of the two stands there in the other
   pub same-path : (path : List ℕ) (r : Rec) →
