@@ -16,6 +16,11 @@ pub mod Walks
 pub mod Falls
 pub mod Short
 pub mod Orders
+pub mod Adding
+pub mod Visits
+pub mod Gather
+pub mod Later
+pub mod Empty
 pub mod Symbols
 pub mod ArgLists
 pub mod Header

@@ -23,8 +23,8 @@ use Rattle.laws.proofs.Induction.{strong}
 use Rattle.laws.proofs.Down.{under-low, under-same, down-step}
 use Rattle.laws.specs.Members.{In, Every, Under}
 use Rattle.laws.proofs.Members.{not-in-isIn, isIn-false}
-use Rattle.laws.proofs.Walks.{eqB, operands-cons}
-use Rattle.laws.proofs.Falls.{or-below, visit-low, body-falls, free-falls}
+use Rattle.laws.proofs.Walks.{eqB, operands-cons, every-rel, order-every}
+use Rattle.laws.proofs.Falls.{Falls, or-below, visit-low, body-falls, free-falls}
 
 -- ---- a step for each of a list
 
@@ -115,7 +115,7 @@ each-fresh f adds s ds out low new = not-in-isIn s (each f ds out) (λ i. no (al
     no (inr l) = omega arith
 
 -- visits by neighbours that agree below b
-visit-same : (nb mb : ℕ → List ℕ) (b : ℕ) → ((s : ℕ) → s < b → nb s ≡ mb s) → (s : ℕ) → s < b →
+pub visit-same : (nb mb : ℕ → List ℕ) (b : ℕ) → ((s : ℕ) → s < b → nb s ≡ mb s) → (s : ℕ) → s < b →
     visit nb s ≡ visit mb s
 unfolding visit visitStep
 visit-same nb mb b h = strong (λ s. s < b → visit nb s ≡ visit mb s) λ s ih l.
@@ -149,11 +149,16 @@ module _ (g : Graph) (cs : ℕ) where
   abbrev pub needs : (ℕ → List ℕ) → ℕ → List ℕ
   needs fv s = elim (relOf g s cs) [ local ↦ localDepOrder (symOf g s) | deeper ↦ fv s | outside ↦ [] ]
 
+  pub collect-join : (fv : ℕ → List ℕ) (xs ys out : List ℕ) →
+      collect g fv cs (xs ++ ys) out ≡ collect g fv cs ys (collect g fv cs xs out)
+  unfolding collect
+  collect-join fv [] ys out = refl
+  collect-join fv (x ∷ xs) ys out = collect-join fv xs ys _
+
   pub collect-last : (fv : ℕ → List ℕ) (ss : List ℕ) (s : ℕ) (out : List ℕ) →
       collect g fv cs (ss ++ (s ∷ [])) out ≡ outsiders g cs (needs fv s) (collect g fv cs ss out)
   unfolding collect
-  collect-last fv [] s out = refl
-  collect-last fv (x ∷ ss) s out = collect-last fv ss s _
+  collect-last fv ss s out = collect-join fv ss (s ∷ []) out
 
   collect-same : (fv fw : ℕ → List ℕ) (ss out : List ℕ) → Every (λ s. needs fv s ≡ needs fw s) ss →
       collect g fv cs ss out ≡ collect g fw cs ss out
@@ -162,6 +167,13 @@ module _ (g : Graph) (cs : ℕ) where
   collect-same fv fw (s ∷ ss) out h =
       collect-same fv fw ss _ (λ x i. h x (inr i))
       ∙ ap (λ (ds : List ℕ). collect g fw cs ss (outsiders g cs ds out)) (h s (inl refl))
+
+-- where free lists fall, what a symbol needs does
+pub needs-low : (g : Graph) → ((s : ℕ) → Under s (symOf g s .kids)) → (fv : ℕ → List ℕ) → Falls fv → (cs : ℕ) →
+    Falls (needs g cs fv)
+needs-low g kids-low fv falls cs s =
+    every-rel (λ x. x < s) (relOf g s cs) (localDepOrder (symOf g s)) (fv s)
+    (order-every (λ x. x < s) (symOf g s) (kids-low s)) (falls s)
 
 pub operands-last : (b : Bool) (op j : ℕ) (ks : List ℕ) (k : ℕ) →
     operands b op j (ks ++ (k ∷ [])) ≡ operands b op j ks ++ operands b op (j + length ks) (k ∷ [])

@@ -8,3 +8,4 @@ pub mod Rows
 pub mod Defining
 pub mod Frame
 pub mod Stack
+pub mod Gather
