@@ -27,7 +27,7 @@ unfolding union
 union-there xs [] h = refl
 union-there xs (y ∷ ys) h = rw (add-there xs y (h y (inl refl))) (union-there xs ys (λ x i. h x (inr i)))
 
-union-last : (xs ys : List ℕ) (n : ℕ) → union xs (ys ++ (n ∷ [])) ≡ add (union xs ys) n
+pub union-last : (xs ys : List ℕ) (n : ℕ) → union xs (ys ++ (n ∷ [])) ≡ add (union xs ys) n
 unfolding union
 union-last xs [] n = refl
 union-last xs (y ∷ ys) n = union-last (add xs y) ys n

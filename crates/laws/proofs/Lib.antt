@@ -4,6 +4,7 @@ pub mod Clear
 pub mod Checks
 pub mod Holds
 pub mod Induction
+pub mod Cycles
 pub mod Down
 pub mod Members
 pub mod Ranges
