@@ -24,11 +24,11 @@ use Rattle.key.proofs.Laws.{symbol-agree}
 use Rattle.symbols.specs.Symbols.{modelNode, symsOf, AllSound}
 use Rattle.symbols.specs.Symbols as symbols
 use Rattle.symbols.proofs.Words.{words-under}
-use Rattle.symbols.proofs.Laws.{syms-length, sym-at, kids-at, sounds-agree}
+use Rattle.symbols.proofs.Laws.{syms-length, sym-at, kids-at, syms-agree, sounds-agree}
 use Rattle.scopes.specs.declared.Rel.{Rel}
 use Rattle.scopes.specs.Scopes.{Nested}
 use Rattle.scopes.specs.Relation.{relIn, Classified}
-use Rattle.scopes.proofs.Open.{nested-agree}
+use Rattle.scopes.proofs.Open.{scopes-agree, nested-agree}
 use Rattle.graph.specs.Graph.{Within, Scoped, Arena, graphOf, Related, Tests, isOutsider}
 
 -- ---- a symbol's parts
@@ -103,6 +103,11 @@ module _ {ws ws′ : List ℕ} {used n m : ℕ} (still : Still ws ws′ used n m
         (within-sound bs ws used n within (h .sound)) i lt in
         record { from = s .from; slots = rw (node-agree i lt) (h .sound i lt .slots); lower = s .lower };
   }
+
+  pub graph-agree : (bs : List ℕ) → AllSound bs ws used n → (slots : List ℕ) →
+      graphOf bs ws′ n m slots ≡ graphOf bs ws n m slots
+  graph-agree bs sound slots =
+      rw (syms-agree bs ws ws′ used (still .slots) n (still .own) sound, scopes-agree ws ws′ m (still .scopes))
 
 -- ---- the tests
 

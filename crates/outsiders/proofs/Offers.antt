@@ -1,4 +1,5 @@
--- Outsiders offered to a list: one symbol; those of a list; thunks or others in words; the children of a symbol.
+-- Symbols put into a list: one symbol, and those in words; outsiders: one, those of a list, those in words, thunks or
+-- others; the children of a symbol.
 -- Assumes nothing.
 use Prim.Native.Nat.{ℕ, _+_, _<_, _≤_}
 use mathlib.Core.Path.{_≡_, refl, sym, ap, ap₂, subst, _∙_}
@@ -8,12 +9,13 @@ use native.Mathlib.Omega.{arith}
 use native.Mathlib.Numerals.{add-one}
 use lib.ListN.{length, getD, set, take, length-set}
 use lib.Seq.{take-suc}
-use Rattle.model.specs.Lists.{isIn, add}
+use Rattle.model.specs.Lists.{isIn, add, union}
 use Rattle.model.specs.Tree.{Rec}
 use Rattle.model.specs.Intern.{thunked}
 use Rattle.model.specs.Gate.{symOf}
 use Rattle.model.specs.Schedule.{operands, localDepOrder, outsiders}
 use Rattle.model.specs.Forest.{recordCount}
+use Rattle.laws.proofs.Adding.{union-last}
 use Rattle.laws.proofs.Orders.{outsiders-join, operands-last}
 use Rattle.regions.specs.Regions.{SLOTS}
 use Rattle.key.specs.declared.Symbol.{Symbol}
@@ -29,10 +31,45 @@ use Rattle.outsiders.specs.Outsiders.{offered, WordsBelow, Held, Listed}
 use Rattle.outsiders.proofs.Lists.{held-room, held-more, take-put, appended-none, appended-put}
 use Rattle.outsiders.proofs.Lists.{listed-none, listed-then, listed-as}
 
+-- ---- one symbol, outsider or not
+
+module _ (n : ℕ) (d : ℕ) (list : List ℕ) (k : ℕ) (h : Held n list k) (bs ws : List ℕ) (m : ℕ) where
+  pub add-old : isIn d (take k list) ≡ true → Listed bs ws n m (λ _ o. add o d) list k list k
+  unfolding add
+  add-old i = record { held = h; appended = appended-none list k; is = λ slots. rw (i, add) }
+
+  pub add-new : isIn d (take k list) ≡ false → d < n → n ≤ 512 →
+      Listed bs ws n m (λ _ o. add o d) list k (set list k d) (k + 1)
+  unfolding add
+  add-new i lt few =
+      let room : k < length list = omega (arith, held-room n list k h d lt i, h .long) in
+      let is : take (k + 1) (set list k d) ≡ take k list ++ (d ∷ []) = take-put list k d room in
+      let long : length (set list k d) ≡ 512 = simp length-set (h .long) in
+      record {
+        held = held-more n list k h d lt i few (set list k d) (k + 1) long refl is;
+        appended = appended-put list k d;
+        is = λ slots. rw (i, add) is;
+      }
+
+-- those in words
+module _ (bs ws : List ℕ) (n m : ℕ) (l₀ : List ℕ) (k₀ : ℕ) where
+  pub run-start : (at : ℕ) → Held n l₀ k₀ → Listed bs ws n m (λ _ o. union o (wordsFrom ws at 0)) l₀ k₀ l₀ k₀
+  unfolding union wordsFrom
+  run-start at h = listed-none bs ws n m l₀ k₀ h
+
+  pub run-next : (at j d : ℕ) → d ≡ getD ws (at + j) 0 → (l : List ℕ) (k : ℕ) (l′ : List ℕ) (r : ℕ) →
+      Listed bs ws n m (λ _ o. union o (wordsFrom ws at j)) l₀ k₀ l k → Listed bs ws n m (λ _ o. add o d) l k l′ r →
+      Listed bs ws n m (λ _ o. union o (wordsFrom ws at (j + 1))) l₀ k₀ l′ r
+  run-next at j d e l k l′ r p q =
+      listed-as bs ws n m (λ _ o. add (union o (wordsFrom ws at j)) d) (λ _ o. union o (wordsFrom ws at (j + 1))) l₀ k₀
+      l′ r
+      (λ slots o. sym (ap (union o) (rw (add-one j, e) (words-more ws at j)) ∙ union-last o (wordsFrom ws at j) d))
+      (listed-then bs ws n m (λ _ o. union o (wordsFrom ws at j)) (λ _ o. add o d) l₀ k₀ l k l′ r p q)
+
 -- ---- one symbol
 
 module _ (ws : List ℕ) (n m cs d : ℕ) (b : Bool) (test : Tests ws n m (isOutsider cs d) b) (list : List ℕ) (k : ℕ)
-    (h : Held n list k) (bs : List ℕ) where
+    (bs : List ℕ) where
   abbrev after : Bool → List ℕ → List ℕ
   after t o = elim t [ true ↦ add o d | false ↦ o ]
 
@@ -40,37 +77,18 @@ module _ (ws : List ℕ) (n m cs d : ℕ) (b : Bool) (test : Tests ws n m (isOut
   unfolding outsiders
   one-is slots o = ap (λ (t : Bool). after t o) (test bs slots)
 
-  pub offer-no : b ≡ false → Listed bs ws n m (offered cs (d ∷ [])) list k list k
-  offer-no e = record {
+  pub offer-no : b ≡ false → Held n list k → Listed bs ws n m (offered cs (d ∷ [])) list k list k
+  offer-no e h = record {
     held = h;
     appended = appended-none list k;
     is = λ slots. ap (λ (t : Bool). after t (take k list)) (sym e) ∙ one-is slots (take k list);
   }
 
-  pub offer-old : b ≡ true → isIn d (take k list) ≡ true → Listed bs ws n m (offered cs (d ∷ [])) list k list k
-  unfolding add
-  offer-old e i = record {
-    held = h;
-    appended = appended-none list k;
-    is = λ slots.
-        ap (λ (t : Bool). elim t [ true ↦ take k list | false ↦ take k list ++ (d ∷ []) ]) (sym i)
-        ∙ (ap (λ (t : Bool). after t (take k list)) (sym e) ∙ one-is slots (take k list));
-  }
-
-  pub offer-new : b ≡ true → isIn d (take k list) ≡ false → d < n → n ≤ 512 →
-      Listed bs ws n m (offered cs (d ∷ [])) list k (set list k d) (k + 1)
-  unfolding add
-  offer-new e i lt few =
-      let room : k < length list = omega (arith, held-room n list k h d lt i, h .long) in
-      let is : take (k + 1) (set list k d) ≡ take k list ++ (d ∷ []) = take-put list k d room in
-      let long : length (set list k d) ≡ 512 = simp length-set (h .long) in
-      record {
-        held = held-more n list k h d lt i few (set list k d) (k + 1) long refl is;
-        appended = appended-put list k d;
-        is = λ slots.
-            is ∙ (ap (λ (t : Bool). elim t [ true ↦ take k list | false ↦ take k list ++ (d ∷ []) ]) (sym i)
-            ∙ (ap (λ (t : Bool). after t (take k list)) (sym e) ∙ one-is slots (take k list)));
-      }
+  pub offer-yes : b ≡ true → (list′ : List ℕ) (r : ℕ) → Listed bs ws n m (λ _ o. add o d) list k list′ r →
+      Listed bs ws n m (offered cs (d ∷ [])) list k list′ r
+  offer-yes e list′ r =
+      listed-as bs ws n m (λ _ o. add o d) (offered cs (d ∷ [])) list k list′ r
+      (λ slots o. ap (λ (t : Bool). after t o) (sym e) ∙ one-is slots o)
 
 -- ---- those of a list
 
@@ -95,7 +113,18 @@ module _ (bs ws : List ℕ) (n m cs : ℕ) (l₀ : List ℕ) (k₀ : ℕ) where
   list-more own j d lt e =
       joined (take j own) (d ∷ []) (take (j + 1) own) (rw (add-one j, e) (sym (take-suc own j 0 lt)))
 
-  -- thunks (b = true), or the others, in words
+  -- those in words: all of them
+  pub all-start : (at : ℕ) → Held n l₀ k₀ → Listed bs ws n m (offered cs (wordsFrom ws at 0)) l₀ k₀ l₀ k₀
+  unfolding wordsFrom
+  all-start at h = list-start h
+
+  pub all-next : (at j d : ℕ) → d ≡ getD ws (at + j) 0 → (l : List ℕ) (k : ℕ) (l′ : List ℕ) (r : ℕ) →
+      Listed bs ws n m (offered cs (wordsFrom ws at j)) l₀ k₀ l k → Listed bs ws n m (offered cs (d ∷ [])) l k l′ r →
+      Listed bs ws n m (offered cs (wordsFrom ws at (j + 1))) l₀ k₀ l′ r
+  all-next at j d e =
+      joined (wordsFrom ws at j) (d ∷ []) (wordsFrom ws at (j + 1)) (rw (add-one j, e) (sym (words-more ws at j)))
+
+  -- thunks (b = true), or the others
   pub words-start : (b : Bool) (op at : ℕ) → Held n l₀ k₀ →
       Listed bs ws n m (offered cs (operands b op 0 (wordsFrom ws at 0))) l₀ k₀ l₀ k₀
   unfolding operands wordsFrom

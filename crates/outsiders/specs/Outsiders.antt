@@ -9,7 +9,7 @@ use lib.ListN.{length, getD, take, drop}
 use Rattle.model.specs.Gate.{Graph}
 use Rattle.model.specs.Schedule.{outsiders}
 use Rattle.laws.specs.Members.{Every, Once}
-use Rattle.regions.specs.Regions.{SLOTS, end}
+use Rattle.regions.specs.Regions.{WORDS}
 use Rattle.graph.specs.Graph.{graphOf}
 
 -- the first k of a list are below n, and so are k words from `at` on
@@ -18,7 +18,7 @@ pub record Below (list : List ℕ) (k n : ℕ) : Type 0 where
   pub low : (j : ℕ) → j < k → getD list j 0 < n
 
 pub record WordsBelow (ws : List ℕ) (at k n : ℕ) : Type 0 where
-  pub fit : at + k ≤ end SLOTS
+  pub fit : at + k ≤ WORDS
   pub low : (j : ℕ) → j < k → getD ws (at + j) 0 < n
 
 -- k of n symbols stand in the list, each once

@@ -1,13 +1,14 @@
 // Free lists as they grow (materialize.rs, `free_vars`): the outsiders among some symbols, each put at the end of a
 // list that has it not.
-// In order: a search; one symbol; those of a list; those in words, thunks or others; the children of a symbol.
+// In order: an empty list; a search; one symbol, and those in words, whether outsiders or not; one outsider; those of a list; those in
+// words, all, thunks or others; the children of a symbol.
 use graph::Graph;
 use regions::SLOTS;
 ghost use mathlib.Core.Path.{_≡_};
 ghost use mathlib.Core.List.{List, [], _∷_};
 ghost use Prim.Native.Nat.{ℕ, _<_, _≤_};
-ghost use lib.ListN.{length, take};
-ghost use Rattle.model.specs.Lists.{isIn};
+ghost use lib.ListN.{length, take, replicate};
+ghost use Rattle.model.specs.Lists.{isIn, add, union};
 ghost use Rattle.model.specs.Gate.{symOf};
 ghost use Rattle.model.specs.Schedule.{operands, localDepOrder, outsiders};
 ghost use Rattle.record.specs.Record.{Laid};
@@ -19,6 +20,13 @@ ghost use Rattle.outsiders.specs.Outsiders.{offered, Below, WordsBelow, 
 struct Arms {
     opcode: u8,
     thunks: bool,
+}
+
+// An empty list of symbols, with room for 512. Rules out: room for 511; a number other than 0 before one is put there.
+pub fn zeros16() -> [u16; 512]
+    ensures { λ r. ⌜ r ≡ replicate 512 0 ⌝ }
+{
+    [0u16; 512]
 }
 
 // An entry of a list as a symbol's number. Rules out: its low byte alone; one more.
@@ -43,6 +51,48 @@ fn has(list: &[u16], n: usize, d: usize) -> bool
     false
 }
 
+// With d, unless the list has it; how many there are then.
+fn add(g: Graph, d: usize, list: &mut [u16], n: usize) -> usize
+    requires { ⌜ (d < g .symbols) × (g .symbols ≤ 512) ⌝ }
+    requires { ⌜ Held (g .symbols) (now list) n ⌝ }
+    ensures { λ r.
+        ⌜ ((bs ws : List ℕ) → Listed bs ws (g .symbols) (g .scopes) (λ _ o. add o d) (now (list .entry)) n
+        (now (list .exit)) r) ⌝ }
+{
+    if has(list, n, d) {
+        return n;
+    }
+    list[n] = d as u16;
+    n + 1
+}
+
+// With the symbols in `count` words from `from` on, each once; how many there are then.
+// Rules out: one that the list has already, put there again; another order; a change past the list's end.
+pub fn add_run(
+    work: &[u32],
+    g: Graph,
+    from: usize,
+    count: usize,
+    list: &mut [u16],
+    n: usize,
+) -> usize
+    requires { ⌜ Scoped (now work) (g .symbols) (g .scopes) ⌝ }
+    requires { ⌜ WordsBelow (now work) from count (g .symbols) ⌝ }
+    requires { ⌜ Held (g .symbols) (now list) n ⌝ }
+    ensures { λ r.
+        ⌜ ((bs : List ℕ) → Listed bs (now (work .entry)) (g .symbols) (g .scopes)
+        (λ _ o. union o (wordsFrom (now (work .entry)) from count)) (now (list .entry)) n (now (list .exit)) r) ⌝ }
+{
+    let mut at = n;
+    let mut k = 0;
+    while k < count {
+        let d = work[from + k] as usize;
+        at = add(g, d, list, at);
+        k += 1;
+    }
+    at
+}
+
 // With d, if it is an outsider that the list has not; how many there are then.
 fn offer(work: &[u32], g: Graph, cs: usize, d: usize, list: &mut [u16], n: usize) -> usize
     requires { ⌜ Scoped (now work) (g .symbols) (g .scopes) ⌝ }
@@ -53,11 +103,7 @@ fn offer(work: &[u32], g: Graph, cs: usize, d: usize, list: &mut [u16], n: usize
         (now (list .entry)) n (now (list .exit)) r) ⌝ }
 {
     if graph::is_outsider(work, g, cs, d) {
-        if has(list, n, d) {
-            return n;
-        }
-        list[n] = d as u16;
-        return n + 1;
+        return add(g, d, list, n);
     }
     n
 }
@@ -84,6 +130,34 @@ pub fn offer_list(
     let mut k = 0;
     while k < count {
         let d = wide(own[k]);
+        at = offer(work, g, cs, d, list, at);
+        k += 1;
+    }
+    at
+}
+
+// With the outsiders of scope `cs` among the symbols in `count` words from `from` on; how many there are then.
+// Rules out: an argument among them; one that the list has already, put there again; a change past the list's end.
+pub fn offer_run(
+    work: &[u32],
+    g: Graph,
+    cs: usize,
+    from: usize,
+    count: usize,
+    list: &mut [u16],
+    n: usize,
+) -> usize
+    requires { ⌜ Scoped (now work) (g .symbols) (g .scopes) ⌝ }
+    requires { ⌜ WordsBelow (now work) from count (g .symbols) ⌝ }
+    requires { ⌜ Held (g .symbols) (now list) n ⌝ }
+    ensures { λ r.
+        ⌜ ((bs : List ℕ) → Listed bs (now (work .entry)) (g .symbols) (g .scopes)
+        (offered cs (wordsFrom (now (work .entry)) from count)) (now (list .entry)) n (now (list .exit)) r) ⌝ }
+{
+    let mut at = n;
+    let mut k = 0;
+    while k < count {
+        let d = work[from + k] as usize;
         at = offer(work, g, cs, d, list, at);
         k += 1;
     }

@@ -35,9 +35,17 @@ SLOTS = record { first = end SYMBOLS; size = 2048 + 512 }
 abbrev pub SCOPES : Region
 SCOPES = record { first = end SLOTS; size = 2056 }
 
+-- where the free lists of the symbols before each end, and where all end
+abbrev pub FREE_ENDS : Region
+FREE_ENDS = record { first = end SCOPES; size = 512 + 1 }
+
+-- the symbols' free lists, one after the other
+abbrev pub FREE_LISTS : Region
+FREE_LISTS = record { first = end FREE_ENDS; size = 4096 }
+
 -- the open tables' symbols, table after table
 abbrev pub ENTRIES : Region
-ENTRIES = record { first = end SCOPES; size = 512 }
+ENTRIES = record { first = end FREE_LISTS; size = 512 }
 
 -- pairs of projections, a word each, at most one a symbol
 abbrev pub MEMO : Region

@@ -9,17 +9,21 @@ pub const SLOTS: usize = 2560;
 
 pub const SCOPES: usize = 5120;
 
-pub const ENTRIES: usize = 7176;
+pub const FREE_ENDS: usize = 7176;
 
-pub const MEMO: usize = 7688;
+pub const FREE_LISTS: usize = 7689;
 
-pub const PENDING: usize = 8200;
+pub const ENTRIES: usize = 11785;
 
-pub const BINDINGS: usize = 8456;
+pub const MEMO: usize = 12297;
+
+pub const PENDING: usize = 12809;
+
+pub const BINDINGS: usize = 13065;
 
 // Once the symbols are made.
-pub const PLAN: usize = 7176;
+pub const PLAN: usize = 11785;
 
-pub const USES: usize = 8456;
+pub const USES: usize = 13065;
 
-pub const REACHED: usize = 8968;
+pub const REACHED: usize = 13577;

@@ -56,7 +56,7 @@ scopes-at ws (suc m) k lt = elim (decLt k m) [
 ]
 
 -- a scope is the same in a longer list of scopes
-scopes-more : (ws : List ℕ) (m n k : ℕ) → k < m → k < n → scopeAt (scopesOf ws m) k ≡ scopeAt (scopesOf ws n) k
+pub scopes-more : (ws : List ℕ) (m n k : ℕ) → k < m → k < n → scopeAt (scopesOf ws m) k ≡ scopeAt (scopesOf ws n) k
 scopes-more ws m n k p q = scopes-at ws m k p ∙ sym (scopes-at ws n k q)
 
 -- ---- the parts of scope k
