@@ -3,10 +3,11 @@
 -- Assumes nothing.
 use Prim.Native.Nat.{ℕ, suc, _+_, _<_, _≤_}
 use mathlib.Core.Path.{_≡_, sym, ap, _∙_}
-use mathlib.Core.List.{List}
+use mathlib.Core.List.{List, []}
 use native.Mathlib.Omega.{arith}
 use Rattle.regions.specs.Regions.{ENTRIES, MEMO}
 use Rattle.model.specs.Intern.{Sym, symAt}
+use Rattle.model.specs.Gate.{Graph}
 use Rattle.laws.specs.Members.{In}
 use Rattle.laws.specs.Frame.{Agree, Frame}
 use Rattle.key.specs.Key.{symbolAt}
@@ -20,7 +21,10 @@ use Rattle.scopes.specs.Scopes.{scopeWord, levelOf}
 use Rattle.scopes.proofs.Open.{word-agree, scopes-agree}
 use Rattle.memo.specs.Memo.{memoOf}
 use Rattle.memo.proofs.Laws.{memo-agree}
-use Rattle.graph.proofs.Laws.{within-sound, Still, still-above, node-agree, arena-agree}
+use Rattle.graph.specs.Graph.{graphOf}
+use Rattle.graph.proofs.Laws.{within-sound, Still, still-above, node-agree, arena-agree, graph-agree}
+use Rattle.free_lists.specs.FreeLists.{Lists}
+use Rattle.free_lists.proofs.Laws.{lists-agree}
 use Rattle.interner.specs.declared.State.{State}
 use Rattle.interner.specs.Levels.{storedDeps, Levelled, AtLevel, ArgLevels, AllLevelled}
 use Rattle.interner.specs.State.{absOf, Slotted, Entered, Remembered, Rep}
@@ -34,6 +38,7 @@ used-sound bs ws st rep = within-sound bs ws (st .slots) (st .symbols) (rep .slo
 
 pub record Same (ws ws′ : List ℕ) (st : State) : Type 0 where
   pub still : Still ws ws′ (st .slots) (st .symbols) (st .scopes)
+  pub lists : (g : Graph) → Lists g ws (st .symbols) → Lists g ws′ (st .symbols)
   pub entries : Agree ws ws′ (ENTRIES .first) (ENTRIES .first + st .entries)
   pub memo : Agree ws ws′ (MEMO .first) (MEMO .first + st .memo)
 
@@ -82,6 +87,9 @@ module _ (bs ws ws′ : List ℕ) (st : State) (rep : Rep bs ws st) (same : Same
   levels-same : AllLevelled bs ws′ (st .symbols) (st .scopes)
   levels-same = record { each = levelled-same; arguments = args-same }
 
+  lists-same : Lists (graphOf bs ws′ (st .symbols) (st .scopes) []) ws′ (st .symbols)
+  lists-same = rw (graph-agree (same .still) bs (used-sound bs ws st rep) []) (same .lists _ (rep .lists))
+
   entries-same : Entered bs ws′ (st .entries) (st .symbols)
   entries-same = record {
     few = rep .entries .few;
@@ -106,6 +114,7 @@ module _ (bs ws ws′ : List ℕ) (st : State) (rep : Rep bs ws st) (same : Same
     slots = slots-same;
     sourced = sourced-same;
     levels = levels-same;
+    lists = lists-same;
     entries = entries-same;
     memo = memo-same;
     few-readings = rep .few-readings;
@@ -128,6 +137,7 @@ pub same-above : (bs ws ws′ : List ℕ) (st : State) → Rep bs ws st → (lo 
     Frame lo hi ws ws′ → Same ws ws′ st
 same-above bs ws ws′ st rep lo hi le f = record {
   still = still-above f (omega arith) (rep .slots .few) (rep .arena .scoped);
+  lists = λ g. lists-agree g ws ws′ (st .symbols) (rep .arena .scoped .few) (λ k l r. f .before k (omega arith));
   entries = λ k l r. f .before k (omega (arith, rep .entries .few, rep .arena .scoped .few));
   memo = λ k l r. f .before k (omega arith);
 }
@@ -149,6 +159,7 @@ rep-with rep entered remembered few = record {
   slots = rep .slots;
   sourced = rep .sourced;
   levels = rep .levels;
+  lists = rep .lists;
   entries = entered;
   memo = remembered;
   few-readings = few;

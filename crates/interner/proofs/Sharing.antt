@@ -26,6 +26,7 @@ use Rattle.tables.specs.declared.Tables.{Tables}
 use Rattle.tables.specs.Tables.{hint, hintOf, Open}
 use Rattle.tables.proofs.Stack.{entered-tables, entered-below, entered-hinted}
 use Rattle.graph.proofs.Laws.{still-above}
+use Rattle.free_lists.proofs.Laws.{lists-agree}
 use Rattle.interner.specs.declared.State.{State}
 use Rattle.interner.specs.declared.Step.{Step}
 use Rattle.interner.specs.State.{absOf, Rep}
@@ -148,6 +149,8 @@ module _ {bs ws : List ℕ} {st : State} {cur : ℕ} {node : Node} {held count :
     same : Same ws₁ ws₂ st₁
     same = record {
       still = still-above frame (omega arith) (done .rep .slots .few) (done .rep .arena .scoped);
+      lists = λ g. lists-agree g ws₁ ws₂ (st₁ .symbols) (done .rep .arena .scoped .few)
+          (λ k l r. frame .before k (omega arith));
       entries = λ k l r. frame .before k r;
       memo = λ k l r. frame .after k l;
     }

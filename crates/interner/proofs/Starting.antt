@@ -5,11 +5,11 @@ use mathlib.Core.Path.{_≡_, refl, sym, ap, _∙_, subst}
 use mathlib.Core.List.{List}
 use native.Mathlib.Omega.{arith}
 use lib.ListN.{length, set, length-set}
-use lib.Seq.{getD-set-same}
-use Rattle.regions.specs.Regions.{SYMBOLS, SCOPES, PENDING, WORDS}
+use lib.Seq.{getD-set-same, getD-set-other}
+use Rattle.regions.specs.Regions.{SYMBOLS, SCOPES, FREE_ENDS, PENDING, WORDS}
 use Rattle.model.specs.Intern.{start}
 use Rattle.laws.proofs.Apart.{none-some}
-use Rattle.laws.proofs.Frame.{frame-store}
+use Rattle.laws.proofs.Frame.{frame-then, frame-store}
 use Rattle.laws.specs.Stack.{stackOf}
 use Rattle.symbols.specs.Symbols.{symsOf}
 use Rattle.tables.specs.Tables.{newTables}
@@ -17,17 +17,24 @@ use Rattle.tables.proofs.Stack.{first-open, first-tables}
 use Rattle.scopes.specs.Scopes.{scopeWord, argsIn}
 use Rattle.scopes.proofs.Open.{scopes-outermost, nested-outermost}
 use Rattle.memo.specs.Memo.{memoOf}
+use Rattle.free_lists.proofs.Laws.{lists-start}
 use Rattle.interner.specs.Levels.{ArgLevels}
 use Rattle.interner.specs.State.{absOf, Rep, firstState, Started}
 
 module _ (ws : List ℕ) (words : WORDS ≤ length ws) where
+  abbrev ws₀ : List ℕ
+  ws₀ = set ws (FREE_ENDS .first) 0
+
   abbrev ws₁ : List ℕ
-  ws₁ = set ws (SCOPES .first) 0
+  ws₁ = set ws₀ (SCOPES .first) 0
+
+  long : length ws₀ ≡ length ws
+  long = length-set ws (FREE_ENDS .first) 0
 
   no-args : ArgLevels ws₁ 0 1
   no-args c lt xs e =
       let z : c ≡ 0 = omega arith in
-      let w : scopeWord ws₁ c ≡ 0 = rw z (getD-set-same ws (SCOPES .first) 0 0 (omega arith)) in
+      let w : scopeWord ws₁ c ≡ 0 = rw z (getD-set-same ws₀ (SCOPES .first) 0 0 (omega (arith, long))) in
       none-some (sym (ap argsIn w) ∙ e)
 
   rep-start : (bs : List ℕ) → Rep bs ws₁ firstState
@@ -36,10 +43,10 @@ module _ (ws : List ℕ) (words : WORDS ≤ length ws) where
     arena = record {
       scoped = record {
         few = omega arith;
-        words = omega (arith, length-set ws (SCOPES .first) 0);
+        words = omega (arith, length-set ws₀ (SCOPES .first) 0, long);
         some-scope = omega arith;
         few-scopes = omega arith;
-        nested = nested-outermost ws (omega arith);
+        nested = nested-outermost ws₀ (omega (arith, long));
         placed = λ s lt. absurd (omega arith);
       };
       sound = λ i lt. absurd (omega arith);
@@ -47,6 +54,9 @@ module _ (ws : List ℕ) (words : WORDS ≤ length ws) where
     slots = record { few = omega arith; all = refl; within = λ i lt. absurd (omega arith) };
     sourced = λ s lt. absurd (omega arith);
     levels = record { each = λ s lt. absurd (omega arith); arguments = no-args };
+    lists = lists-start _ ws₁
+        (getD-set-other ws₀ (SCOPES .first) (FREE_ENDS .first) 0 0 (λ e. omega arith)
+        ∙ getD-set-same ws (FREE_ENDS .first) 0 0 (omega arith));
     entries = record {
       few = omega arith;
       below = λ k lt. absurd (omega arith);
@@ -67,5 +77,7 @@ module _ (ws : List ℕ) (words : WORDS ≤ length ws) where
     rep = rep-start;
     is = abs-start;
     opened = first-open;
-    frame = frame-store (SYMBOLS .first) (PENDING .first) (SCOPES .first) 0 ws (omega arith) (omega arith);
+    frame = frame-then (SYMBOLS .first) (PENDING .first) ws ws₀ ws₁
+        (frame-store (SYMBOLS .first) (PENDING .first) (FREE_ENDS .first) 0 ws (omega arith) (omega arith))
+        (frame-store (SYMBOLS .first) (PENDING .first) (SCOPES .first) 0 ws₀ (omega arith) (omega arith));
   })

@@ -3,9 +3,9 @@
 -- bs are the forest's bytes, ws the words. Assumes nothing.
 use Prim.Native.Nat.{ℕ, _≤_}
 use mathlib.Core.Path.{_≡_}
-use mathlib.Core.List.{List}
+use mathlib.Core.List.{List, []}
 use lib.ListN.{set}
-use Rattle.regions.specs.Regions.{SYMBOLS, SLOTS, SCOPES, PENDING}
+use Rattle.regions.specs.Regions.{SYMBOLS, SLOTS, SCOPES, FREE_ENDS, PENDING}
 use Rattle.model.specs.Intern as intern
 use Rattle.laws.specs.Frame.{Frame}
 use Rattle.laws.specs.Slots.{slotsIn}
@@ -17,7 +17,8 @@ use Rattle.tables.specs.Tables.{tablesOf, newTables, Open, EntriesBelow, Hinted
 use Rattle.scopes.specs.Scopes.{scopesOf}
 use Rattle.memo.specs.Memo.{memoOf, keysIn, MemoBelow}
 use Rattle.interner.specs.declared.State.{State}
-use Rattle.graph.specs.Graph.{Within, Arena}
+use Rattle.graph.specs.Graph.{Within, Arena, graphOf}
+use Rattle.free_lists.specs.FreeLists.{Lists}
 use Rattle.interner.specs.Levels.{AllLevelled}
 
 abbrev pub absOf : List ℕ → List ℕ → Tables → State → intern.State
@@ -54,6 +55,7 @@ pub record Rep (bs ws : List ℕ) (st : State) : Type 0 where
   pub slots : Slotted bs ws (st .slots) (st .symbols)
   pub sourced : AllSourced bs ws (st .symbols)
   pub levels : AllLevelled bs ws (st .symbols) (st .scopes)
+  pub lists : Lists (graphOf bs ws (st .symbols) (st .scopes) []) ws (st .symbols)
   pub entries : Entered bs ws (st .entries) (st .symbols)
   pub memo : Remembered ws (st .memo) (st .symbols)
   pub few-readings : st .readings ≤ 2048
@@ -62,11 +64,11 @@ pub record Rep (bs ws : List ℕ) (st : State) : Type 0 where
 abbrev pub firstState : State
 firstState = record { entries = 0; symbols = 0; slots = 0; scopes = 1; memo = 0; readings = 0 }
 
--- the state before any record is read, whatever the forest, with one open table; the outermost scope's word is 0, and
--- all others are as they were
+-- the state before any record is read, whatever the forest, with one open table; the outermost scope's word is 0, no
+-- free list is stored, and all other words are as they were
 pub record Started (ws ws′ : List ℕ) (st : State) : Type 0 where
   pub state : st ≡ firstState
-  pub words : ws′ ≡ set ws (SCOPES .first) 0
+  pub words : ws′ ≡ set (set ws (FREE_ENDS .first) 0) (SCOPES .first) 0
   pub rep : (bs : List ℕ) → Rep bs ws′ st
   pub is : (bs : List ℕ) → absOf bs ws′ newTables st ≡ intern.start
   pub opened : Open newTables (st .entries)

@@ -53,12 +53,13 @@ pub struct Step {
     pub place: u32,
 }
 
-// The state in which nothing is read yet and the outermost scope is open; its word is 0, and no other word changes.
-// Rules out: a scope's word left as it was; an entry.
+// The state in which nothing is read yet and the outermost scope is open; its word is 0, the free lists end at 0, and no
+// other word changes. Rules out: a scope's word left as it was; an entry.
 pub fn start(work: &mut [u32]) -> State
     requires { ⌜ WORDS ≤ length (now work) ⌝ }
     ensures { λ r. ⌜ Started (now (work .entry)) (now (work .exit)) r ⌝ }
 {
+    free_lists::start(work);
     scopes::open_outermost(work);
     State {
         entries: 0,
@@ -70,7 +71,7 @@ pub fn start(work: &mut [u32]) -> State
     }
 }
 
-// One symbol more, placed from scope `cur` outwards; in no table.
+// One symbol more, placed from scope `cur` outwards, with its free list; in no table.
 fn push(
     forest: &[u8],
     work: &mut [u32],
@@ -100,6 +101,7 @@ fn push(
         levels,
     };
     symbols::make(work, n as usize, held, y);
+    free_lists::keep(forest, work, n as usize, st.scopes as usize, scope, count);
     State {
         entries: st.entries,
         symbols: n + 1,

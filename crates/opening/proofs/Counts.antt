@@ -33,6 +33,7 @@ readings-rep bs ws st n rep few = record {
   slots = rep .slots;
   sourced = rep .sourced;
   levels = rep .levels;
+  lists = rep .lists;
   entries = rep .entries;
   memo = rep .memo;
   few-readings = few;

@@ -2,7 +2,7 @@
 -- what holds of it.
 -- Assumes nothing.
 use Prim.Native.Nat.{ℕ, _+_, _≤_}
-use mathlib.Core.Path.{_≡_, sym, ap, _∙_}
+use mathlib.Core.Path.{_≡_, refl, sym, ap, _∙_}
 use mathlib.Core.Logic.{⊎-elim}
 use mathlib.Core.Option.{Option, some}
 use mathlib.Core.List.{List, [], _∷_, _++_}
@@ -16,12 +16,18 @@ use Rattle.model.specs.Intern as intern
 use Rattle.laws.specs.Frame.{Frame}
 use Rattle.laws.specs.Members.{Every}
 use Rattle.laws.proofs.Frame.{frame-store}
+use Rattle.laws.proofs.Later.{later-same}
 use Rattle.tables.specs.declared.Tables.{Tables}
 use Rattle.tables.specs.Tables.{tablesOf, Open}
 use Rattle.scopes.specs.Scopes.{scopeWord, levelOf, argsIn, scopesOf, outward, Nested}
+use Rattle.graph.specs.Graph.{Arena, graphOf}
+use Rattle.graph.proofs.Laws.{scope-of, kids-low}
+use Rattle.free_lists.specs.FreeLists.{Lists}
+use Rattle.free_lists.proofs.Laws.{lists-agree, lists-graph}
 use Rattle.interner.specs.declared.State.{State}
 use Rattle.interner.specs.Levels.{AtLevel, ArgLevels}
 use Rattle.interner.specs.State.{absOf, Rep}
+use Rattle.scopes.proofs.Laws.{scopes-more}
 use Rattle.interner.proofs.Same.{Same, abs-same, rep-same, symbol-same}
 use Rattle.opening.specs.Opening.{withScope}
 
@@ -47,7 +53,9 @@ module _ {bs ws : List ℕ} {st : State} (rep : Rep bs ws st) (few : st .scopes 
       slots = λ k l r. scope-frame .before k (omega (arith, rep .slots .few));
       scopes = λ k l r. scope-frame .before k r;
     };
-    entries = λ k l r. scope-frame .after k l;
+    lists = λ g. lists-agree g ws ws₁ (st .symbols) (rep .arena .scoped .few)
+        (λ k l r. scope-frame .after k (omega arith));
+    entries = λ k l r. scope-frame .after k (omega arith);
     memo = λ k l r. scope-frame .after k (omega arith);
   }
 
@@ -84,22 +92,37 @@ module _ {bs ws : List ℕ} {st : State} (rep : Rep bs ws st) (few : st .scopes 
         let le : c ≤ st .scopes = omega arith in
         ⊎-elim (λ e. rw e args-new) (λ l. old .levels .arguments c l) (eq-or-lt-of-le le)
 
+    arena-more : Arena bs ws₁ (st .symbols) (st .scopes + 1)
+    arena-more = record {
+      scoped = record {
+        few = rep .arena .scoped .few;
+        words = old .arena .scoped .words;
+        some-scope = omega arith;
+        few-scopes = omega arith;
+        nested = nested;
+        placed = λ s lt. let l = old .arena .scoped .placed s lt in omega arith;
+      };
+      sound = old .arena .sound;
+    }
+
+    -- a scope more changes no free list
+    lists-more : Lists (graphOf bs ws₁ (st .symbols) (st .scopes + 1) []) ws₁ (st .symbols)
+    lists-more =
+        lists-graph (graphOf bs ws₁ (st .symbols) (st .scopes) []) _ ws₁ (st .symbols)
+        (later-same (graphOf bs ws₁ (st .symbols) (st .scopes) []) (graphOf bs ws₁ (st .symbols) (st .scopes + 1) [])
+        (st .symbols) (st .scopes) (λ s lt. refl)
+        (λ b lt. scopes-more ws₁ (st .scopes) (st .scopes + 1) b lt (omega arith))
+        (λ s lt. rw (scope-of bs ws₁ (st .symbols) (st .scopes) [] s lt) (old .arena .scoped .placed s lt))
+        (kids-low bs ws₁ (st .symbols) (st .scopes + 1) arena-more []))
+        (old .lists)
+
     pub scope-rep : Rep bs ws₁ (withScope st)
     scope-rep = record {
-      arena = record {
-        scoped = record {
-          few = rep .arena .scoped .few;
-          words = old .arena .scoped .words;
-          some-scope = omega arith;
-          few-scopes = omega arith;
-          nested = nested;
-          placed = λ s lt. let l = old .arena .scoped .placed s lt in omega arith;
-        };
-        sound = old .arena .sound;
-      };
+      arena = arena-more;
       slots = old .slots;
       sourced = old .sourced;
       levels = record { each = old .levels .each; arguments = args-more };
+      lists = lists-more;
       entries = old .entries;
       memo = old .memo;
       few-readings = rep .few-readings;

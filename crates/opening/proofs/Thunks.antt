@@ -66,6 +66,7 @@ module _ (bs ws : List ℕ) (t : Tables) (st : State) (top : ℕ) (is : Open t t
       slots = rep .slots;
       sourced = rep .sourced;
       levels = rep .levels;
+      lists = rep .lists;
       entries = record {
         few = omega (arith, start-low, rep .entries .few);
         below = λ k lt. rep .entries .below k (omega (arith, start-low));

@@ -3,7 +3,7 @@ use Prim.Native.Nat.{_+_}
 use native.Mathlib.Omega.{arith}
 use borrow.Author.Needs.{needs}
 use Rattle.scopes.proofs.Open.{nested-less}
-use Rattle.interner.proofs.Pushing.{records-few, scope-low, room, pushed-by}
+use Rattle.interner.proofs.Pushing.{records-few, scope-low, room, keep-asks, pushed-by}
 use Rattle.interner.proofs.push.Statement.{statement}
 use Rattle.interner.proofs.push.Tie as tie
 
@@ -33,17 +33,28 @@ make-requires c κs =
     room (q .placement .result) (p .0) (p .1 .1 .0) (p .1 .1 .1) (q .placement .ensures) (records-few _ (s .pre .0))
     (p .1 .0)
 
+keep-requires : tie.Need-keep-requires
+keep-requires c κs =
+    let m = c .before .before .before .before in
+    let q = m .before .before in
+    let s = q .before .before .before .before in
+    let p = s .pre .1 in
+    let asks = keep-asks (q .placement .result) (p .0) (p .1 .1 .0) (p .1 .1 .1) (q .placement .ensures)
+    (records-few _ (s .pre .0)) (p .1 .0) in
+    rw (m .make .ensures) (s .pre .0, (asks .0, (asks .1, (asks .2, asks .3))))
+
 returns : tie.Need-returns
 returns c =
-    let m = c .before .before in
+    let k = c .before .before in
+    let m = k .before .before .before .before .before in
     let q = m .before .before in
     let s = q .before .before .before .before in
     let p = s .pre .1 in
     pushed-by (q .placement .result) (p .0) (p .1 .1 .0) (p .1 .1 .1) (q .placement .ensures)
-    (records-few _ (s .pre .0)) (p .1 .0) (m .make .ensures)
+    (records-few _ (s .pre .0)) (p .1 .0) _ (rw (m .make .ensures) at (k .keep .ensures))
 
 pub push-spec : {M : Type 1} → statement M
 push-spec =
     tie.close
-    (tie.spec placement-requires (λ c. search needs) cast-scope (λ c. search needs) make-requires (λ c. search needs)
+    (tie.spec placement-requires (λ c. search needs) cast-scope (λ c. search needs) make-requires (λ c. search needs) (λ c. search needs) keep-requires (λ c. search needs)
     (λ c. search needs) (λ c. search needs) (λ c. search needs) returns)
