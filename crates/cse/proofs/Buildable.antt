@@ -46,6 +46,7 @@ use Rattle.interner.specs.State.{absOf, Rep}
 use Rattle.gate.specs.Gate.{Countable, CountsOnly}
 use Rattle.graph.specs.Graph.{Arena}
 use Rattle.graph.proofs.Laws.{Still, still-above, node-agree, arena-agree}
+use Rattle.free_lists.proofs.Above.{lists-above}
 use Rattle.planner.specs.Building.{Opens, NoUse, Buildable}
 
 -- ---- a node's scopes and arguments
@@ -163,6 +164,7 @@ module _ (bs ws : List ℕ) (st : State) (rep : Rep bs ws st) where
       pub buildable : Buildable bs ws′ (st .symbols) (st .scopes)
       buildable = record {
         arena = arena-agree still bs (λ i l. rep .arena .sound i l .slots) (rep .arena);
+        lists = lists-above counted (omega arith) (rep .arena) (rep .lists);
         sourced = λ s l. rw (symbol-same s l) (rep .sourced s l);
         opens = λ s l. rw (symbol-same s l) (opens-at s l);
         no-use = λ s l. rw (symbol-same s l) (no-use-at s l);

@@ -241,7 +241,7 @@ fn define(
     if !planner::any_member(forest, work, g, root, sc, map) {
         return build(forest, work, g, root, map, last, above, p);
     }
-    let mut order = schedule::zeros16();
+    let mut order = outsiders::zeros16();
     let count = schedule::schedule(forest, work, g, root, sc, &mut order);
     let k = planner::members(forest, work, g, &order, count, sc, map);
     // a member need not stand in the order

@@ -16,6 +16,7 @@ use Rattle.scopes.proofs.Open.{scopes-agree}
 use Rattle.symbols.specs.Sourced.{Sourced}
 use Rattle.graph.specs.Graph.{Arena}
 use Rattle.graph.proofs.Laws.{Still, still-above, node-agree, arena-agree}
+use Rattle.free_lists.proofs.Above.{lists-above}
 use Rattle.planner.specs.Grew.{PlanOnly}
 use Rattle.planner.specs.Building.{Opens, NoUse, Buildable, GraphIn}
 
@@ -44,6 +45,7 @@ module _ {bs ws ws′ : List ℕ} {n m : ℕ} (k : PlanOnly ws ws′) (a : Arena
 pub buildable-kept : {bs ws ws′ : List ℕ} {n m : ℕ} → PlanOnly ws ws′ → Buildable bs ws n m → Buildable bs ws′ n m
 buildable-kept {bs} {ws} {ws′} {n} {m} k b = record {
   arena = arena-kept k (b .arena);
+  lists = lists-above k (omega arith) (b .arena) (b .lists);
   sourced = λ s lt. same (λ y. Sourced bs (y .node) (y .count)) s lt (b .sourced s lt);
   opens = λ s lt. same (λ y. Opens bs m s (y .node)) s lt (b .opens s lt);
   no-use = λ s lt. same (λ y. NoUse bs (y .node)) s lt (b .no-use s lt);

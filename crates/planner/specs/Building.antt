@@ -28,7 +28,8 @@ use Rattle.scopes.specs.Scopes.{scopesOf}
 use Rattle.symbols.specs.Sourced.{AllSourced}
 use Rattle.gate.specs.Gate.{usesAt}
 use Rattle.graph.specs.declared.Graph.{Graph}
-use Rattle.graph.specs.Graph.{Arena}
+use Rattle.graph.specs.Graph.{Arena, graphOf}
+use Rattle.free_lists.specs.FreeLists.{Lists}
 use Rattle.plan.specs.declared.Planned.{Planned}
 use Rattle.plan.specs.declared.Planned.the-variants.{Copy, Field}
 use Rattle.plan.specs.Plan.{choose}
@@ -66,6 +67,7 @@ NoUse bs (Op o) = recOf bs (Op o) .shape ≡ ValUse → ⊥
 
 pub record Buildable (bs ws : List ℕ) (n m : ℕ) : Type 0 where
   pub arena : Arena bs ws n m
+  pub lists : Lists (graphOf bs ws n m []) ws n
   pub sourced : AllSourced bs ws n
   pub opens : (s : ℕ) → s < n → Opens bs m s (symbolAt ws s .node)
   pub no-use : (s : ℕ) → s < n → NoUse bs (symbolAt ws s .node)

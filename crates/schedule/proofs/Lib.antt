@@ -1,6 +1,6 @@
 -- Laws of orders in lists that are lent, callees first. Assumes nothing.
-mod Neighbours
+mod Orders
+mod Places
 mod Lending
 mod Walking
 mod Bodies
-pub mod Cycles

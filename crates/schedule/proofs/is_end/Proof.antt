@@ -1,6 +1,6 @@
 -- `schedule::is_end` meets its contract. Assumes nothing.
 use borrow.Author.Needs.{needs}
-use Rattle.schedule.proofs.Neighbours.{end-arg, end-body}
+use Rattle.schedule.proofs.Orders.{end-arg, end-body}
 use Rattle.schedule.proofs.is_end.Statement.{statement}
 use Rattle.schedule.proofs.is_end.Tie as tie
 

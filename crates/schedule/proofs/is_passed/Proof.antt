@@ -1,6 +1,6 @@
 -- `schedule::is_passed` meets its contract. Assumes nothing.
 use borrow.Author.Needs.{needs}
-use Rattle.schedule.proofs.Neighbours.{passed-arg, passed-rel, passed-not}
+use Rattle.schedule.proofs.Orders.{passed-arg, passed-rel, passed-not}
 use Rattle.schedule.proofs.is_passed.Statement.{statement}
 use Rattle.schedule.proofs.is_passed.Tie as tie
 

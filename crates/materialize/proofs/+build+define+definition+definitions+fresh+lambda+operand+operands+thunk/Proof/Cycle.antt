@@ -4,7 +4,7 @@
 use Prim.Native.Nat.{ℕ, _+_, _*_}
 use borrow.Fn.Kinds.{In}
 use borrow.Fn.PlainCycle.{Measures}
-use Rattle.schedule.proofs.Cycles.{at, below}
+use Rattle.laws.proofs.Cycles.{at, below}
 use Rattle.materialize.proofs.build.Reads as build
 use Rattle.materialize.proofs.build.Kinds as build-kinds
 use Rattle.materialize.proofs.+build+define+definition+definitions+fresh+lambda+operand+operands+thunk.Lts-build as build-lts
@@ -33,7 +33,7 @@ use Rattle.materialize.proofs.thunk.Reads as thunk
 use Rattle.materialize.proofs.thunk.Kinds as thunk-kinds
 use Rattle.materialize.proofs.+build+define+definition+definitions+fresh+lambda+operand+operands+thunk.Lts-thunk as thunk-lts
 use Rattle.key.proofs.load.Reads as load-reads
-use Rattle.schedule.proofs.zeros16.Reads as zeros16-reads
+use Rattle.outsiders.proofs.zeros16.Reads as zeros16-reads
 use Rattle.planner.proofs.any_member.Reads as any-member-reads
 use Rattle.planner.proofs.copied.Reads as copied-reads
 use Rattle.planner.proofs.member.Reads as member-reads

@@ -74,7 +74,7 @@ pub define-schedule-requires : (t : ℕ) → define-lts.Need-schedule-requires (
 define-schedule-requires t c κs =
     let o = c .before .before in
     let p = o .before .before .before .before .before .before .before .before .before .before .pre .1 in
-    (p .0, (p .1 .0 .arena, ((p .1 .1 .0 .low, p .1 .1 .1), ap length (o .zeros16 .ensures))))
+    (p .0, (record { arena = p .1 .0 .arena; lists = p .1 .0 .lists }, ((p .1 .1 .0 .low, p .1 .1 .1), ap length (o .zeros16 .ensures))))
 
 pub define-members-requires : (t : ℕ) → define-lts.Need-members-requires (cycle.define-claims t) (cycle.define-at t)
     define.Post

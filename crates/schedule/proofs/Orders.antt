@@ -9,16 +9,16 @@ use mathlib.Core.List.{List, [], _∷_, _++_}
 use Rattle.model.specs.Lists.{isIn}
 use Rattle.model.specs.Gate.{Graph, symOf}
 use Rattle.model.specs.Schedule.{isArg, Rel, local, deeper, outside, isOutside, relOf, each, visit, bodyOnly}
-use Rattle.model.specs.Schedule.{bodyNeighbours, freeVars, neighbours}
+use Rattle.model.specs.Schedule.{localDepOrder, bodyNeighbours, freeVars, neighbours}
 use Rattle.laws.specs.Members.{In, Under}
 use Rattle.laws.proofs.Walks.{if-holds, every-none, every-rel}
 use Rattle.laws.proofs.Falls.{body-falls, free-falls, neighbours-fall}
 use Rattle.laws.proofs.Short.{visit-adds}
-use Rattle.laws.proofs.Orders.{each-same, unless, each-body, visited, visit-opens, Adds, each-fresh, own-local}
+use Rattle.laws.proofs.Orders.{each-same, unless, each-body, visited, visit-opens, Adds, each-fresh}
 use Rattle.scopes.specs.declared.Rel as code
 use Rattle.scopes.specs.Relation.{relIn}
 use Rattle.graph.specs.Graph.{graphOf, Related, Tests}
-use Rattle.schedule.specs.Schedule.{orderOf, passed, stops, nearOf, stepOf}
+use Rattle.schedule.specs.Schedule.{orderOf, passed, stops, nearOf, stepOf, needsOf}
 
 -- ---- the tests of code
 
@@ -149,10 +149,11 @@ module _ (g : Graph) (b : Bool) (cs s : ℕ) where
   unfolding nearOf
   near-rel e r f = rw (e, nearOf, ← f)
 
--- a body's neighbours of the symbol that it is the body of
-pub near-own : (g : Graph) (c : ℕ) → nearOf g true (symOf g c .scope) c ≡ symOf g c .kids
-unfolding stops
-near-own g c = near-rel g true (symOf g c .scope) c refl local (sym (own-local g c))
+-- what a symbol of a body needs
+pub needs-rel : (g : Graph) (cs s : ℕ) (r : Rel) → r ≡ relOf g s cs →
+    needsOf g cs s ≡ elim r [ local ↦ localDepOrder (symOf g s) | deeper ↦ freeVars g s | outside ↦ [] ]
+unfolding needsOf
+needs-rel g cs s r f = rw (needsOf, ← f)
 
 -- what a match on the relation tells
 pub told : (bs ws : List ℕ) (n m s cur : ℕ) (r v : code.Rel) → r ≡ v → Related ws n m s cur r → (slots : List ℕ) →
