@@ -1,6 +1,6 @@
 //! Writes a copy of the pass in which `free_vars` remembers its answers: the same lists, without the time that doubles
-//! with each nested thunk. The copy counts how many lists the main call works out, which remembers none. The files of
-//! the pass stay as they are; the copy is made of them by the edits below, each of which must find its text.
+//! with each nested thunk. The copy gives up a tree that grows too large. The files of the pass stay as they are; the
+//! copy is made of them by the edits below, each of which must find its text.
 
 use std::path::{Path, PathBuf};
 use std::{env, fs};
@@ -19,67 +19,50 @@ const FORGOTTEN: (&str, &str) = (
     "        forget();\n        let usage = self.flat_usage_reachable(root);\n",
 );
 
-/// ... an order is counted ...
+/// ... a record that is made is counted ...
 const COUNTED: (&str, &str) = (
-    "        let order = self.schedule_order(scope_root, scope);\n",
-    "        let order = self.counted_order(scope_root, scope, env, usage);\n",
+    "        // recursion base: an in-scope binding → ValUse (TreeBuilding.scala:498).\n",
+    "        made_one();\n",
 );
 
-/// ... and a list that was worked out is given again, with how many lists it took.
+/// ... and a list that was worked out is given again.
 const REMEMBERED: &str = "
 thread_local! {
-    static FREE: std::cell::RefCell<BTreeMap<SymId, (Vec<SymId>, u64)>> = const { std::cell::RefCell::new(BTreeMap::new()) };
-    // Lists worked out for the order at hand, had none been remembered.
-    static LISTS: std::cell::Cell<u64> = const { std::cell::Cell::new(0) };
-    // Those of all orders that the main call makes.
-    static CALLED: std::cell::Cell<u64> = const { std::cell::Cell::new(0) };
+    static FREE: std::cell::RefCell<BTreeMap<SymId, Vec<SymId>>> = const { std::cell::RefCell::new(BTreeMap::new()) };
+    // Records of the tree at hand.
+    static MADE: std::cell::Cell<u64> = const { std::cell::Cell::new(0) };
 }
 
 fn forget() {
     FREE.with(|lists| lists.borrow_mut().clear());
-    CALLED.set(0);
+    MADE.set(0);
 }
 
-pub(crate) fn lists_called() -> u64 {
-    CALLED.get()
+// What a tree is given up with. Whatever was made up to then is part of it.
+pub(crate) struct TooLarge;
+
+fn made_one() {
+    MADE.set(MADE.get() + 1);
+    if MADE.get() > crate::cost::MAX_MADE {
+        std::panic::resume_unwind(Box::new(TooLarge));
+    }
 }
 
 impl Interner {
     pub(crate) fn free_vars(&self, compound: SymId) -> Vec<SymId> {
-        let before = LISTS.get();
         let remembered = FREE.with(|lists| lists.borrow().get(&compound).cloned());
-        let (list, lists) = remembered.unwrap_or_else(|| {
-            LISTS.set(0);
+        remembered.unwrap_or_else(|| {
             let list = self.free_vars_anew(compound);
-            let found = (list, LISTS.get().saturating_add(1));
-            FREE.with(|lists| lists.borrow_mut().insert(compound, found.clone()));
-            found
-        });
-        LISTS.set(before.saturating_add(lists));
-        list
+            FREE.with(|lists| lists.borrow_mut().insert(compound, list.clone()));
+            list
+        })
     }
 
-    // The main call puts a scope in order only if a symbol up to its root may get a definition there.
-    fn counted_order(
-        &self,
-        root: SymId,
-        scope: ScopeId,
-        env: &BTreeMap<SymId, u32>,
-        usage: &BTreeMap<SymId, usize>,
-    ) -> Vec<SymId> {
-        LISTS.set(0);
-        let order = self.schedule_order(root, scope);
-        let defined = (0..=root.0).map(SymId).any(|s| {
-            let info = &self.syms[s.0 as usize];
-            info.scope == scope
-                && !matches!(info.node, Node::Arg)
-                && self.should_hoist(s, usage)
-                && !env.contains_key(&s)
-        });
-        if defined {
-            CALLED.set(CALLED.get().saturating_add(LISTS.get()));
-        }
-        order
+    // The lengths of all symbols' free lists, summed.
+    pub(crate) fn entries(&self) -> usize {
+        forget();
+        let symbols = (0..self.syms.len()).map(|index| SymId(index as u32));
+        symbols.map(|symbol| self.free_vars(symbol).len()).sum()
     }
 }
 ";
@@ -107,7 +90,7 @@ fn main() {
         );
         root = edited(&root, (&format!("mod {name};\n"), &inline));
     }
-    root += "pub(crate) use materialize::lists_called;\n";
+    root += "pub(crate) use materialize::TooLarge;\n";
     write(&copy.join("mod.rs"), &root);
 }
 

@@ -2,19 +2,22 @@
 
 use std::collections::BTreeMap;
 use std::thread;
+use std::time::{Duration, Instant};
 
 use cse_library::{call, Numbers, MAX_WRITTEN, WORK_WORDS};
-use cse_reference::generate::Family;
-use cse_reference::oracle::{answer_deep, tells_marks, Answer, NoAnswer, Skipped, Work};
+use cse_reference::forest::Forest;
+use cse_reference::generate::{Family, Kind};
+use cse_reference::oracle::{answer_deep, entries, tells_marks, Answer, NoAnswer, Skipped, Work};
 use cse_reference::{damage, hex};
 
 /// The stack of a Rust thread by default; every call has to pass in it.
 const STACK: usize = 2 << 20;
 
-/// The main call works free lists out anew, as the original does, each in 0.06 to 0.2 µs on an AMD EPYC: so many take it
-/// up to a second. Their number doubles with each scope inside one that has a definition.
-pub const MAX_LISTS: u64 = 5_000_000;
-const TOO_LONG: &str = "over 5,000,000 free lists for the main call";
+/// No call may take longer, on forests of whatever kind.
+const LONGEST: Duration = Duration::from_secs(1);
+
+/// The main call stores so many entries of free lists; lists past them it works out where it needs them.
+const STORED: usize = 4_096;
 
 /// Words past those that the call uses.
 const SPARE: usize = 16;
@@ -26,8 +29,10 @@ struct Tally {
     compared: BTreeMap<u32, u64>,
     /// The most scopes inside one another in these.
     nesting: usize,
-    /// Those of them that tell marks apart.
+    /// Those of them that tell what they have to.
     telling: u64,
+    /// The longest of the main calls, by the quickest of three, and its seed.
+    slowest: (Duration, u64),
     /// Calls by number and who made the tree.
     calls: BTreeMap<(u32, &'static str), u64>,
     /// Forests that were not compared, by reason.
@@ -42,6 +47,7 @@ impl Tally {
         }
         self.nesting = self.nesting.max(other.nesting);
         self.telling += other.telling;
+        self.slowest = self.slowest.max(other.slowest);
         for (key, count) in other.calls {
             *self.calls.entry(key).or_default() += count;
         }
@@ -51,9 +57,9 @@ impl Tally {
         self.differences.extend(other.differences);
     }
 
-    /// Prints it all; whether nothing differed, at least so many forests were compared and, if it is asked, so many tell
-    /// marks apart.
-    fn print(&self, name: &str, least: u64, telling: Option<u64>) -> bool {
+    /// Prints it all; whether nothing differed, no call took too long, at least so many forests were compared and, if it
+    /// is asked, so many tell what they have to.
+    fn print(&self, name: &str, least: u64, telling: Option<(Told, u64)>) -> bool {
         for ((number, maker), count) in &self.calls {
             println!("{name}: {count} calls with answer {number} ({maker})");
         }
@@ -66,18 +72,59 @@ impl Tally {
         let numbers = self.compared.iter();
         let numbers: Vec<_> = numbers.map(|(n, count)| format!("{n}: {count}")).collect();
         let compared: u64 = self.compared.values().sum();
-        let told = telling.map_or(String::new(), |telling| {
-            let count = self.telling;
-            format!(" {count} that tell marks apart, at least {telling} asked for;")
+        let told = telling.map_or(String::new(), |(told, telling)| {
+            let (count, words) = (self.telling, told.words());
+            format!(" {count} that {words}, at least {telling} asked for;")
         });
+        let (time, slowest) = self.slowest;
         println!(
-            "{name}: {compared} forests compared, at least {least} asked for, {} passed over;{told} by answer {}; nested up to {} deep; {} differences",
+            "{name}: {compared} forests compared, at least {least} asked for, {} passed over;{told} by answer {}; nested up to {} deep; \
+             slowest call {:.3} ms, of seed {slowest}; {} differences",
             self.skipped.values().sum::<u64>(),
             numbers.join(", "),
             self.nesting,
+            time.as_secs_f64() * 1e3,
             self.differences.len()
         );
-        self.differences.is_empty() && compared >= least && self.telling >= telling.unwrap_or(0)
+        self.differences.is_empty()
+            && time <= LONGEST
+            && compared >= least
+            && self.telling >= telling.map_or(0, |(_, telling)| telling)
+    }
+}
+
+/// What a forest has to tell, where it is asked for.
+#[derive(Clone, Copy)]
+pub enum Told {
+    /// Without marks it would have other symbols or another tree.
+    Marks,
+    /// The main call can't store all of its free lists.
+    Entries,
+}
+
+impl Told {
+    /// What forests of a family are asked for, if anything.
+    pub fn of(family: Family) -> Option<Told> {
+        match family.kind {
+            _ if family.marked => Some(Told::Marks),
+            Kind::Flat => Some(Told::Entries),
+            _ => None,
+        }
+    }
+
+    fn words(self) -> &'static str {
+        match self {
+            Told::Marks => "tell marks apart",
+            Told::Entries => "have over 4,096 entries of free lists",
+        }
+    }
+
+    /// Whether a forest with that answer tells it.
+    fn is_told(self, forest: &Forest, bytes: &[u8], given: &Answer) -> bool {
+        match self {
+            Told::Marks => tells_marks(bytes, given),
+            Told::Entries => entries(forest) > STORED,
+        }
     }
 }
 
@@ -87,17 +134,19 @@ struct Lent {
     work: Vec<u32>,
 }
 
-/// Forests of a family. Whether nothing differed, at least so many were compared and, of marked ones, so many tell marks
-/// apart.
+/// Forests of a family. Whether nothing differed, no call took too long, at least so many were compared and so many tell
+/// what they have to.
 pub fn accepted(family: Family, count: u64, seed: u64, least: u64, telling: u64) -> bool {
+    let told = Told::of(family);
     in_two(count, seed, |seed, lent, tally| {
-        let forest = family.forest(seed).to_bytes();
-        let given = compare(&forest, seed, lent, tally);
-        if family.marked {
-            tally.telling += u64::from(given.is_some_and(|given| tells_marks(&forest, &given)));
+        let forest = family.forest(seed);
+        let bytes = forest.to_bytes();
+        let given = compare(&bytes, seed, lent, tally);
+        if let (Some(told), Some(given)) = (told, given) {
+            tally.telling += u64::from(told.is_told(&forest, &bytes, &given));
         }
     })
-    .print(&family.name(), least, family.marked.then_some(telling))
+    .print(&family.name(), least, told.map(|told| (told, telling)))
 }
 
 pub fn damaged(count: u64, seed: u64, least: u64) -> bool {
@@ -181,20 +230,23 @@ fn compare_call(
         }
     };
     if let Some(work) = told.work {
-        if work.lists > MAX_LISTS {
-            *tally.skipped.entry(TOO_LONG).or_default() += 1;
-            return None;
-        }
         tally.nesting = tally.nesting.max(work.nesting);
     }
     let expected = told.answer;
     let calls = tally.calls.entry((expected.number, maker(told.work)));
     *calls.or_default() += 1;
-    if let Some(difference) = difference(forest, out_length, words, &expected, seed, lent) {
-        tally.differences.push(format!(
+    let mut once = || difference(forest, out_length, words, &expected, seed, lent);
+    let timed = once().and_then(|time| match time > tally.slowest.0 {
+        // The machine may have been busy with something else.
+        true => Ok(time.min(once()?).min(once()?)),
+        false => Ok(time),
+    });
+    match timed {
+        Ok(time) => tally.slowest = tally.slowest.max((time, seed)),
+        Err(difference) => tally.differences.push(format!(
             "{difference}: {out_length} {words} {}",
             hex::print(forest)
-        ));
+        )),
     }
     Some(expected)
 }
@@ -210,12 +262,12 @@ fn maker(work: Option<Work>) -> &'static str {
 fn reason(skipped: &Skipped) -> &'static str {
     match skipped {
         Skipped::Nesting(_) => "nested too deep",
-        Skipped::Expansion(_) => "the written tree may be over 20,000 records",
+        Skipped::TooLarge => "a written tree over 20,000 records",
         Skipped::TwoShapes { .. } => "one opcode in two shapes",
     }
 }
 
-/// What the call did otherwise than it has to, if it did.
+/// The time that the call took, or what it did otherwise than it has to.
 fn difference(
     forest: &[u8],
     out_length: usize,
@@ -223,7 +275,7 @@ fn difference(
     expected: &Answer,
     seed: u64,
     lent: &mut Lent,
-) -> Option<String> {
+) -> Result<Duration, String> {
     // Whatever stood there before must not matter, and what is not written must still stand there.
     let byte = |i: usize| (seed as u8).wrapping_add(i as u8) | 1;
     let word = |i: usize| {
@@ -239,7 +291,9 @@ fn difference(
     work.iter_mut()
         .enumerate()
         .for_each(|(i, place)| *place = word(i));
+    let start = Instant::now();
     let numbers = call(forest, &mut out[..out_length], &mut work[..words]);
+    let time = start.elapsed();
     let wanted = Numbers {
         number: expected.number,
         place: expected.place,
@@ -248,33 +302,34 @@ fn difference(
         readings: expected.readings,
     };
     if numbers != wanted {
-        return Some(format!("{numbers:?} and not {wanted:?}"));
+        return Err(format!("{numbers:?} and not {wanted:?}"));
     }
     let written = expected.tree.len();
     if out[..written] != expected.tree[..] {
-        return Some(format!(
+        return Err(format!(
             "wrote {} and not {}",
             hex::print(&out[..written]),
             hex::print(&expected.tree)
         ));
     }
     if (written..out.len()).any(|i| out[i] != byte(i)) {
-        return Some("an output byte that is not the tree's was changed".to_string());
+        return Err("an output byte that is not the tree's was changed".to_string());
     }
     let cleared = if expected.number == 1 { 0 } else { WORK_WORDS };
     if work[..cleared].iter().any(|&word| word != 0) {
-        return Some("a work word was not cleared".to_string());
+        return Err("a work word was not cleared".to_string());
     }
     if (cleared..work.len()).any(|i| work[i] != word(i)) {
-        return Some("a work word past those that are used was changed".to_string());
+        return Err("a work word past those that are used was changed".to_string());
     }
     if expected.number != 0 {
-        return None;
+        return Ok(time);
     }
     let again = call(&expected.tree, &mut out[..], &mut work[..]).number;
-    (2..=10)
-        .contains(&again)
-        .then(|| format!("the written tree is refused with {again}"))
+    match again {
+        2..=10 => Err(format!("the written tree is refused with {again}")),
+        _ => Ok(time),
+    }
 }
 
 #[cfg(test)]
@@ -290,7 +345,18 @@ mod tests {
         };
         assert!(tally.print("forests", 5, None));
         assert!(!tally.print("forests", 6, None));
-        assert!(tally.print("forests", 5, Some(3)));
-        assert!(!tally.print("forests", 5, Some(4)));
+        assert!(tally.print("forests", 5, Some((Told::Marks, 3))));
+        assert!(!tally.print("forests", 5, Some((Told::Marks, 4))));
+    }
+
+    #[test]
+    fn a_call_that_takes_too_long_is_a_failure() {
+        let taking = |time| Tally {
+            compared: [(0, 5)].into(),
+            slowest: (time, 1),
+            ..Tally::default()
+        };
+        assert!(taking(LONGEST).print("forests", 5, None));
+        assert!(!taking(LONGEST + Duration::from_millis(1)).print("forests", 5, None));
     }
 }

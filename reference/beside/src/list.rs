@@ -10,8 +10,6 @@ use cse_reference::hex;
 use cse_reference::lister::{listing, tells_marks};
 use cse_reference::oracle::NoAnswer;
 
-use crate::compare::MAX_LISTS;
-
 /// The program, once `rt check` or `rt ci` has built it.
 const LISTER: &str = concat!(env!("CARGO_MANIFEST_DIR"), "/../../target/bin/lister");
 
@@ -28,7 +26,7 @@ struct Tally {
     unused: u64,
     /// Those that tell what they have to.
     telling: u64,
-    /// Those that were not compared: too much work for a side.
+    /// Those that were not compared.
     skipped: u64,
     differences: Vec<String>,
 }
@@ -95,8 +93,8 @@ pub fn listed(family: Option<Family>, count: u64, seed: u64, least: u64, telling
 
 fn compare(forest: &[u8], told: Told, tally: &mut Tally) {
     let expected = match listing(forest) {
-        Ok(listing) if listing.work.map_or(0, |work| work.lists) <= MAX_LISTS => listing,
-        Ok(_) | Err(NoAnswer::Skipped(_)) => {
+        Ok(listing) => listing,
+        Err(NoAnswer::Skipped(_)) => {
             tally.skipped += 1;
             return;
         }

@@ -7,12 +7,14 @@ mod measure;
 
 use std::process::ExitCode;
 
+use compare::Told;
 use cse_reference::generate::Family;
 
 const USAGE: &str = "\
 usage: beside compare KIND COUNT [SEED [LEAST [TELLING]]]
                                           accepted forests of a kind through both; with marks, TELLING of them have to
-                                          tell these apart: without they would have other symbols or another tree
+                                          tell these apart: without they would have other symbols or another tree; of
+                                          flat TELLING have to have over 4,096 entries of free lists
        beside damaged COUNT [SEED [LEAST]]
                                           refused forests through both
        beside list KIND COUNT [SEED [LEAST [TELLING]]]
@@ -26,8 +28,9 @@ usage: beside compare KIND COUNT [SEED [LEAST [TELLING]]]
        beside count SIDE                  forests in hex from standard input, each once through the original or the call,
                                           for tools/count_instructions.py
 A KIND may have marked- before it: its constants then have marks. A difference is printed with its forest, and the
-status is 1; so it is where fewer than LEAST forests were compared, which is COUNT unless it is said, and not 0, or fewer
-than TELLING tell what they have to, which is 0 unless it is said; compare takes another for marked kinds only.";
+status is 1; so it is where a main call took over a second, where fewer than LEAST forests were compared, which is COUNT
+unless it is said, and not 0, or fewer than TELLING tell what they have to, which is 0 unless it is said; compare takes
+another for marked kinds and flat only.";
 
 fn main() -> ExitCode {
     let arguments: Vec<String> = std::env::args().skip(1).collect();
@@ -52,9 +55,9 @@ fn run(words: &[&str]) -> Option<bool> {
             let count = count.parse().ok()?;
             let seed = number(rest.first(), 1)?;
             let least = number(rest.get(1), count).filter(|least| *least > 0)?;
-            // Without marks none tells them apart.
-            let telling =
-                number(rest.get(2), 0).filter(|telling| family.marked || *telling == 0)?;
+            // Of other kinds none is asked to tell anything.
+            let asked = Told::of(family).is_some();
+            let telling = number(rest.get(2), 0).filter(|telling| asked || *telling == 0)?;
             Some(compare::accepted(family, count, seed, least, telling))
         }
         ["damaged", count, rest @ ..] if rest.len() < 3 => {

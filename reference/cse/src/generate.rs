@@ -3,6 +3,7 @@
 
 mod builder;
 mod counted;
+mod flat;
 mod limits;
 mod literals;
 mod marks;
@@ -45,14 +46,17 @@ pub enum Kind {
     /// Near 512 symbols, on either side.
     Symbols,
     /// Up to 63 scopes inside one another: out of the original's reach, whose time doubles with
-    /// each. All other kinds stay at 12.
+    /// each. All other kinds but the last stay at 12.
     Scopes,
     /// Environment trees, few uses of what is defined, and fields: much that the root does not reach.
     Unreached,
+    /// Free lists with over 4,096 entries in all, or near so many, and scopes inside one another after
+    /// them: the main call stores so many entries, and works other lists out when it needs them.
+    Flat,
 }
 
 impl Kind {
-    pub const ALL: [Kind; 14] = [
+    pub const ALL: [Kind; 15] = [
         Kind::Small,
         Kind::Medium,
         Kind::Large,
@@ -67,6 +71,7 @@ impl Kind {
         Kind::Symbols,
         Kind::Scopes,
         Kind::Unreached,
+        Kind::Flat,
     ];
 
     pub fn name(self) -> &'static str {
@@ -85,6 +90,7 @@ impl Kind {
             Kind::Symbols => "symbols",
             Kind::Scopes => "scopes",
             Kind::Unreached => "unreached",
+            Kind::Flat => "flat",
         }
     }
 
@@ -164,6 +170,7 @@ pub fn accepted(seed: u64, kind: Kind) -> Forest {
         Kind::NearLimit => limits::near_limit(&mut rng),
         Kind::Readings => counted::near_readings(&mut rng),
         Kind::Symbols => counted::near_symbols(&mut rng),
+        Kind::Flat => flat::forest(&mut rng),
         Kind::Scopes if rng.chance(40) => limits::nested(&mut rng),
         _ => builder::forest(rng, kind),
     }

@@ -1,11 +1,12 @@
 //! The main call of document 01, with the original deciding the tree.
 
 use std::fmt;
+use std::panic::{catch_unwind, resume_unwind, AssertUnwindSafe};
 use std::thread;
 
 use crate::check::{accept, Refusal};
 use crate::convert::{to_expr, to_tree};
-use crate::cost::{expansion, nesting, MAX_EXPANSION, MAX_NESTING};
+use crate::cost::{nesting, MAX_MADE, MAX_NESTING};
 use crate::cse::{cse, Interner, SymId};
 use crate::forest::{Forest, Tree};
 use crate::limits::{count, Counts};
@@ -49,8 +50,8 @@ pub enum NoAnswer {
 pub enum Skipped {
     /// So many nested scopes, over [`MAX_NESTING`].
     Nesting(usize),
-    /// So many records in the written tree, or a little fewer, over [`MAX_EXPANSION`].
-    Expansion(u64),
+    /// Over [`MAX_MADE`] records in the written tree.
+    TooLarge,
     /// The original's keys leave out the shape, so document 01 keeps such forests from it.
     TwoShapes { opcode: u8 },
 }
@@ -61,8 +62,8 @@ impl fmt::Display for NoAnswer {
             NoAnswer::Skipped(Skipped::Nesting(depth)) => {
                 write!(f, "{depth} nested scopes, over {MAX_NESTING}")
             }
-            NoAnswer::Skipped(Skipped::Expansion(size)) => {
-                write!(f, "up to {size} written records, over {MAX_EXPANSION}")
+            NoAnswer::Skipped(Skipped::TooLarge) => {
+                write!(f, "over {MAX_MADE} written records")
             }
             NoAnswer::Skipped(Skipped::TwoShapes { opcode }) => {
                 write!(f, "opcode {opcode:02X} has two shapes")
@@ -92,14 +93,14 @@ pub struct Told {
 pub struct Work {
     /// How many scopes lie inside one another.
     pub nesting: usize,
-    /// How many free lists the main call works out.
-    pub lists: u64,
+    /// Whether it was made to its end, and not given up over [`MAX_MADE`] records.
+    pub whole: bool,
 }
 
 impl Work {
     /// Whether the original ends in time. It then made the tree too, and the same one.
     pub fn in_time(&self) -> bool {
-        self.nesting <= MAX_NESTING
+        self.nesting <= MAX_NESTING && self.whole
     }
 }
 
@@ -113,13 +114,16 @@ pub fn answer(forest: &[u8], out_len: usize, work_words: usize) -> Result<Answer
 /// Skipped where the copy alone made the tree.
 pub(crate) fn by_original(work: Option<Work>) -> Result<(), NoAnswer> {
     match work {
-        Some(work) if !work.in_time() => Err(NoAnswer::Skipped(Skipped::Nesting(work.nesting))),
+        Some(work) if work.nesting > MAX_NESTING => {
+            Err(NoAnswer::Skipped(Skipped::Nesting(work.nesting)))
+        }
+        Some(work) if !work.whole => Err(NoAnswer::Skipped(Skipped::TooLarge)),
         _ => Ok(()),
     }
 }
 
-/// The same, however deep scopes are nested: by the copy that remembers free lists and, where it ends in time, by the
-/// original too.
+/// The same, however deep scopes are nested and however large the tree would be: by the copy that remembers free lists
+/// and, where it ends in time, by the original too.
 pub fn answer_deep(forest: &[u8], out_len: usize, work_words: usize) -> Result<Told, NoAnswer> {
     let without_tree = |refusal| Told {
         answer: refused(refusal),
@@ -165,8 +169,14 @@ pub(crate) fn without_marks(forest: &[u8]) -> Option<Vec<u8>> {
     Some(forest.without_marks().to_bytes())
 }
 
-/// The answer to a forest with that written tree.
-fn measured(tree: Tree, counts: Counts, out_len: usize) -> Answer {
+/// The answer to a forest with that written tree, or with one that was given up as too large.
+fn measured(tree: Option<Tree>, counts: Counts, out_len: usize) -> Answer {
+    let Some(tree) = tree else {
+        return refused(Refusal {
+            number: 13,
+            place: 0,
+        });
+    };
     let (records, depth) = (tree.size(), tree.depth());
     let bytes = Forest { trees: vec![tree] }.to_bytes();
     let number = if records > MAX_RECORDS || bytes.len() > MAX_OUTPUT.min(out_len) {
@@ -197,11 +207,12 @@ fn refused(refusal: Refusal) -> Answer {
     }
 }
 
-/// What both copies of the pass make of an accepted forest within the limits, the original where it ends in time.
-fn written_tree(forest: &Forest, counts: Counts) -> Result<(Tree, Work), NoAnswer> {
+/// What both copies of the pass make of an accepted forest within the limits, the original where it ends in time; none if
+/// it was given up as too large.
+fn written_tree(forest: &Forest, counts: Counts) -> Result<(Option<Tree>, Work), NoAnswer> {
     one_shape_each(forest).map_err(NoAnswer::Skipped)?;
     on_large_stack(|| {
-        let (interner, root) = interned(forest);
+        let (interner, _) = interned(forest);
         let original = interner.syms.len() as u32;
         if original != counts.symbols {
             return Err(NoAnswer::SymbolCount {
@@ -209,21 +220,38 @@ fn written_tree(forest: &Forest, counts: Counts) -> Result<(Tree, Work), NoAnswe
                 original,
             });
         }
-        let size = expansion(&interner, root);
-        if size > MAX_EXPANSION {
-            return Err(NoAnswer::Skipped(Skipped::Expansion(size)));
-        }
         let (root, env) = exprs(forest);
-        let tree = to_tree(&remembering::cse(root.clone(), &env));
+        let tree = remembered(root.clone(), &env).map(|tree| to_tree(&tree));
         let work = Work {
             nesting: forest.trees.iter().map(nesting).max().unwrap_or(0),
-            lists: remembering::lists_called(),
+            whole: tree.is_some(),
         };
-        if work.in_time() && to_tree(&cse(root, &env)) != tree {
+        if work.in_time() && Some(to_tree(&cse(root, &env))) != tree {
             return Err(NoAnswer::Copies);
         }
-        debug_assert!(tree.size() as u64 <= size, "the cap must hold beforehand");
         Ok((tree, work))
+    })
+}
+
+/// What the copy that remembers free lists makes; none if it gives the tree up as too large.
+pub fn remembered(root: Expr, env: &[Expr]) -> Option<Expr> {
+    let made = catch_unwind(AssertUnwindSafe(|| remembering::cse(root, env)));
+    made.map_err(|fault| {
+        if !fault.is::<remembering::TooLarge>() {
+            resume_unwind(fault)
+        }
+    })
+    .ok()
+}
+
+/// How long the free lists of all symbols of an accepted forest are together.
+pub fn entries(forest: &Forest) -> usize {
+    on_large_stack(|| {
+        let mut interner = remembering::Interner::new();
+        for tree in &forest.trees {
+            interner.intern(&to_expr(tree));
+        }
+        interner.entries()
     })
 }
 

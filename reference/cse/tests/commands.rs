@@ -196,7 +196,7 @@ fn wrong_command_lines() {
         ),
         (
             &["generate", "marked", "1"],
-            "unreached, and these with marked- before them",
+            "flat, and these with marked- before them",
         ),
         (&["generate", "small", "many"], "COUNT is to be a number"),
         (&["damage"], "damage: wants COUNT"),

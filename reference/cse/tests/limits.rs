@@ -2,7 +2,7 @@
 
 use cse_reference::forest::{Forest, Tree};
 use cse_reference::limits::{count, Counts};
-use cse_reference::oracle::{answer, Answer, NoAnswer, Skipped};
+use cse_reference::oracle::{answer, answer_deep, Answer, NoAnswer, Skipped};
 use cse_reference::trees::*;
 use cse_reference::unfold::keeps_meaning;
 
@@ -228,7 +228,10 @@ fn doubling(levels: u32) -> Forest {
 fn inline_copies_are_capped() {
     passes(&doubling(3));
     refuses(&doubling(8), 13, 0);
-    assert!(matches!(skipped(&doubling(16)), Skipped::Expansion(_)));
+    assert_eq!(skipped(&doubling(16)), Skipped::TooLarge);
+    // Too large for the original, and refused all the same.
+    let told = answer_deep(&doubling(16).to_bytes(), 65_535, 16_384).unwrap();
+    assert_eq!((told.answer.number, told.answer.place), (13, 0));
 }
 
 #[test]

@@ -1,8 +1,8 @@
-//! The copy of the pass that remembers free lists gives the original's trees, and counts the lists of the main call.
+//! The copy of the pass that remembers free lists gives the original's trees, and counts the entries of these lists.
 
 use cse_reference::generate::{accepted, Kind};
 use cse_reference::notation;
-use cse_reference::oracle::{answer_deep, NoAnswer, MAX_OUTPUT, MIN_WORK_WORDS};
+use cse_reference::oracle::{answer_deep, entries, NoAnswer, MAX_OUTPUT, MIN_WORK_WORDS};
 
 #[test]
 fn both_copies_give_the_same_answers() {
@@ -29,33 +29,31 @@ fn both_copies_give_the_same_answers() {
 }
 
 #[test]
-fn deep_nesting_is_within_its_reach() {
-    let mut answered = 0;
-    for seed in 0..100 {
-        let forest = accepted(seed, Kind::Scopes).to_bytes();
-        answered += u32::from(answer_deep(&forest, MAX_OUTPUT, MIN_WORK_WORDS).is_ok());
+fn every_nested_forest_has_an_answer() {
+    for kind in [Kind::Scopes, Kind::NearLimit, Kind::Flat] {
+        for seed in 0..100 {
+            let forest = accepted(seed, kind).to_bytes();
+            let told = answer_deep(&forest, MAX_OUTPUT, MIN_WORK_WORDS);
+            assert!(told.is_ok(), "{kind:?} {seed}");
+        }
     }
-    assert!(answered > 80, "{answered}");
 }
 
-fn lists(script: &str) -> u64 {
-    let forest = notation::parse(script).expect("the script is in the notation");
-    let told = answer_deep(&forest.to_bytes(), MAX_OUTPUT, MIN_WORK_WORDS);
-    let work = told.expect("the script has an answer").work;
-    work.expect("the script has a tree").lists
+fn entries_of(script: &str) -> usize {
+    entries(&notation::parse(script).expect("the script is in the notation"))
 }
 
-/// Each list asks twice for that of the next scope inward, once for its order and once for what stands there; the
-/// innermost asks for none. The outermost scope is put in order for the definition of `x` alone.
+/// A free list has what lies outside its symbol's scope, each once, and no argument.
 #[test]
-fn the_lists_of_the_main_call_double_with_nesting() {
-    for thunks in [1, 2, 6, 10, 30, 60] {
-        let nested = (0..thunks).fold("p(z,z)".to_string(), |inner, _| format!("and(h,{inner})"));
-        assert_eq!(lists(&nested), 0, "{thunks}");
-        assert_eq!(
-            lists(&format!("p(p(x,x),{nested})")),
-            (1 << thunks) - 1,
-            "{thunks}"
-        );
-    }
+fn entries_are_counted() {
+    assert_eq!(entries_of("p(z,n(z))"), 0);
+    // The sum has `z`, which is made before the thunk, and not `x`.
+    assert_eq!(entries_of("and(z,p(z,x))"), 1);
+    assert_eq!(entries_of("and(z,n(p(z,x)))"), 2);
+    assert_eq!(entries_of("and(z,p(z,z))"), 1);
+    // The lambda's body is in its own scope, and so is the thunk in there.
+    assert_eq!(entries_of("p(z,L7.p(7,z))"), 1);
+    assert_eq!(entries_of("p(z,L7.and(7,p(7,z)))"), 2);
+    // The inner sum has `z` and `x`, what is around it `z` alone.
+    assert_eq!(entries_of("and(z,and(x,p(x,z)))"), 3);
 }

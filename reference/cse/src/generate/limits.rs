@@ -233,36 +233,31 @@ fn hoisting_in_full_forest(rng: &mut Rng) -> Forest {
 
 // Scopes.
 
-/// Up to 63 scopes, each the only way to the next. Of 100 forests 70 have nothing that gets a definition outside their
-/// innermost scopes, up to 20 of them: the main call's time doubles with each scope inside one that has a definition.
+/// Up to 63 scopes, each the only way to the next.
 pub(super) fn nested(rng: &mut Rng) -> Forest {
     let scopes = match rng.chance(40) {
         true => 63,
         false => rng.range(13, 63),
     };
-    let defining = match rng.chance(70) {
-        true => rng.range(0, 20),
-        false => scopes,
-    };
-    let root = scope(rng, scopes, defining, &mut Vec::new());
+    let root = scope(rng, scopes, &mut Vec::new());
     Forest { trees: vec![root] }
 }
 
-fn scope(rng: &mut Rng, left: usize, defining: usize, in_force: &mut Vec<u32>) -> Tree {
-    let quiet = left > defining;
+/// So many scopes inside one another.
+pub(super) fn scope(rng: &mut Rng, left: usize, in_force: &mut Vec<u32>) -> Tree {
     if left == 0 {
-        return scope_leaf(rng, quiet, in_force);
+        return scope_leaf(rng, in_force);
     }
     if rng.chance(30) {
         let id = in_force.len() as u32 + 1;
         in_force.push(id);
-        let body = scope(rng, left - 1, defining, in_force);
+        let body = scope(rng, left - 1, in_force);
         in_force.pop();
         return untyped_lambda(&[id], body);
     }
-    let eager = scope_leaf(rng, quiet, in_force);
-    let other = scope_leaf(rng, quiet, in_force);
-    let inner = scope(rng, left - 1, defining, in_force);
+    let eager = scope_leaf(rng, in_force);
+    let other = scope_leaf(rng, in_force);
+    let inner = scope(rng, left - 1, in_force);
     let (shape, opcode, children) = match rng.below(4) {
         0 => (TWO, BIN_AND, vec![eager, inner]),
         1 => (TWO, BIN_OR, vec![eager, inner]),
@@ -272,10 +267,8 @@ fn scope(rng: &mut Rng, left: usize, defining: usize, in_force: &mut Vec<u32>) -
     tree(shape, opcode, Vec::new(), children)
 }
 
-/// A quiet one never gets a definition, however often it is used.
-fn scope_leaf(rng: &mut Rng, quiet: bool, in_force: &[u32]) -> Tree {
+fn scope_leaf(rng: &mut Rng, in_force: &[u32]) -> Tree {
     match in_force.is_empty() || rng.chance(50) {
-        true if quiet => height(),
         true => rng.pick(&[zero(), height(), numbered(0), numbered(1)]),
         false => value_use(rng.pick(in_force)),
     }

@@ -189,8 +189,8 @@ impl Profile {
                 forms: mixed.with(&[(Form::Block, 35), (Form::Select, 30), (Form::Two, 30)]),
                 ..mixed
             },
-            // The last three are made elsewhere, by counting.
-            Kind::Small | Kind::NearLimit | Kind::Readings | Kind::Symbols => mixed,
+            // All but the first are made elsewhere, by counting.
+            Kind::Small | Kind::NearLimit | Kind::Readings | Kind::Symbols | Kind::Flat => mixed,
         }
     }
 

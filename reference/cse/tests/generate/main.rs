@@ -9,7 +9,7 @@ use cse_reference::damage::{damaged, described, each};
 use cse_reference::forest::{Forest, Record, Tree};
 use cse_reference::generate::records::{nested_scopes, opcodes, SHAPES};
 use cse_reference::generate::{accepted, Family, Kind};
-use cse_reference::oracle::{answer, MAX_OUTPUT, MIN_WORK_WORDS};
+use cse_reference::oracle::{answer, entries, MAX_OUTPUT, MIN_WORK_WORDS};
 
 /// Seeds a kind.
 const SEEDS: u64 = 350;
@@ -143,7 +143,10 @@ fn generated_forests_are_accepted() {
         for tree in &forest.trees {
             assert!(tree.depth() <= 64, "{context}");
             assert_in_place(tree, false, &mut Vec::new());
-            let scopes = if family.kind == Kind::Scopes { 63 } else { 12 };
+            let scopes = match family.kind {
+                Kind::Scopes | Kind::Flat => 63,
+                _ => 12,
+            };
             assert!(nested_scopes(tree) <= scopes, "{context}");
         }
     }
@@ -206,10 +209,26 @@ fn kinds_reach_their_aims() {
     assert!(highest(Kind::Lambdas, scopes) > 5);
     assert_eq!(highest(Kind::Deep, scopes), 12);
     assert_eq!(highest(Kind::Scopes, scopes), 63);
+    assert!(highest(Kind::Flat, scopes) > 50);
     assert_eq!(
         highest(Kind::NearLimit, |forest| forest.to_bytes().len()),
         65_535
     );
+}
+
+/// Mostly past the entries that the main call stores, at times with few more, or fewer.
+#[test]
+fn flat_forests_have_long_free_lists() {
+    let found: Vec<usize> = (0..SEEDS)
+        .map(|seed| entries(&accepted(seed, Kind::Flat)))
+        .collect();
+    let count = |numbers: std::ops::Range<usize>| {
+        let among = found.iter().filter(|entries| numbers.contains(entries));
+        among.count()
+    };
+    assert!(count(4_097..usize::MAX) > 300);
+    assert!(count(4_097..4_200) > 30);
+    assert!(count(3_900..4_097) > 5);
 }
 
 /// The kinds made by counting come out exactly at a limit and past it.
