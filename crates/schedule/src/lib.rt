@@ -3,8 +3,8 @@
 // of free lists, body order and neighbours; a scope's schedule.
 // A body's order (`body_schedule`) is walked for its outsiders alone: where a schedule lists the symbol that was visited,
 // it lists the outsiders that the symbol needs.
-// What nests: `visit` and `run` once a symbol, with no array. `across` (1 KB) and `free` (0.5 KB) open arrays, and nest
-// once a scope: a free list is asked for only of a symbol in a deeper scope, and worked out only if it is not stored.
+// What nests: `visit` and `run` once a symbol, with no array. `across` (1 KB) and `free` (0.5 KB) open arrays: they are
+// called only for a symbol in a deeper scope whose free list is not stored.
 use free_lists::Run;
 use graph::Graph;
 use regions::SLOTS;
