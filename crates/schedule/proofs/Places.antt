@@ -24,11 +24,11 @@ use Rattle.scopes.specs.declared.Rel as code
 use Rattle.scopes.specs.declared.Rel.the-variants.{Local, Deeper, Outside}
 use Rattle.graph.specs.Graph.{Arena, graphOf, Related, Tests}
 use Rattle.graph.proofs.Laws.{kids-low}
-use Rattle.outsiders.specs.Outsiders.{WordsBelow}
 use Rattle.free_lists.specs.declared.Run.{Run}
 use Rattle.free_lists.specs.declared.Run.the-variants.{Words, Unstored}
 use Rattle.free_lists.specs.FreeLists.{endAt, listAt, runOf, Stocked}
 use Rattle.free_lists.proofs.Filed.{stored-rising, stored-is}
+use Rattle.free_lists.proofs.Giving.{kids-below}
 use Rattle.schedule.specs.Schedule.{stops, nearOf, NearWords, NearFree, Nearby}
 use Rattle.schedule.proofs.Orders.{near-end, near-rel, told}
 
@@ -36,10 +36,6 @@ use Rattle.schedule.proofs.Orders.{near-end, near-rel, told}
 
 module _ {bs ws : List ℕ} {n m : ℕ} (arena : Arena bs ws n m) {s : ℕ} (lt : s < n) {y : Symbol}
     (loaded : y ≡ symbolAt ws s) where
-  pub kids-below : WordsBelow ws (SLOTS .first + y .kids) (y .count) s
-  kids-below =
-      let so = arena .sound s lt in rw loaded (record { fit = omega (arith, so .slots); low = so .lower })
-
   pub kids-are : slotsFrom ws (y .kids) (y .count) ≡ symOf (graphOf bs ws n m []) s .kids
   kids-are = ap (λ (z : Symbol). slotsFrom ws (z .kids) (z .count)) loaded ∙ sym (kids-at bs ws n s lt)
 
@@ -64,7 +60,7 @@ module _ {bs ws : List ℕ} {n m : ℕ} (stock : Stocked bs ws n m) (b : Bool) (
     pub at-local : r ≡ Local → (y : Symbol) → y ≡ symbolAt ws s →
         NearWords bs ws n m b cs s (SLOTS .first + y .kids) (y .count)
     at-local e y loaded = record {
-      below = kids-below (stock .arena) lt loaded;
+      below = kids-below bs ws n m s lt _ loaded (stock .arena);
       is =
           kids-are (stock .arena) lt loaded
           ∙ sym (near-rel (graphOf bs ws n m []) b cs s (sym (test bs []) ∙ left) _ (told bs ws n m s cs r Local e rel []));

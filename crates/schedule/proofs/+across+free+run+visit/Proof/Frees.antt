@@ -9,7 +9,7 @@ use denote.Ref.{now}
 use lib.ListN.{length, getD, take}
 use Rattle.model.specs.Schedule.{each}
 use Rattle.schedule.specs.Schedule.{stepOf, Lent, Walked}
-use Rattle.schedule.proofs.Places.{kids-below}
+use Rattle.free_lists.proofs.Giving.{kids-below}
 use Rattle.schedule.proofs.Lending.{shows-empty, lent-empty, put-body, put-room, put-plain, walked-lent}
 use Rattle.schedule.proofs.Walking.{visit-seen, near-done, visit-done, walk-more, list-next}
 use Rattle.schedule.proofs.Bodies.{near-free, needs-free, free-done}
@@ -132,7 +132,7 @@ free-run-requires t c κs =
     let s = c .before .before .before .before .before .before .before .before .before .before in
     let p = s .pre .1 in
     let q = p .1 .1 in
-    let below = kids-below (p .1 .0 .arena) (q .0) (c .before .before .before .before .before .load .ensures) in
+    let below = kids-below _ _ _ _ _ (q .0) _ (c .before .before .before .before .before .load .ensures) (p .1 .0 .arena) in
     (omega (arith, s .pre .0), (p .0, (p .1 .0, ((q .0, below), lent-empty (c .before .before .before .before .before .before .zeros8 .ensures) (q .1)))))
 
 pub free-offer-kids-requires : (t : ℕ) → in-free free-lts.Need-offer-kids-requires t
