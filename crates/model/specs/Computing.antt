@@ -36,6 +36,9 @@ use Rattle.model.specs.Lister.{symbolLines, refusal, linesOf, lister}
 use Rattle.model.specs.Sheet.{named, shapeNames, classNames, opcodeNames, hexBytes, idTexts, argsText}
 use Rattle.model.specs.Sheet.{idText, markText, constText, ownText, literalText, placeText, opcodeText, recordLine}
 use Rattle.model.specs.Sheet.{treeLines, forestLines, sheetOf, sheet}
+use Rattle.model.specs.Template.{isParameter, definitions}
+use Rattle.model.specs.TemplateLine.{isOf, standsAt, valueOf, hasAnother, twoValues, parametersBelow, parameters}
+use Rattle.model.specs.TemplateLine.{verdict, lineOf, templateLine}
 
 unfoldable pub bytes-and-trees : Unit {0}
 unfolding isIn anyIn twice count same add union without last first u16 u32 put16 put32 _>>=_ unless guard checked
@@ -81,6 +84,11 @@ unfolding named shapeNames classNames opcodeNames hexBytes idTexts argsText idTe
     placeText opcodeText recordLine treeLines forestLines sheetOf sheet
 showing = tt
 
+unfoldable pub filling : Unit {0}
+unfolding isParameter definitions isOf standsAt valueOf hasAnother twoValues parametersBelow parameters verdict lineOf
+    templateLine
+filling = tt
+
 unfoldable pub computing : Unit {0}
-unfolding bytes-and-trees acceptance unfolding-a-tree interning materializing calling listing showing
+unfolding bytes-and-trees acceptance unfolding-a-tree interning materializing calling listing showing filling
 computing = tt

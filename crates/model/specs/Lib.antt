@@ -24,9 +24,12 @@ pub mod Trace
 pub mod Conditions
 pub mod Demand3
 pub mod Parameters
+pub mod Template
 pub mod Text
 pub mod Lister
+pub mod TemplateLine
 pub mod Sheet
 pub mod Computing
 pub mod Examples
 pub mod SheetExamples
+pub mod TemplateExamples
