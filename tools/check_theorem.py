@@ -1,5 +1,6 @@
 #!/usr/bin/env python3
-"""Shows that the theorem of demand 3 (crate theory) rests on what crate model defines: wrong definitions are refused.
+"""Shows that the theorems of crate theory, demand 3 and every filling of a template, rest on what crate model defines: wrong
+definitions are refused.
 
 Usage: check_theorem.py [--jobs N] [NAME...]
 
@@ -12,7 +13,8 @@ that differ, but at a fact that no longer holds. For each edit, in a temporary c
   is false there, however it were proved. (The same forests, under the definitions as they are, are written, accepted and unfold
   equally, or get the number that they should: the first thing that is checked.)
 - crate theory is refused. The first refused declaration is printed, with the beginning of what the checker says; it has to be
-  the one below. (Folder Bounds, and the laws of building that only code cites, are passed over: the theorem does not need them.)
+  the one below. (Folder Bounds, and the laws of building that only code cites, are passed over: the theorem does not need them;
+  and of the two theorems the one that the edit is not for.)
 
 edit       the fact that fails, and why it is the theorem's: the written tree
 hoist      define-built takes from `member` that a definition's symbol is of the scope that is written. Only then are the arguments
@@ -38,10 +40,18 @@ parent     stands-under: a definition stands in a block, in no other record (8).
 own-value  force-loose: a definition is not in force in its own value (9, 10).
 past-block force-loose: nor past its block (9, 10).
 
-For the limits there is no forest (it would take 1,001 readings), nor for an edit of a condition.
+edit       the fact that fails, of the theorem on templates; its forest, filled, is then not written as the filled tree
+unmarked   isKey-kept: filling keeps which keys are equal. Else two parameters that are equal under one filling are one.
+gate-bytes shouldHoist-kept: the gate sees no literal. Else a definition comes or goes with a value's length.
+class      same-kept: filling keeps which records are the same. Else a value of another class is filled in, as it must not be.
+one-value  record-valued: a parameter has one value in a template. Else two of its constants, apart there, are one when filled.
+no-byte    record-fits: a filled constant fits its shape. Else check 4 refuses the filled forest.
+
+For the limits there is no forest (it would take 1,001 readings), nor for an edit of a condition, of a template or of a filling.
 
 And one that must be accepted, so that a refusal says something: `gate` defines symbols that are used once, too. What is hoisted
-within its own scope is no matter of meaning, so the theorem holds (though the tree is then not the one that document 01 defines).
+within its own scope is no matter of meaning, nor of a literal, so both theorems hold (though the tree is then not the one that document
+01 defines).
 `hoist` has that edit as well: of the symbols of deeper scopes, a schedule has only lambdas' bodies that depend on an argument not
 in force, and a lambda's body is used once.
 
@@ -64,6 +74,7 @@ use Prim.Native.Nat.{ℕ, zero, suc, _+_, _*_}
 use mathlib.Core.Path.{_≡_, refl}
 use mathlib.Core.Bool.{Bool, true, false, _&&_}
 use mathlib.Core.List.{List, [], _∷_, _++_}
+use native.Mathlib.Omega.{arith}
 use lib.Dec.{eqb}
 use Rattle.model.specs.Lists.{same}
 use Rattle.model.specs.Bytes.{put32}
@@ -72,6 +83,7 @@ use Rattle.model.specs.Tree.{Rec, rec, Tree, Trees, node, nil, cons, roo
 use Rattle.model.specs.Accept.{accept}
 use Rattle.model.specs.Unfold.{Unfolded, Unfoldeds, arg, lam, made, done, more, unfolded}
 use Rattle.model.specs.Call.{Written, ample, run}
+use Rattle.model.specs.Template.{Filling, fillForest}
 use Rattle.model.specs.Computing.{computing}
 
 -- ---- equal unfoldings
@@ -129,6 +141,20 @@ is : Answer Written → Tree → Bool
 is (refused n p) t = false
 is (good w) t = same (w .bytes) (serialise (cons t nil))
 
+-- ---- what becomes of its filling by seven bytes for each parameter
+
+sevens : Filling
+sevens = record { literal = λ a. 7 ∷ 7 ∷ 7 ∷ 7 ∷ 7 ∷ 7 ∷ 7 ∷ []; some-bytes = λ a l. omega arith }
+
+-- the second is written as the first, filled
+agree : Answer Written → Answer Written → Bool
+agree (refused n p) v = false
+agree (good w) (refused n p) = false
+agree (good w) (good v) = same (v .bytes) (fillForest sevens (w .bytes))
+
+commutes : Tree → Bool
+commutes t = agree (called t) (run (ample (fillForest sevens (serialise (cons t nil)))))
+
 -- ---- the paper's letters
 
 z : Tree
@@ -144,6 +170,10 @@ k n = node (rec 0 0 3 (n ∷ [])) nil
 -- an SInt with a mark
 m : ℕ → Tree
 m n = node (rec 0 0 (3 + 7 * n) (1 ∷ [])) nil
+
+-- an other-class constant with a mark and a value
+x : ℕ → ℕ → Tree
+x n v = node (rec 0 0 (6 + 7 * n) (v ∷ [])) nil
 
 n : Tree → Tree
 n a = node (rec 3 0xF0 0 []) (cons a nil)
@@ -187,6 +217,11 @@ WRITTEN = """
 unfolding is called z h k m n p u L L2 B i deep computing
 {name}-tree = refl
 """
+FILLED = """
+{name}-filled : commutes ({filled}) ≡ {kept}
+unfolding commutes agree called sevens n p x computing
+{name}-filled = refl
+"""
 
 MEMBER = "model/specs/Materialize"
 DEFINING = "laws/proofs/Defining"
@@ -199,19 +234,26 @@ INV = "theory/proofs/Interning/Inv"
 NESTING, RULES = (f"model/specs/{name}" for name in ("Nesting", "OpcodeRules"))
 TRACE, COUNTED, TOGETHER, DEPTHS, PLACED, IDS = (
     f"theory/proofs/Demand3/{name}" for name in ("Trace", "Counted", "OpcodeRules", "Depths", "Placed", "Ids"))
+KEYS, RECORDS = (f"theory/proofs/Templates/{name}" for name in ("Keys", "Records"))
+TEMPLATE = "model/specs/Template"
+UNMARKED = "sameRec (rec ({0} .shape) ({0} .opcode) (class ({0} .aux)) ({0} .lit)) (rec ({1} .shape) ({1} .opcode) (class ({1} .aux)) ({1} .lit))"
+AUX = "(elim (isParameter r) [ true ↦ 7 * mark (r .aux) | false ↦ r .aux ])"
 ONCE = ("shouldHoist (symOf g s) (usage g s)", "shouldHoist (symOf g s) (suc (usage g s))")
 SAME_REC = "(rec ({0} .shape) ({0} .opcode) ({0} .aux) (r .lit)) r"
 NEXT = "suc (suc last)"
 
 
 class Edit:
-    def __init__(self, name, says, edits, words, fact=None, tree=None, fate=None, written=None, was="unfolds true"):
+    def __init__(self, name, says, edits, words, fact=None, tree=None, fate=None, written=None, was="unfolds true", filled=None,
+                 templates=False):
         """`edits` are to model and stand once each; `words` are the same words where theory repeats them; `fact` is the
         declaration that has to be refused first, of those that the theorem needs; `fate` is what becomes of `tree`, if
         there is one, which is written as `written`, if that is to be shown, both in the letters of COUNTER; `was` is its
-        fate under the definitions as they are."""
+        fate under the definitions as they are. `templates`: the edit is for the theorem on templates; `filled` is a tree whose
+        filling is written as the filled tree, and under the edit is not."""
         self.name, self.says, self.edits, self.words = name, says, edits, words
         self.fact, self.tree, self.fate, self.written, self.was = fact, tree, fate, written, was
+        self.filled, self.templates = filled, templates or filled is not None
 
 
 EDITS = [
@@ -297,8 +339,33 @@ EDITS = [
     Edit("past-block", "a definition is in force at the record after its block",
          [(NESTING, "p < endOf ts b → InForce", "p ≤ endOf ts b → InForce")],
          [(IDS, "(f (w .0) (w .2 .0) .1)", "(omega (arith, f (w .0) (w .2 .0) .1))")], "force-loose"),
+    Edit("unmarked", "keys are equal whatever their marks, said of keys",
+         [(INTERN, "sameRec (symAt ss i .rec) r &&", UNMARKED.format("(symAt ss i .rec)", "r") + " &&"),
+          (INTERN, "Tree.{Rec, rec, sameRec,", "Tree.{Rec, rec, class, sameRec,")],
+         [(KEYS, "sameRec (z .rec) (fillRec f r) &&", UNMARKED.format("z .rec", "(fillRec f r)") + " &&"),
+          (KEYS, "Tree.{Rec, sameRec}", "Tree.{Rec, rec, class, sameRec}")],
+         "isKey-kept", filled="p (n (x 1 1)) (n (x 2 2))"),
+    Edit("gate-bytes", "a constant is scalar by its literal's length",
+         [("model/specs/Gate", "ltb (class (s .rec .aux)) 6", "ltb (class (s .rec .aux)) (length (s .rec .lit))"),
+          ("model/specs/Gate", "use lib.Dec.{eqb, ltb}", "use lib.Dec.{eqb, ltb}\nuse lib.ListN.{length}")], [],
+         "shouldHoist-kept", filled="p (x 1 1) (x 1 1)"),
+    Edit("class", "a filling gives a parameter another class",
+         [(TEMPLATE, "(r .aux) (elim (isParameter r) [", AUX + " (elim (isParameter r) ["),
+          (TEMPLATE, "Tree.{Rec, rec,", "Tree.{Rec, rec, mark,"), (TEMPLATE, "{ℕ, suc, _<_, _≤_}", "{ℕ, suc, _*_, _<_, _≤_}")],
+         [(RECORDS, f"{name} r e = λ i. rec (r .shape) (r .opcode) (r .aux) (lit-is i)\n    where\n",
+           f"{name} r e = λ i. rec (r .shape) (r .opcode) (aux-is i) (lit-is i)\n    where\n      aux-is : {AUX} ≡ {aux}\n      aux-is = rw e\n")
+          for name, aux in (("other-stays", "r .aux"), ("parameter-gets", "7 * mark (r .aux)"))]
+         + [(RECORDS, "(r .opcode) (r .aux) (f .literal (r .aux))\n", "(r .opcode) (7 * mark (r .aux)) (f .literal (r .aux))\n"),
+            (RECORDS, "Tree.{Rec, rec,", "Tree.{Rec, rec, mark,"), (RECORDS, "{ℕ, suc, _<_, _≤_}", "{ℕ, suc, _*_, _<_, _≤_}")],
+         "same-kept", filled="p (x 1 1) (x 1 1)"),
+    Edit("one-value", "a parameter may have two values in a template",
+         [(TEMPLATE, "recordAt forest p .rec .lit ≡ recordAt forest q .rec .lit", "recordAt forest p .rec .lit ≡ recordAt forest p .rec .lit")],
+         [], "record-valued", templates=True),
+    Edit("no-byte", "a filling may give an empty literal",
+         [(TEMPLATE, "1 ≤ length (literal a)", "0 ≤ length (literal a)")], [], "record-fits", templates=True),
 ]
-GATE = Edit("gate", "symbols that are used once are defined, too", [(MEMBER, *ONCE)], [(SCOPES, *ONCE)])
+GATE = Edit("gate", "symbols that are used once are defined, too", [(MEMBER, *ONCE)],
+            [(SCOPES, *ONCE), ("theory/proofs/Templates/Building", "shouldHoist-kept f g s (usage g s)", "shouldHoist-kept f g s (suc (usage g s))")])
 
 
 def fail(why):
@@ -339,7 +406,7 @@ def checked(edit, fates, crate):
             f.write("model:\nlaws: model\ntheory: model laws\n")
         specs = os.path.join(room, "crates", "model", "specs")
         # the tables of examples, and laws that code cites and the theorem does not, would be refused before anything else
-        leave_out(specs, ["Examples", "SheetExamples"])
+        leave_out(specs, ["Examples", "SheetExamples", "TemplateExamples"])
         leave_out(os.path.join(room, "crates", "laws", "proofs"), ["Blocks", "Building", "Numbering"])
         with open(os.path.join(specs, "Lib.antt"), "a") as f:
             f.write("pub mod Counter\n")
@@ -360,9 +427,9 @@ def judge(edit):
     """Lines to print, and whether all is as it should be."""
     lines = [f"{edit.name}: {edit.says}"]
     lines += [f"  {place}: {old}  becomes  {new}" for place, old, new in edit.edits]
-    words = dict(name="it", tree=edit.tree, fate=edit.fate, written=edit.written)
-    proved, said = checked(edit, [text.format(**words) for text, there in ((FATE, edit.tree), (WRITTEN, edit.written)) if there],
-                           "theory")
+    words = dict(name="it", tree=edit.tree, fate=edit.fate, written=edit.written, filled=edit.filled, kept="false")
+    claims = (FATE, edit.tree), (WRITTEN, edit.written), (FILLED, edit.filled)
+    proved, said = checked(edit, [text.format(**words) for text, there in claims if there], "theory")
     if edit is GATE:
         lines.append("  accepted, as it should be" if proved else "  REFUSED: " + said[-800:])
         return lines, proved
@@ -372,7 +439,10 @@ def judge(edit):
         written = f" is written as {edit.written}, whose fate is" if edit.written else ", whose fate is"
         lines.append(f"  computed: {edit.tree}{written}: {edit.fate}")
     errors = re.findall(r"^(\S+):(\d+):\d+: error: `([^`]*)`: (.*)$", said, re.M)
-    errors = [e for e in errors if "was not admitted" not in e[3] and "/Bounds/" not in e[0]]
+    if edit.filled:
+        lines.append(f"  computed: {edit.filled}, filled, is not written as the filled tree")
+    errors = [e for e in errors if "was not admitted" not in e[3] and "/Bounds/" not in e[0]
+              and ("/Templates/" in e[0]) == edit.templates]
     if proved or not errors:
         return lines + ["  ACCEPTED" if proved else "  REFUSED, but at no declaration: " + said[-800:]], False
     place, line, name, why = errors[0]
@@ -391,11 +461,12 @@ def main():
     if set(options.names) - {e.name for e in known} or options.jobs < 1:
         fail("the names are " + ", ".join(e.name for e in known))
     fates = [FATE.format(name=f"it{i}", tree=e.tree, fate=e.was) for i, e in enumerate(EDITS) if e.tree]
+    fates += [FILLED.format(name=f"it{i}", filled=e.filled, kept="true") for i, e in enumerate(EDITS) if e.filled]
     proved, said = checked(None, fates, "model")
     if not proved:
         print("the forests, under the definitions as they are: REFUSED\n" + said[-2000:])
         return 1
-    print("the forests, under the definitions as they are: written, accepted, and unfold equally, or refused as they should be")
+    print("the forests, under the definitions as they are: written, accepted, and unfold equally, or refused as they should be; and written, filled, as the filled tree")
     right = True
     with ThreadPoolExecutor(options.jobs) as pool:
         for lines, ok in pool.map(judge, [e for e in known if not options.names or e.name in options.names]):

@@ -1,7 +1,7 @@
 -- The equation of `down`, with no condition on the step: the value at n is the step from the values below n.
 --
 -- In order: `under`, which masks what is not below n (`under-low`, `under-same`); fuel that suffices is as good as
--- more; `down-step`.
+-- more; `down-step`; two recursions side by side (`down-related`).
 -- The meaning of a symbol, free lists and building are such recursions: each is opened by `down-step` and `under-low`.
 -- Assumes nothing.
 use mathlib.Core.Path.{_≡_, refl, ap, fun-ext}
@@ -38,3 +38,25 @@ module _ {A : Type 0} (z : A) (step : (ℕ → A) → ℕ → A) where
   unfolding down downFuel
   down-step n =
       ap (λ (f : ℕ → A). step f n) (under-same n _ _ λ d l. fuel-enough n (suc d) d l (omega arith))
+
+-- two recursions side by side: what their steps keep holds of their values
+module _ {A : Type 0} (R : A → A → Type 0) (z′ z : A) (zero-ok : R z′ z) (step′ step : (ℕ → A) → ℕ → A)
+    (step-ok : (v′ v : ℕ → A) → ((d : ℕ) → R (v′ d) (v d)) → (n : ℕ) → R (step′ v′ n) (step v n)) where
+  under-related : (n : ℕ) (v′ v : ℕ → A) → ((d : ℕ) → R (v′ d) (v d)) → (d : ℕ) → R (under z′ n v′ d) (under z n v d)
+  unfolding under
+  under-related n v′ v h d = go (ltb d n)
+    where
+      go : (b : Bool) → R (elim b [ true ↦ v′ d | false ↦ z′ ]) (elim b [ true ↦ v d | false ↦ z ])
+      go true = h d
+      go false = zero-ok
+
+  fuel-related : (k n : ℕ) → R (downFuel z′ step′ k n) (downFuel z step k n)
+  unfolding downFuel
+  fuel-related zero n = zero-ok
+  fuel-related (suc k) n =
+      step-ok (under z′ n (λ d. downFuel z′ step′ k d)) (under z n (λ d. downFuel z step k d))
+      (under-related n (λ d. downFuel z′ step′ k d) (λ d. downFuel z step k d) (λ d. fuel-related k d)) n
+
+  pub down-related : (n : ℕ) → R (down z′ step′ n) (down z step n)
+  unfolding down
+  down-related n = fuel-related (suc n) n

@@ -27,7 +27,7 @@ pub record Header (bs : List ℕ) : Type 0 where
   pub records-least : 1 ≤ recordCount bs
   pub records-most : recordCount bs ≤ 256
 
-at0-none : (b : Bool) → at0 b ≡ none → b ≡ false
+pub at0-none : (b : Bool) → at0 b ≡ none → b ≡ false
 at0-none false e = refl
 at0-none true e = some-none e
 

@@ -1,7 +1,8 @@
 -- A written tree's bytes read back as the tree: none of 2 to 10 applies to the bytes of a checked tree that is not too
 -- large.
--- In order: one record's bytes; the directory and the records, read; where parts of the bytes lie; each check; the
--- theorem `accept-serialised`, which the promise uses.
+-- In order: one record's bytes; the directory and the records, read; where parts of the bytes lie; checks 2 and 3 of any
+-- rows; each check of a tree; the theorem `accept-serialised`, which the promise uses. A filled forest's bytes use the
+-- parts on rows.
 -- Assumes nothing.
 use mathlib.Core.Path.{_≡_, refl, ap, ap₂, sym, _∙_}
 use mathlib.Core.Bool.{false, not, _||_}
@@ -89,7 +90,7 @@ laid-bodies n rs =
     drop-at (directory (4 + 4 * length rs) rs) (bodies rs) (4 * length rs) (directory-length (4 + 4 * length rs) rs))
 
 -- what is read of them
-laid-trees : (n : ℕ) (rs : List Row) → treeCount (forestOf n rs) ≡ n
+pub laid-trees : (n : ℕ) (rs : List Row) → treeCount (forestOf n rs) ≡ n
 unfolding treeCount
 laid-trees n rs = ap u16 (laid n rs) ∙ read-16 n (put16 (length rs) ++ afterHeader rs)
 
@@ -105,7 +106,7 @@ laid-pairs : (n : ℕ) (rs : List Row) → pairsOf (forestOf n rs) ≡ pairList 
 unfolding pairsOf
 laid-pairs n rs = rw (laid-count n rs, laid-drop n rs) (directory-read (4 + 4 * length rs) rs (bodies rs))
 
-laid-rows : (n : ℕ) (rs : List Row) → rowsIn (forestOf n rs) ≡ rs
+pub laid-rows : (n : ℕ) (rs : List Row) → rowsIn (forestOf n rs) ≡ rs
 unfolding rowsIn
 laid-rows n rs = rw (laid-pairs n rs, laid-start n rs, laid-bodies n rs) (bodies-read (4 + 4 * length rs) rs)
 
@@ -152,6 +153,33 @@ mutual
   trees-shallow (cons t ts) d l =
       clear-join (deep t d) (deeps ts d) (tree-shallow t d (omega arith)) (trees-shallow ts d (omega arith))
 
+-- ---- checks 2 and 3, of trees and rows that are not too many
+
+module _ (k : ℕ) (rs : List Row) (trees : (1 ≤ k) × (k ≤ 16)) (records : (1 ≤ length rs) × (length rs ≤ 256))
+    (short : length (forestOf k rs) ≤ 65535) where
+  abbrev all : List ℕ
+  all = forestOf k rs
+
+  length-is : length all ≡ 4 + 4 * length rs + total rs
+  length-is = forest-length k rs
+
+  pub laid-passes-2 : check2 all ≡ none
+  unfolding check2
+  laid-passes-2 =
+      rw (laid-trees k rs, laid-count k rs)
+      (ap at0 (neither-or _ _
+      (neither-or _ _ (le-ltb (length all) 4 (omega (arith, length-is))) (le-ltb 65535 (length all) short))
+      (ap not (both-and _ _
+      (both-and _ _ (both-and _ _ (le-leb 1 k (trees .0)) (le-leb k 16 (trees .1))) (le-leb 1 (length rs) (records .0)))
+      (le-leb (length rs) 256 (records .1))))))
+
+  pub laid-passes-3 : check3 all ≡ none
+  unfolding check3
+  laid-passes-3 =
+      rw (le-ltb (length all) (bodyStart all) (omega (arith, length-is, laid-start k rs)), check3)
+      (rw (laid-start k rs, laid-pairs k rs) (clear-first _
+      (pairs-fit (length all) (4 + 4 * length rs) rs (sym length-is))))
+
 -- ---- one checked tree
 
 module _ (t : Tree) (c : Checked t false []) (few : size t ≤ 256) (short : length (serialise (cons t nil)) ≤ 65535)
@@ -180,28 +208,20 @@ module _ (t : Tree) (c : Checked t false []) (few : size t ≤ 256) (short : len
   unfolding treesOf
   trees-are = rw rows-are (grow-rows (cons t nil))
 
-  length-is : length bs ≡ 4 + 4 * length rs + total rs
-  unfolding serialise
-  length-is = forest-length (many (cons t nil)) rs
-
   some-rows : 1 ≤ length rs
   unfolding size
   some-rows = omega (arith, count-is, size-some t)
 
+  few-rows : length rs ≤ 256
+  few-rows = omega (arith, count-is)
+
   passes-2 : check2 bs ≡ none
-  unfolding check2 serialise many
-  passes-2 =
-      rw (laid-trees 1 rs, laid-count 1 rs)
-      (ap at0 (neither-or _ _
-      (neither-or _ _ (le-ltb (length bs) 4 (omega (arith, length-is))) (le-ltb 65535 (length bs) short))
-      (ap not (both-and _ _ (le-leb 1 (length rs) some-rows) (le-leb (length rs) 256 (omega (arith, count-is)))))))
+  unfolding serialise many
+  passes-2 = laid-passes-2 1 rs (omega arith, omega arith) (some-rows, few-rows) short
 
   passes-3 : check3 bs ≡ none
-  unfolding check3 serialise many
-  passes-3 =
-      rw (le-ltb (length bs) (bodyStart bs) (omega (arith, length-is, laid-start 1 rs)), check3)
-      (rw (laid-start 1 rs, laid-pairs 1 rs) (clear-first _
-      (pairs-fit (length bs) (4 + 4 * length rs) rs (sym length-is))))
+  unfolding serialise many
+  passes-3 = laid-passes-3 1 rs (omega arith, omega arith) (some-rows, few-rows) short
 
   passes-6 : check6 bs ≡ none
   unfolding check6 serialise many unclosed
