@@ -19,7 +19,7 @@ use Rattle.symbols.proofs.Laws.{sym-at}
 use Rattle.output.specs.Output.{Wrote}
 use Rattle.text.proofs.Numbers.{numeral-length}
 use Rattle.output.proofs.Wrote.{wrote-then, wrote-both}
-use Rattle.text.proofs.Refusal.{newline}
+use Rattle.text.proofs.Line.{newline}
 use Rattle.lines.specs.Lines.{columns}
 
 space : (32 ∷ []) ≡ text " "

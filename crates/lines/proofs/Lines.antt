@@ -14,7 +14,7 @@ use Rattle.symbols.proofs.Laws.{syms-length, sym-at}
 use Rattle.gate.specs.Gate.{usesAt}
 use Rattle.output.specs.Output.{Wrote}
 use Rattle.output.proofs.Wrote.{wrote-none, wrote-as, wrote-then, wrote-both}
-use Rattle.text.proofs.Refusal.{newline}
+use Rattle.text.proofs.Line.{newline}
 use Rattle.lines.specs.Lines.{linesTo}
 use Rattle.lines.proofs.Line.{line-length}
 

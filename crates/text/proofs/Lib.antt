@@ -1,3 +1,3 @@
 -- Laws of text, for this crate and for those that call it. Assumes nothing.
 pub mod Numbers
-pub mod Refusal
+pub mod Line

@@ -1,8 +1,8 @@
 // Text written over an output, front to back. Each function gives the place after its text; the rest of the output is
 // as it was.
-// In order: two bytes; a number in decimal; a byte in hexadecimal; the line of a refusal.
+// In order: two bytes; a number in decimal; a byte in hexadecimal; lines with two numbers, that of a refusal among them.
 ghost use mathlib.Core.Path.{_≡_};
-ghost use mathlib.Core.List.{[], _∷_};
+ghost use mathlib.Core.List.{[], _∷_, _++_};
 ghost use Prim.Native.Nat.{_+_, _<_, _≤_};
 ghost use lib.ListN.{length};
 ghost use Rattle.model.specs.Lister.{numeral, hexDigit, hexByte, refusal};
@@ -60,9 +60,30 @@ pub fn put_hex(out: &mut [u8], at: usize, b: u8) -> usize
     put_two(out, at, hex_digit(b / 16), hex_digit(b % 16))
 }
 
-// ---- a refusal
+// ---- lines with two numbers
 
-// The length of the longest line: its two numbers have twenty digits each.
+// A line over the output's start: text, number, text, number, text; the answer is its length.
+// Rules out: the second number first; the last text left out.
+pub fn put_line(
+    out: &mut [u8],
+    before: &[u8],
+    m: u64,
+    between: &[u8],
+    n: u64,
+    after: &[u8],
+) -> usize
+    requires { ⌜ length (now before) + length (now between) + length (now after) + 40 ≤ length (now out) ⌝ }
+    ensures { λ r. ⌜ Wrote (now (out .entry)) 0 (now (before .entry) ++ numeral m ++ now (between .entry) ++ numeral n
+        ++ now (after .entry)) (now (out .exit)) r ⌝ }
+{
+    let a = output::put_bytes(out, 0, before);
+    let b = put_decimal(out, a, m);
+    let c = output::put_bytes(out, b, between);
+    let d = put_decimal(out, c, n);
+    output::put_bytes(out, d, after)
+}
+
+// The length of a refusal's longest line: its two numbers have twenty digits each.
 pub const LINE: usize = 53;
 
 // The line of a refusal, over the output's start; the answer is its length.
@@ -71,9 +92,5 @@ pub fn put_refusal(out: &mut [u8], number: u64, place: u64) -> usize
     requires { ⌜ 53 ≤ length (now out) ⌝ }
     ensures { λ r. ⌜ Wrote (now (out .entry)) 0 (refusal number place) (now (out .exit)) r ⌝ }
 {
-    let a = output::put_bytes(out, 0, b"refused ");
-    let b = put_decimal(out, a, number);
-    let c = output::put_bytes(out, b, b" at ");
-    let d = put_decimal(out, c, place);
-    output::put_byte(out, d, b'\n')
+    put_line(out, b"refused ", number, b" at ", place, b"\n")
 }
