@@ -6,8 +6,9 @@ use mathlib.Core.Path.{refl, subst}
 use Rattle.model.specs.Call.{callOf, writtenOf}
 use Rattle.output.proofs.Wrote.{wrote-as}
 use Rattle.cse.specs.Call.{HeldAfter}
+use Rattle.cse.proofs.Told.{told-refused, told-written}
 use Rattle.listing.proofs.Symbols.{listable, lines-same}
-use Rattle.listing.proofs.Told.{pass-numbers, pass-output, told-refused, told-written}
+use Rattle.listing.proofs.Told.{pass-numbers, pass-output}
 use Rattle.listing.proofs.Text.{refusal-listed, symbols-listed}
 use Rattle.listing.proofs.list.Statement.{statement}
 use Rattle.listing.proofs.list.Tie as tie
