@@ -46,15 +46,18 @@ pub record Testing (f : Row → Bool) (all : Option ℕ) (bs : List ℕ) (n i : 
   pub reached : i ≤ n
   pub left : rowsLeft f bs i ≡ all
 
+pub rows-start : (f : Row → Bool) (bs : List ℕ) (n : ℕ) → Laid bs → n ≡ recordCount bs →
+    Testing f (first (map f (rowsIn bs))) bs n 0
+rows-start f bs n h e =
+    record { laid = h; count = e; reached = omega arith; left = shift-zero (first (map f (rowsIn bs))) }
+
 pub start-4 : (bs : List ℕ) (n : ℕ) → Laid bs → n ≡ recordCount bs → Testing misfit (check4 bs) bs n 0
 unfolding check4
-start-4 bs n h e =
-    record { laid = h; count = e; reached = omega arith; left = shift-zero (first (map misfit (rowsIn bs))) }
+start-4 = rows-start misfit
 
 pub start-5 : (bs : List ℕ) (n : ℕ) → Laid bs → n ≡ recordCount bs → Testing disagrees (check5 bs) bs n 0
 unfolding check5
-start-5 bs n h e =
-    record { laid = h; count = e; reached = omega arith; left = shift-zero (first (map disagrees (rowsIn bs))) }
+start-5 = rows-start disagrees
 
 module _ {f : Row → Bool} {all : Option ℕ} {bs : List ℕ} {n i : ℕ} (h : Testing f all bs n i) where
   -- the test of record i, and those after it

@@ -22,7 +22,8 @@ pub fn wide(x: u8) -> u32
     x as u32
 }
 
-fn same_bytes(a: &[u8], b: &[u8]) -> bool
+// Whether two runs of bytes are the same. Rules out: true where one is the other's start; false of two that are empty.
+pub fn same_bytes(a: &[u8], b: &[u8]) -> bool
     ensures { λ r. ⌜ r ≡ same (now (a .entry)) (now (b .entry)) ⌝ }
 {
     if a.len() != b.len() {

@@ -98,7 +98,7 @@ kids-there bs i e l =
 
 -- ---- rows that fit their shapes
 
-clear-at : (f : Row → Bool) (rs : List Row) (i : ℕ) → Clear (map f rs) → i < length rs → f (getD rs i noRow) ≡ false
+pub clear-at : (f : Row → Bool) (rs : List Row) (i : ℕ) → Clear (map f rs) → i < length rs → f (getD rs i noRow) ≡ false
 clear-at f [] i h l = absurd (omega arith)
 clear-at f (r ∷ rs) zero h l = h .0
 clear-at f (r ∷ rs) (suc i) h l = clear-at f rs i (h .1) (omega arith)
