@@ -1,7 +1,6 @@
 //! Forests sent through both, every number and byte compared, with what was lent looked at afterwards.
 
 use std::collections::BTreeMap;
-use std::thread;
 use std::time::{Duration, Instant};
 
 use cse_library::{call, Numbers, MAX_WRITTEN, WORK_WORDS};
@@ -10,11 +9,11 @@ use cse_reference::generate::{Family, Kind};
 use cse_reference::oracle::{answer_deep, entries, tells_marks, Answer, NoAnswer, Skipped, Work};
 use cse_reference::{damage, hex};
 
-/// The stack of a Rust thread by default; every call has to pass in it.
-const STACK: usize = 2 << 20;
+use crate::asked::Asked;
+use crate::halves::in_two;
 
 /// No call may take longer, on forests of whatever kind.
-const LONGEST: Duration = Duration::from_secs(1);
+pub const LONGEST: Duration = Duration::from_secs(1);
 
 /// The main call stores so many entries of free lists; lists past them it works out where it needs them.
 const STORED: usize = 4_096;
@@ -24,7 +23,7 @@ const SPARE: usize = 16;
 
 /// What came of a run.
 #[derive(Default)]
-struct Tally {
+pub struct Tally {
     /// Forests that were compared, by number where plenty is lent.
     compared: BTreeMap<u32, u64>,
     /// The most scopes inside one another in these.
@@ -32,16 +31,16 @@ struct Tally {
     /// Those of them that tell what they have to.
     telling: u64,
     /// The longest of the main calls, by the quickest of three, and its seed.
-    slowest: (Duration, u64),
+    pub slowest: (Duration, u64),
     /// Calls by number and who made the tree.
-    calls: BTreeMap<(u32, &'static str), u64>,
+    pub calls: BTreeMap<(u32, &'static str), u64>,
     /// Forests that were not compared, by reason.
     skipped: BTreeMap<&'static str, u64>,
-    differences: Vec<String>,
+    pub differences: Vec<String>,
 }
 
 impl Tally {
-    fn join(&mut self, other: Tally) {
+    pub fn join(&mut self, other: Tally) {
         for (number, count) in other.compared {
             *self.compared.entry(number).or_default() += count;
         }
@@ -66,11 +65,7 @@ impl Tally {
         for (reason, count) in &self.skipped {
             println!("{name}: {count} forests passed over: {reason}");
         }
-        for line in self.differences.iter().take(20) {
-            println!("{name}: DIFFERENCE {line}");
-        }
-        let numbers = self.compared.iter();
-        let numbers: Vec<_> = numbers.map(|(n, count)| format!("{n}: {count}")).collect();
+        print_differences(name, &self.differences);
         let compared: u64 = self.compared.values().sum();
         let told = telling.map_or(String::new(), |(told, telling)| {
             let (count, words) = (self.telling, told.words());
@@ -81,7 +76,7 @@ impl Tally {
             "{name}: {compared} forests compared, at least {least} asked for, {} passed over;{told} by answer {}; nested up to {} deep; \
              slowest call {:.3} ms, of seed {slowest}; {} differences",
             self.skipped.values().sum::<u64>(),
-            numbers.join(", "),
+            by_answer(&self.compared),
             self.nesting,
             time.as_secs_f64() * 1e3,
             self.differences.len()
@@ -91,6 +86,20 @@ impl Tally {
             && compared >= least
             && self.telling >= telling.map_or(0, |(_, telling)| telling)
     }
+}
+
+/// Prints the first of them.
+pub fn print_differences(name: &str, differences: &[String]) {
+    for line in differences.iter().take(20) {
+        println!("{name}: DIFFERENCE {line}");
+    }
+}
+
+/// How many there are of each number, in words.
+pub fn by_answer(counts: &BTreeMap<u32, u64>) -> String {
+    let counts = counts.iter();
+    let counts: Vec<_> = counts.map(|(n, count)| format!("{n}: {count}")).collect();
+    counts.join(", ")
 }
 
 /// What a forest has to tell, where it is asked for.
@@ -129,16 +138,25 @@ impl Told {
 }
 
 /// What both sides work in, kept from one forest to the next.
-struct Lent {
-    out: Vec<u8>,
-    work: Vec<u32>,
+pub struct Lent {
+    pub out: Vec<u8>,
+    pub work: Vec<u32>,
 }
 
-/// Forests of a family. Whether nothing differed, no call took too long, at least so many were compared and so many tell
+impl Default for Lent {
+    fn default() -> Lent {
+        Lent {
+            out: vec![0; MAX_WRITTEN + SPARE],
+            work: vec![0; WORK_WORDS + SPARE],
+        }
+    }
+}
+
+/// Forests of a family. Whether nothing differed, no call took too long, and as many as is asked for were compared and tell
 /// what they have to.
-pub fn accepted(family: Family, count: u64, seed: u64, least: u64, telling: u64) -> bool {
+pub fn accepted(family: Family, asked: Asked) -> bool {
     let told = Told::of(family);
-    in_two(count, seed, |seed, lent, tally| {
+    tallied(asked, |seed, lent, tally| {
         let forest = family.forest(seed);
         let bytes = forest.to_bytes();
         let given = compare(&bytes, seed, lent, tally);
@@ -146,47 +164,26 @@ pub fn accepted(family: Family, count: u64, seed: u64, least: u64, telling: u64)
             tally.telling += u64::from(told.is_told(&forest, &bytes, &given));
         }
     })
-    .print(&family.name(), least, told.map(|told| (told, telling)))
+    .print(
+        &family.name(),
+        asked.least,
+        told.map(|told| (told, asked.telling)),
+    )
 }
 
-pub fn damaged(count: u64, seed: u64, least: u64) -> bool {
-    in_two(count, seed, |seed, lent, tally| {
+pub fn damaged(asked: Asked) -> bool {
+    tallied(asked, |seed, lent, tally| {
         let damaged = damage::damaged(seed);
         compare(&damaged.bytes, seed, lent, tally);
     })
-    .print("damaged", least, None)
+    .print("damaged", asked.least, None)
 }
 
-/// The seeds from `seed` on, every other one in each of two threads with a small stack.
-fn in_two(count: u64, seed: u64, each: impl Fn(u64, &mut Lent, &mut Tally) + Sync) -> Tally {
-    let each = &each;
-    let half = move |first: u64| {
-        let mut lent = Lent {
-            out: vec![0; MAX_WRITTEN + SPARE],
-            work: vec![0; WORK_WORDS + SPARE],
-        };
-        let mut tally = Tally::default();
-        for seed in (seed + first..seed + count).step_by(2) {
-            each(seed, &mut lent, &mut tally);
-        }
-        tally
-    };
-    thread::scope(|scope| {
-        let halves: Vec<_> = [0, 1]
-            .into_iter()
-            .map(|first| {
-                let builder = thread::Builder::new().stack_size(STACK);
-                builder
-                    .spawn_scoped(scope, move || half(first))
-                    .expect("a thread can be started")
-            })
-            .collect();
-        let mut tally = Tally::default();
-        for half in halves {
-            tally.join(half.join().expect("no call panics"));
-        }
-        tally
-    })
+/// What came of all seeds.
+fn tallied(asked: Asked, each: impl Fn(u64, &mut Lent, &mut Tally) + Sync) -> Tally {
+    let [(_, mut tally), (_, other)] = in_two(asked, |seed, (lent, tally)| each(seed, lent, tally));
+    tally.join(other);
+    tally
 }
 
 /// One forest: lent plenty, then an output exactly long enough and one a byte shorter, and at times too few words. The
@@ -209,7 +206,7 @@ fn compare(forest: &[u8], seed: u64, lent: &mut Lent, tally: &mut Tally) -> Opti
 }
 
 /// One call; the answer that it has to give, or none if it was not made.
-fn compare_call(
+pub fn compare_call(
     forest: &[u8],
     out_length: usize,
     words: usize,
@@ -235,20 +232,31 @@ fn compare_call(
     let expected = told.answer;
     let calls = tally.calls.entry((expected.number, maker(told.work)));
     *calls.or_default() += 1;
-    let mut once = || difference(forest, out_length, words, &expected, seed, lent);
-    let timed = once().and_then(|time| match time > tally.slowest.0 {
-        // The machine may have been busy with something else.
-        true => Ok(time.min(once()?).min(once()?)),
-        false => Ok(time),
-    });
-    match timed {
-        Ok(time) => tally.slowest = tally.slowest.max((time, seed)),
-        Err(difference) => tally.differences.push(format!(
-            "{difference}: {out_length} {words} {}",
-            hex::print(forest)
-        )),
+    if let Err(difference) = hold(forest, out_length, words, &expected, seed, lent, tally) {
+        let call = format!("{out_length} {words} {}", hex::print(forest));
+        tally.differences.push(format!("{difference}: {call}"));
     }
     Some(expected)
+}
+
+/// Makes a call that has to give that answer, and notes its time; or what it did otherwise.
+pub fn hold(
+    forest: &[u8],
+    out_length: usize,
+    words: usize,
+    expected: &Answer,
+    seed: u64,
+    lent: &mut Lent,
+    tally: &mut Tally,
+) -> Result<(), String> {
+    let mut once = || difference(forest, out_length, words, expected, seed, lent);
+    let mut time = once()?;
+    if time > tally.slowest.0 {
+        // The machine may have been busy with something else.
+        time = time.min(once()?).min(once()?);
+    }
+    tally.slowest = tally.slowest.max((time, seed));
+    Ok(())
 }
 
 fn maker(work: Option<Work>) -> &'static str {

@@ -1,17 +1,15 @@
 //! Forests through the program lister, its text beside that of the reading.
 
-use std::io::{self, ErrorKind, Write};
-use std::process::{Command, Stdio};
-use std::thread;
-
 use cse_reference::damage::damaged;
 use cse_reference::generate::Family;
 use cse_reference::hex;
 use cse_reference::lister::{listing, tells_marks};
 use cse_reference::oracle::NoAnswer;
 
-/// The program, once `rt check` or `rt ci` has built it.
-const LISTER: &str = concat!(env!("CARGO_MANIFEST_DIR"), "/../../target/bin/lister");
+use crate::asked::Asked;
+use crate::compare::print_differences;
+use crate::halves::in_two;
+use crate::program::difference;
 
 /// What came of a run, in forests.
 #[derive(Default)]
@@ -52,9 +50,10 @@ enum Told {
     Marks,
 }
 
-/// Forests of a family, or damaged ones where there is none. Whether no text differed, at least so many were compared, and
-/// so many tell what is counted or, with marks, tell these apart.
-pub fn listed(family: Option<Family>, count: u64, seed: u64, least: u64, telling: u64) -> bool {
+/// Forests of a family, or damaged ones where there is none. Whether no text differed, and as many as is asked for were
+/// compared and tell what is counted or, with marks, tell these apart.
+pub fn listed(family: Option<Family>, asked: Asked) -> bool {
+    let Asked { least, telling, .. } = asked;
     let bytes = move |seed| match family {
         Some(family) => family.forest(seed).to_bytes(),
         None => damaged(seed).bytes,
@@ -63,20 +62,12 @@ pub fn listed(family: Option<Family>, count: u64, seed: u64, least: u64, telling
         true => (Told::Marks, "tell marks apart"),
         false => (Told::Counted, "tell what is counted"),
     };
-    let half = move |first: u64| {
-        let mut tally = Tally::default();
-        for seed in (seed + first..seed + count).step_by(2) {
-            compare(&bytes(seed), told, &mut tally);
-        }
-        tally
-    };
-    let other = thread::spawn(move || half(1));
-    let mut tally = half(0);
-    tally.join(other.join().expect("no comparison panics"));
+    let [mut tally, other] = in_two(asked, |seed, tally: &mut Tally| {
+        compare(&bytes(seed), told, tally);
+    });
+    tally.join(other);
     let name = family.map_or("damaged".to_string(), Family::name);
-    for line in tally.differences.iter().take(20) {
-        println!("{name}: DIFFERENCE {line}");
-    }
+    print_differences(&name, &tally.differences);
     println!(
         "{name}: {} texts compared, at least {least} asked for, {} passed over; {} refusals, {} with unreached symbols of environment trees, \
          {} with unused definitions, {} that {words}, at least {telling} asked for; {} differences",
@@ -113,34 +104,7 @@ fn compare(forest: &[u8], told: Told, tally: &mut Tally) {
         Told::Counted => expected.telling,
         Told::Marks => tells_marks(forest, &expected),
     });
-    match lister(forest) {
-        Ok(text) if text == expected.text.as_bytes() => {}
-        Ok(text) => tally.differences.push(format!(
-            "{:?} and not {:?}: {}",
-            String::from_utf8_lossy(&text),
-            expected.text,
-            hex::print(forest)
-        )),
-        Err(error) => tally.differences.push(format!("{LISTER}: {error}")),
-    }
-}
-
-/// What the program prints.
-fn lister(forest: &[u8]) -> io::Result<Vec<u8>> {
-    let mut child = Command::new(LISTER)
-        .stdin(Stdio::piped())
-        .stdout(Stdio::piped())
-        .spawn()?;
-    let mut stdin = child.stdin.take().expect("it is piped");
-    match stdin.write_all(forest) {
-        // Of a forest that is too long it reads no more than it takes to refuse it.
-        Err(error) if error.kind() == ErrorKind::BrokenPipe => {}
-        written => written?,
-    }
-    drop(stdin);
-    let output = child.wait_with_output()?;
-    match output.status.success() {
-        true => Ok(output.stdout),
-        false => Err(io::Error::other(output.status.to_string())),
-    }
+    tally
+        .differences
+        .extend(difference("lister", forest, &expected.text));
 }

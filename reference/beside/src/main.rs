@@ -1,12 +1,18 @@
-//! The proved main call and lister beside the original; see `USAGE`.
+//! The proved main call and programs beside the original and the readings; see `USAGE`.
 
+mod asked;
 mod compare;
 mod count;
+mod fillings;
+mod halves;
 mod list;
 mod measure;
+mod program;
+mod template_lines;
 
 use std::process::ExitCode;
 
+use asked::Asked;
 use compare::Told;
 use cse_reference::generate::Family;
 
@@ -22,15 +28,24 @@ usage: beside compare KIND COUNT [SEED [LEAST [TELLING]]]
                                           program lister, its text beside the reading's; TELLING of them have to tell
                                           what is counted: by the uses of all symbols they would have another text; or,
                                           with marks, tell these apart: without they would have another text
+       beside fillings KIND COUNT [SEED [LEAST [TELLING]]]
+                                          templates of a kind, each filled in three ways, through the main call: what it
+                                          gives beside what it gives for the template, filled, and beside the original;
+                                          TELLING of them have to tell marks apart where all parameters are filled alike
+       beside template-lines KIND COUNT [SEED [LEAST [TELLING]]]
+                                          templates of a kind and forests that have two values of a mark, or refused ones
+                                          where KIND is damaged, through the program template, its line beside the
+                                          reading's; of these two lines TELLING each have to be among them
        beside measure COUNT [SEED]        time of both, by class
        beside growth                      time of both, as scripts grow
        beside forests KIND COUNT SEED     the forests whose time is measured, in hex
        beside count SIDE                  forests in hex from standard input, each once through the original or the call,
                                           for tools/count_instructions.py
-A KIND may have marked- before it: its constants then have marks. A difference is printed with its forest, and the
-status is 1; so it is where a main call took over a second, where fewer than LEAST forests were compared, which is COUNT
-unless it is said, and not 0, or fewer than TELLING tell what they have to, which is 0 unless it is said; compare takes
-another for marked kinds and flat only.";
+A KIND may have marked- before it: its constants then have marks. Templates of a KIND without it are its forests with
+marks on some constants, so that equal ones are one parameter. A difference is printed with its forest, and the status
+is 1; so it is where a main call took over a second, where fewer than LEAST forests were compared, which is COUNT unless
+it is said, and not 0, or fewer than TELLING tell what they have to, which is 0 unless it is said; compare takes another
+for marked kinds and flat only, and template-lines none for damaged.";
 
 fn main() -> ExitCode {
     let arguments: Vec<String> = std::env::args().skip(1).collect();
@@ -45,41 +60,36 @@ fn main() -> ExitCode {
     }
 }
 
+/// The family of that name; none inside for `damaged`.
+fn or_damaged(kind: &str) -> Option<Option<Family>> {
+    match kind {
+        "damaged" => Some(None),
+        kind => Some(Some(Family::parse(kind)?)),
+    }
+}
+
 /// Whether all went well; none for a wrong command line.
 fn run(words: &[&str]) -> Option<bool> {
     let number =
         |word: Option<&&str>, default| word.map_or(Some(default), |word| word.parse().ok());
     match words {
-        ["compare", kind, count, rest @ ..] if rest.len() < 4 => {
+        ["compare", kind, rest @ ..] => {
             let family = Family::parse(kind)?;
-            let count = count.parse().ok()?;
-            let seed = number(rest.first(), 1)?;
-            let least = number(rest.get(1), count).filter(|least| *least > 0)?;
+            let asked = Asked::parse(rest)?;
             // Of other kinds none is asked to tell anything.
-            let asked = Told::of(family).is_some();
-            let telling = number(rest.get(2), 0).filter(|telling| asked || *telling == 0)?;
-            Some(compare::accepted(family, count, seed, least, telling))
+            let may_tell = Told::of(family).is_some();
+            (may_tell || asked.telling == 0).then(|| compare::accepted(family, asked))
         }
-        ["damaged", count, rest @ ..] if rest.len() < 3 => {
-            let count = count.parse().ok()?;
-            let least = number(rest.get(1), count).filter(|least| *least > 0)?;
-            Some(compare::damaged(count, number(rest.first(), 1)?, least))
+        ["damaged", rest @ ..] if rest.len() < 4 => Some(compare::damaged(Asked::parse(rest)?)),
+        ["list", kind, rest @ ..] => Some(list::listed(or_damaged(kind)?, Asked::parse(rest)?)),
+        ["fillings", kind, rest @ ..] => {
+            Some(fillings::filled(Family::parse(kind)?, Asked::parse(rest)?))
         }
-        ["list", kind, count, rest @ ..] if rest.len() < 4 => {
-            let family = match *kind {
-                "damaged" => None,
-                kind => Some(Family::parse(kind)?),
-            };
-            let count = count.parse().ok()?;
-            let seed = number(rest.first(), 1)?;
-            let least = number(rest.get(1), count).filter(|least| *least > 0)?;
-            Some(list::listed(
-                family,
-                count,
-                seed,
-                least,
-                number(rest.get(2), 0)?,
-            ))
+        ["template-lines", kind, rest @ ..] => {
+            let family = or_damaged(kind)?;
+            let asked = Asked::parse(rest)?;
+            let may_tell = family.is_some();
+            (may_tell || asked.telling == 0).then(|| template_lines::compared(family, asked))
         }
         ["measure", count, rest @ ..] if rest.len() < 2 => {
             measure::classes(count.parse().ok()?, number(rest.first(), 1)?);

@@ -112,7 +112,14 @@ impl Forest {
         records
     }
 
-    /// Those of them that are constants.
+    /// The constants, in file order.
+    pub fn constants(&self) -> Vec<Record> {
+        let mut forest = self.clone();
+        let constants = forest.constants_mut();
+        constants.into_iter().map(|record| record.clone()).collect()
+    }
+
+    /// The records that are constants.
     pub fn constants_mut(&mut self) -> Vec<&mut Record> {
         let mut records = self.records_mut();
         records.retain(|record| record.shape == CONST);

@@ -12,8 +12,10 @@ mod profile;
 pub mod records;
 mod rng;
 mod room;
+mod templates;
 
 pub use rng::Rng;
+pub use templates::Way;
 
 use crate::forest::Forest;
 

@@ -1,5 +1,5 @@
 //! The original cse pass, unchanged, run on forests, and an independent reading of document 01 (the
-//! paper with the rules) for what the original does not do: checks, limits and unfolding.
+//! paper with the rules) for what the original does not do: checks, limits, unfolding and templates.
 
 pub mod check;
 pub mod convert;
@@ -13,6 +13,7 @@ pub mod lister;
 pub mod notation;
 pub mod oracle;
 pub mod rows;
+pub mod template;
 pub mod trees;
 pub mod unfold;
 

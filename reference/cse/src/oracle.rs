@@ -164,7 +164,7 @@ pub fn tells_marks(forest: &[u8], given: &Answer) -> bool {
 }
 
 /// The bytes of an accepted forest with its marks taken off.
-pub(crate) fn without_marks(forest: &[u8]) -> Option<Vec<u8>> {
+pub fn without_marks(forest: &[u8]) -> Option<Vec<u8>> {
     let forest = accept(forest).ok()?;
     Some(forest.without_marks().to_bytes())
 }

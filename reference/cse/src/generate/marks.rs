@@ -74,9 +74,8 @@ fn may_give_way(record: &Record) -> bool {
 }
 
 /// At most two of the forest's, and one that it need not have.
-fn few_constants(rng: &mut Rng, forest: &mut Forest) -> Vec<Record> {
-    let constants = forest.constants_mut();
-    let mut few: Vec<Record> = constants.into_iter().map(|record| record.clone()).collect();
+fn few_constants(rng: &mut Rng, forest: &Forest) -> Vec<Record> {
+    let mut few = forest.constants();
     rng.shuffle(&mut few);
     few.truncate(rng.range(0, 2));
     few.push(constant(6, vec![7, 1]).record);

@@ -4,12 +4,6 @@ use crate::*;
 
 use cse_reference::check::{accept, Refusal};
 
-fn constants(forest: &Forest) -> Vec<Record> {
-    let mut forest = forest.clone();
-    let constants = forest.constants_mut();
-    constants.into_iter().map(|record| record.clone()).collect()
-}
-
 #[test]
 fn a_name_gives_one_family() {
     for family in unmarked().chain(marked()) {
@@ -32,7 +26,7 @@ fn a_name_gives_one_family() {
 #[test]
 fn only_a_marked_family_has_marks() {
     for (family, seed, forest) in forests(unmarked()) {
-        let all = constants(&forest);
+        let all = forest.constants();
         assert!(
             all.iter().all(|record| record.aux < 7),
             "{} {seed}",
@@ -41,7 +35,7 @@ fn only_a_marked_family_has_marks() {
     }
     for family in marked() {
         let with = (0..SEEDS).filter(|seed| {
-            let all = constants(&family.forest(*seed));
+            let all = family.forest(*seed).constants();
             all.iter().any(|record| record.aux >= 7)
         });
         let with = with.count() as u64;
@@ -66,7 +60,7 @@ fn without_marks_a_forest_has_the_shape_of_its_seed() {
     for (family, seed, forest) in forests(marked()) {
         let plain = accepted(seed, family.kind);
         let without = forest.without_marks();
-        assert!(constants(&without).iter().all(|record| record.aux < 7));
+        assert!(without.constants().iter().all(|record| record.aux < 7));
         assert_eq!(without.trees.len(), plain.trees.len());
         for (tree, plain) in without.trees.iter().zip(&plain.trees) {
             assert!(
@@ -85,7 +79,7 @@ fn without_marks_a_forest_has_the_shape_of_its_seed() {
 fn every_mark_occurs_and_the_lowest_and_the_highest_in_every_class() {
     let mut found = BTreeSet::new();
     for (_, _, forest) in forests(marked()) {
-        found.extend(constants(&forest).iter().map(|record| record.aux));
+        found.extend(forest.constants().iter().map(|record| record.aux));
     }
     let marks: BTreeSet<u8> = found.iter().map(|aux| aux / 7).collect();
     assert_eq!(marks, (0..=35).collect());
@@ -99,7 +93,7 @@ fn marks_matter_in_every_kind() {
     for family in marked() {
         let (mut apart, mut alike) = (0, 0);
         for seed in 0..100 {
-            let all = constants(&family.forest(seed));
+            let all = family.forest(seed).constants();
             let pair = |holds: &dyn Fn(&Record, &Record) -> bool| {
                 let mut places = 0..all.len();
                 places.any(|at| all[..at].iter().any(|before| holds(before, &all[at])))
