@@ -4,8 +4,10 @@
 Usage: check_definitions.py ROWS.tsv [--least N] [--jobs N] [--batch N]
 
 A row is tab separated: forest, output length, work words, number, place, written length, symbols, readings, tree; or, for the
-lister, forest and text; or, for the sheet, the word `sheet`, forest and text. Byte strings are in hex, '-' for none.
-`cse-reference rows` and `cse-reference list-rows` write rows of the first two kinds; those of tests/definitions are written by hand.
+lister, forest and text; or, for the sheet, the word `sheet`, forest and text; or, for the line of a template, the word `template`, forest and
+line; or, for a filling, the word `fill`, forest, values and filled forest, the values as aux=literal,aux=literal. Byte strings are in hex,
+'-' for none. `cse-reference rows`, `list-rows` and `template-rows` write rows of all kinds but the sheet's; those of tests/definitions are
+written by hand.
 
 Each row becomes one declaration, proved by `refl`, in a module beside a copy of the definitions, and one that is wrong follows them, which
 the checker must refuse. A row that it refuses is printed with its line number; a row over the checker's step limit says nothing either way and
@@ -29,12 +31,15 @@ use Prim.Native.Nat.{{ℕ, zero, suc, _/_, _%_}}
 use mathlib.Core.Path.{{_≡_, refl}}
 use mathlib.Core.Bool.{{Bool, true, false, _&&_}}
 use mathlib.Core.List.{{List, [], _∷_}}
+use native.Mathlib.Omega.{{arith}}
 use lib.Dec.{{eqb}}
 use {SPECS}.Lists.{{same}}
 use {SPECS}.Answer.{{Answer, refused, good}}
 use {SPECS}.Call.{{Written, Numbers, run, numbersOf}}
 use {SPECS}.Lister.{{lister}}
 use {SPECS}.Sheet.{{sheet}}
+use {SPECS}.Template.{{Filling, fillForest}}
+use {SPECS}.TemplateLine.{{templateLine}}
 use {SPECS}.Computing.{{computing}}
 
 -- so many bytes of a number, the lowest first
@@ -52,6 +57,14 @@ gives a w tree =
     let n = numbersOf a in
     eqb (n .number) (w .number) && eqb (n .place) (w .place) && eqb (n .len) (w .len) && eqb (n .symbols) (w .symbols) &&
     eqb (n .readings) (w .readings) && same (written a) tree
+
+-- the literal for an aux, by its first byte and the others; one byte, 0, for an aux without a value
+chosen : List (ℕ × ℕ × List ℕ) → ℕ → ℕ × List ℕ
+chosen [] a = (0, [])
+chosen (v ∷ vs) a = elim (eqb (v .0) a) [ true ↦ (v .1, v .2) | false ↦ chosen vs a ]
+
+filling : List (ℕ × ℕ × List ℕ) → Filling
+filling vs = record {{ literal = λ a. let c = chosen vs a in c .0 ∷ c .1; some-bytes = λ a l. omega arith }}
 """
 CALL = """
 r{i} : gives (run (record {{ forest = {forest}; room = {room}; words = {words} }})) (record {{ number = {number}; place = {place}; len = {len}; symbols = {symbols};
@@ -64,6 +77,13 @@ r{i} : same ({text} {forest}) {lines} ≡ true
 unfolding bytes computing
 r{i} = refl
 """
+FILL = """
+r{i} : same (fillForest (filling {values}) {forest}) {filled} ≡ true
+unfolding filling chosen bytes computing
+r{i} = refl
+"""
+# the definition that makes a row's text, by the row's first word
+TEXTS = {"sheet": "sheet", "template": "templateLine"}
 WRONG = """
 wrong : eqb 0 1 ≡ true
 wrong = refl
@@ -85,12 +105,25 @@ def numeral(text, line):
     return f"(bytes {len(data)} 0x{data[::-1].hex()})" if data else bad(line, "empty hex; write '-'")
 
 
+def entries(text, line):
+    """The values of a filling, each an aux, a first byte and the other bytes: a literal has at least one."""
+    values = ""
+    for value in text.split(","):
+        if not re.fullmatch(r"[0-9]+=([0-9a-f]{2})+", value):
+            bad(line, "values are aux=literal,aux=literal, no literal empty")
+        aux, literal = value.split("=")
+        values += f"({aux}, 0x{literal[:2]}, {numeral(literal[2:] or '-', line)}) ∷ "
+    return f"({values}[])"
+
+
 def declaration(i, line, fields):
-    if len(fields) == 2 or len(fields) == 3 and fields[0] == "sheet":
-        text = "lister" if len(fields) == 2 else "sheet"
+    if len(fields) == 2 or len(fields) == 3 and fields[0] in TEXTS:
+        text = "lister" if len(fields) == 2 else TEXTS[fields[0]]
         return LIST.format(i=i, text=text, forest=numeral(fields[-2], line), lines=numeral(fields[-1], line))
+    if len(fields) == 4 and fields[0] == "fill":
+        return FILL.format(i=i, forest=numeral(fields[1], line), values=entries(fields[2], line), filled=numeral(fields[3], line))
     if len(fields) != 9:
-        bad(line, f"{len(fields)} fields, not 9, 2, or 3 with the first `sheet`")
+        bad(line, f"{len(fields)} fields, not 9, 2, 3 with the first `sheet` or `template`, or 4 with the first `fill`")
     names = ("room", "words", "number", "place", "len", "symbols", "readings")
     for name, value in zip(names, fields[1:8]):
         if not re.fullmatch(r"[0-9]+", value):

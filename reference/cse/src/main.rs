@@ -8,6 +8,7 @@ use cse_reference::damage::damaged;
 use cse_reference::generate::{Family, Kind};
 use cse_reference::lister::lister;
 use cse_reference::oracle::{answer, Answer, NoAnswer, MAX_OUTPUT, MIN_WORK_WORDS};
+use cse_reference::template::Filling;
 use cse_reference::{hex, notation, rows};
 
 const USAGE: &str = "\
@@ -19,6 +20,9 @@ usage: cse-reference COMMAND
   rows COUNT [--seed S] [--max-records N]
                                    forest, output length, work words, and what answer gives
   list-rows COUNT [--seed S]       forest, the lister's text in hex
+  template-rows COUNT [--seed S] [--max-records N]
+                                   template, forest, the template's line in hex; and
+                                   fill, forest, its values as aux=hex,aux=hex, the filled forest
   check-rows COUNT [--seed S]      forest, and what checks 2 to 10 say of it
   from-notation                    notation in: forests
   to-notation                      forests in: notation
@@ -131,6 +135,20 @@ fn run(arguments: &[String], out: &mut impl Write) -> Result<(), Failure> {
             }
             Ok(())
         }
+        "template-rows" => {
+            let arguments = parsed(&["COUNT"], &["--seed", "--max-records"])?;
+            let most = arguments.option("--max-records", u64::MAX);
+            for seed in arguments.seeds(0)? {
+                let row = rows::template_row(seed, most);
+                let (forest, line) = row.map_err(|why| Failure::Row(seed, why))?;
+                let (forest, line) = (hex::print(&forest), hex::print(line.as_bytes()));
+                writeln!(out, "template\t{forest}\t{line}")?;
+                let row = rows::fill_row(seed, most);
+                let (template, filled) = (hex::print(&row.template), hex::print(&row.filled));
+                writeln!(out, "fill\t{template}\t{}\t{filled}", values(&row.values))?;
+            }
+            Ok(())
+        }
         "check-rows" => {
             let arguments = parsed(&["COUNT"], &["--seed"])?;
             for seed in arguments.seeds(0)? {
@@ -203,6 +221,13 @@ fn fields(answer: &Answer) -> String {
         answer.readings,
         hex::print(&answer.tree)
     )
+}
+
+/// The values of a filling: `aux=hex`, parted by commas.
+fn values(filling: &Filling) -> String {
+    let values = filling.iter();
+    let values = values.map(|(aux, literal)| format!("{aux}={}", hex::print(literal)));
+    values.collect::<Vec<String>>().join(",")
 }
 
 /// A skipped forest is an ordinary line; a count that differs is a fault.

@@ -1,14 +1,18 @@
-//! Rows for a comparison: a call of the main call, or of the lister, with its answer.
+//! Rows for a comparison: a call of the main call, or of the lister, with its answer; the line of a template; a filling.
 
 use crate::damage::{damaged, each};
 use crate::forest::Forest;
-use crate::generate::{at_times_marked, Kind, Rng};
+use crate::generate::{at_times_marked, Family, Kind, Rng, Way};
 use crate::lister::lister;
 use crate::oracle::{answer, Answer, NoAnswer, MAX_OUTPUT, MIN_WORK_WORDS};
-use crate::trees::{alone, h};
+use crate::template::{fill, line, Filling};
+use crate::trees::{alone, h, marked, x};
 
 /// How often a forest is drawn again that is too large, was skipped, or has not the wanted answer.
 const TRIES: u32 = 200;
+
+/// The most bytes of a value in a filling, since the checker computes each.
+const MAX_VALUE: usize = 40;
 
 /// One call and its answer.
 #[derive(Clone, PartialEq, Eq, Debug)]
@@ -17,6 +21,14 @@ pub struct Row {
     pub out_len: usize,
     pub work_words: usize,
     pub answer: Answer,
+}
+
+/// A template, values for its parameters, and the forest with these.
+#[derive(Clone, PartialEq, Eq, Debug)]
+pub struct Filled {
+    pub template: Vec<u8>,
+    pub values: Filling,
+    pub filled: Vec<u8>,
 }
 
 /// The row of a seed, its forest of at most so many records: of 100 rows some 70 are forests to
@@ -40,6 +52,46 @@ pub fn list_row(seed: u64) -> Result<(Vec<u8>, Vec<u8>), NoAnswer> {
     };
     let text = lister(&row.forest)?;
     Ok((row.forest, text))
+}
+
+/// The forest of a seed, of at most so many records, and the line that is printed of it: in turn templates and forests with
+/// two values, and every eleventh a damaged one.
+pub fn template_row(seed: u64, max_records: u64) -> Result<(Vec<u8>, String), NoAnswer> {
+    let mut rng = Rng::new(seed);
+    let make = match seed % 11 {
+        0 => return lined(refused(&mut rng, max_records)?.forest),
+        1 | 3 | 5 | 7 | 9 => Family::template,
+        _ => Family::two_values,
+    };
+    let draw = || parametric(&mut rng, max_records, make).map(|forest| lined(forest.to_bytes()));
+    match first(draw, |_| true)? {
+        Some(row) => Ok(row),
+        None => lined(parameter().to_bytes()),
+    }
+}
+
+/// The template of a seed, of at most so many records, filled in the three ways in turn with short values.
+pub fn fill_row(seed: u64, max_records: u64) -> Filled {
+    let mut rng = Rng::new(seed);
+    let way = Way::ALL[(seed % 3) as usize];
+    let mut draws = (0..TRIES).filter_map(|_| {
+        let template = parametric(&mut rng, max_records, Family::template)?;
+        let values = way.filling(rng.bits(), &template);
+        let short = values.values().all(|value| value.len() <= MAX_VALUE);
+        short.then_some((template, values))
+    });
+    let (template, values) = draws.next().unwrap_or_else(|| {
+        let template = parameter();
+        let values = Way::Equal.filling(seed, &template);
+        (template, values)
+    });
+    let template = template.to_bytes();
+    let filled = fill(&template, &values);
+    Filled {
+        template,
+        values,
+        filled,
+    }
 }
 
 /// The forest of a seed, for the checks alone: in turn one damaged for each of refusals 2 to 10, and
@@ -80,10 +132,10 @@ fn lent(forest: Vec<u8>, out_len: usize, work_words: usize) -> Result<Row, NoAns
 
 /// Draws rows until one is `wanted`. A forest that is skipped is drawn again; a count that differs
 /// is a fault.
-fn first(
-    mut draw: impl FnMut() -> Option<Result<Row, NoAnswer>>,
-    wanted: impl Fn(&Row) -> bool,
-) -> Result<Option<Row>, NoAnswer> {
+fn first<R>(
+    mut draw: impl FnMut() -> Option<Result<R, NoAnswer>>,
+    wanted: impl Fn(&R) -> bool,
+) -> Result<Option<R>, NoAnswer> {
     for _ in 0..TRIES {
         match draw() {
             Some(Ok(row)) if wanted(&row) => return Ok(Some(row)),
@@ -105,6 +157,26 @@ fn plain(rng: &mut Rng, max_records: u64) -> Result<Row, NoAnswer> {
         Some(row) => Ok(row),
         None => call(alone(h()).to_bytes()),
     }
+}
+
+/// A forest and its line.
+fn lined(forest: Vec<u8>) -> Result<(Vec<u8>, String), NoAnswer> {
+    line(&forest).map(|line| (forest, line))
+}
+
+/// A small or medium forest with parameters; none if it is too large.
+fn parametric(rng: &mut Rng, max_records: u64, make: fn(Family, u64) -> Forest) -> Option<Forest> {
+    let family = Family {
+        kind: rng.pick(&[Kind::Small, Kind::Medium]),
+        marked: rng.chance(50),
+    };
+    let forest = make(family, rng.bits());
+    fits(&forest, max_records).then_some(forest)
+}
+
+/// A parameter alone, for where no template is small enough.
+fn parameter() -> Forest {
+    alone(marked(x(), 1))
 }
 
 fn fits(forest: &Forest, max_records: u64) -> bool {

@@ -5,6 +5,7 @@ use std::process::{Command, Stdio};
 
 use cse_reference::check::accept;
 use cse_reference::hex;
+use cse_reference::template::{fill, line, Filling};
 
 /// Runs the binary: its exit status, standard output and standard error.
 fn run(arguments: &[&str], input: &[u8]) -> (i32, String, String) {
@@ -148,6 +149,53 @@ fn list_rows_are_forests_with_their_text() {
         let text = hex::parse(text).unwrap();
         assert_eq!(prints(&["list"], forest).into_bytes(), text);
     }
+}
+
+/// The values of a row, by aux.
+fn values(text: &str) -> Filling {
+    let values = text.split(',').map(|value| {
+        let (aux, literal) = value.split_once('=').unwrap();
+        (aux.parse().unwrap(), hex::parse(literal).unwrap())
+    });
+    values.collect()
+}
+
+#[test]
+fn template_rows_are_lines_and_fillings() {
+    let (mut templates, mut two_values, mut refused, mut fillings) = (0, 0, 0, 0);
+    for row in prints(&["template-rows", "220", "--max-records", "24"], "").lines() {
+        let fields: Vec<&str> = row.split('\t').collect();
+        let forest = hex::parse(fields[1]).unwrap();
+        match fields[..] {
+            ["template", _, text] => {
+                let expected = line(&forest).unwrap();
+                assert_eq!(hex::print(expected.as_bytes()), text, "{row}");
+                templates += u32::from(expected.starts_with("template: "));
+                two_values += u32::from(expected.starts_with("two values "));
+                refused += u32::from(expected.starts_with("refused "));
+            }
+            ["fill", _, given, filled] => {
+                let given = values(given);
+                assert_eq!(hex::print(&fill(&forest, &given)), filled, "{row}");
+                let short = |value: &Vec<u8>| (1..=40).contains(&value.len());
+                assert!(!given.is_empty() && given.values().all(short), "{row}");
+                assert!(accept(&forest).unwrap().size() <= 24, "{row}");
+                fillings += 1;
+            }
+            _ => panic!("{row}"),
+        }
+    }
+    assert_eq!((templates, two_values), (100, 100));
+    assert_eq!((refused, fillings), (20, 220));
+}
+
+#[test]
+fn a_parameter_alone_where_no_template_is_small_enough() {
+    // x:1 of document 01.
+    let parameter = "0100010008000700000000000d0701";
+    let rows = prints(&["template-rows", "1", "--max-records", "0"], "");
+    let forests = rows.lines().map(|row| row.split('\t').nth(1).unwrap());
+    assert!(forests.eq([parameter, parameter]), "{rows}");
 }
 
 /// Every third forest to accept is from a marked kind, which leaves some without marks.
