@@ -133,7 +133,7 @@ pub record Commutes (f : Filling) (forest : List ℕ) : Type 0 where
   -- the same symbols with the same scopes and readings, filled; or the same refusal, 11 or 12, at the same place
   pub interns : interned (fillForest f forest) ≡ mapAnswer (fillInterned f) (interned forest)
   -- so the tree that document 01 defines is the template's, filled: the same records in the same order, the same ids, as
-  -- many definitions, other literals at parameters and nowhere else
+  -- many definitions, other literals at parameters and nowhere else. It is so of any symbols and scopes
   pub tree : (o : ℕ × State) → treeOf (fillInterned f o) ≡ fillTree f (treeOf o)
   pub records : (o : ℕ × State) → rows (treeOf (fillInterned f o)) ≡ map (fillRow f) (rows (treeOf o))
   pub same-definitions : (o : ℕ × State) → definitions (rows (treeOf (fillInterned f o))) ≡ definitions (rows (treeOf o))
@@ -142,27 +142,22 @@ pub record Commutes (f : Filling) (forest : List ℕ) : Type 0 where
 -- ---- of the call
 
 -- a tree's bytes are not too many for a forest, nor for the output
-pub record Fits (room : ℕ) (bytes : List ℕ) : Type 0 where
+pub record BytesFit (room : ℕ) (bytes : List ℕ) : Type 0 where
   pub short : length bytes ≤ 65535
   pub fits-in : length bytes ≤ room
-
-abbrev pub number : Call → ℕ
-number c = numbers c .number
-
-abbrev pub place : Call → ℕ
-place c = numbers c .place
 
 -- of a call on a template, and one on the filled forest, which may be lent another output
 pub record CallCommutes (f : Filling) (c c′ : Call) : Type 0 where
   -- if the template's call gives 0 and the filled tree fits, the filled forest's call gives 0 with exactly these bytes,
   -- symbols and readings
-  pub writes : (w : Written) → run c ≡ good w → Fits (c′ .room) (fillForest f (w .bytes)) →
+  pub writes : (w : Written) → run c ≡ good w → BytesFit (c′ .room) (fillForest f (w .bytes)) →
       run c′ ≡ good (fillWritten f w)
   -- what may differ is 13: but for it, the number and the place are the same
-  pub only-13 : (number c ≡ 13) ⊎ (number c′ ≡ 13) ⊎ ((number c′ ≡ number c) × (place c′ ≡ place c))
+  pub only-13 : (numbers c .number ≡ 13) ⊎ (numbers c′ .number ≡ 13) ⊎
+      ((numbers c′ .number ≡ numbers c .number) × (numbers c′ .place ≡ numbers c .place))
   -- by the number of bytes: where the trees of both fit, the answer is the same, filled
   pub by-bytes : ((o : ℕ × State) → interned (c .forest) ≡ good o →
-      Fits (c .room) (bytesOf o) × Fits (c′ .room) (fillForest f (bytesOf o))) →
+      BytesFit (c .room) (bytesOf o) × BytesFit (c′ .room) (fillForest f (bytesOf o))) →
       run c′ ≡ mapAnswer (fillWritten f) (run c)
 
 -- of every template, and every filling that does not make the forest too long: else the filled forest is refused with 2

@@ -69,16 +69,16 @@ equal = record { literal = λ a. two-bytes; some-bytes = λ a l. omega arith }
 abbrev pub script : List ℕ → Tree
 script value = p (n (fee 1 value)) (p (n (fee 2 value)) (n (fee 1 value)))
 
-abbrev pub written : List ℕ → Tree
-written value = block1 1 (n (fee 1 value)) (p (u 1) (p (n (fee 2 value)) (u 1)))
+abbrev pub shared : List ℕ → Tree
+shared value = block1 1 (n (fee 1 value)) (p (u 1) (p (n (fee 2 value)) (u 1)))
 
 pub template-filled : fillForest equal (serialise (one (script one-byte))) ≡ serialise (one (script two-bytes))
 unfolding computing
 template-filled = refl
 
 pub filled-written : run (ample (fillForest equal (serialise (one (script one-byte))))) ≡ good (record {
-  tree = written two-bytes;
-  bytes = serialise (one (written two-bytes));
+  tree = shared two-bytes;
+  bytes = serialise (one (shared two-bytes));
   symbols = 6;
   readings = 8;
 })

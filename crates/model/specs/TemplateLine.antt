@@ -37,7 +37,7 @@ standsAt a rs = first (map (isOf a) rs)
 unfoldable pub valueOf : ℕ → List Row → List ℕ
 valueOf a rs = elim (standsAt a rs) [ none ↦ [] | some p ↦ getD rs p noRecord .rec .lit ]
 
--- ---- "the first record whose aux over 6 had another literal earlier"
+-- ---- the first record whose aux over 6 had another literal earlier
 
 -- the condition, said of record p
 abbrev pub HadAnother : List ℕ → ℕ → Type 0
@@ -52,7 +52,7 @@ hasAnother rs r = isParameter r && not (same (r .lit) (valueOf (r .aux) rs))
 unfoldable pub twoValues : List ℕ → Option ℕ
 twoValues bs = first (map (λ r. hasAnother (rowsIn bs) (r .rec)) (rowsIn bs))
 
--- ---- "parameters are the different aux over 6"
+-- ---- parameters: the different aux over 6
 
 -- how many of them are below n
 unfoldable pub parametersBelow : ℕ → List Row → ℕ

@@ -21,7 +21,7 @@ use Rattle.model.specs.Intern.{State, Out, Outs, internLast, internForest}
 use Rattle.model.specs.Call.{Call, Written, check1, lentChecks, interned, treeOf, bytesOf, check13, check14, treeChecks}
 use Rattle.model.specs.Call.{writtenOf, measured, written, run, numbersOf, numbers}
 use Rattle.model.specs.Template.{Filling, fillForest, fillTree, fillTrees, Template, fillSym, fillInterned}
-use Rattle.model.specs.Template.{fillWritten, mapAnswer, fillUnfolded, definitions, Commutes, Fits, number, place, CallCommutes}
+use Rattle.model.specs.Template.{fillWritten, mapAnswer, fillUnfolded, definitions, Commutes, BytesFit, CallCommutes}
 use Rattle.model.specs.Template.{EveryFilling}
 use Rattle.model.specs.TemplateLine.{valueOf}
 use Rattle.laws.proofs.Apart.{refused-good, good-inj}
@@ -104,13 +104,13 @@ module _ (f : Filling) where
   -- ---- the checks of the written tree
 
   -- 13, where the bytes fit, is by the number of records
-  by-records : (room : ℕ) (o : ℕ × State) → Fits room (bytesOf o) → check13 room o ≡ at0 (ltb 256 (size (treeOf o)))
+  by-records : (room : ℕ) (o : ℕ × State) → BytesFit room (bytesOf o) → check13 room o ≡ at0 (ltb 256 (size (treeOf o)))
   unfolding check13
   by-records room o h =
       ap at0 (or-none (ltb 256 (size (treeOf o))) _ _ (le-ltb 65535 (length (bytesOf o)) (h .short))
       (le-ltb room (length (bytesOf o)) (h .fits-in)))
 
-  passed-fits : (room : ℕ) (o : ℕ × State) → check13 room o ≡ none → Fits room (bytesOf o)
+  passed-fits : (room : ℕ) (o : ℕ × State) → check13 room o ≡ none → BytesFit room (bytesOf o)
   unfolding check13
   passed-fits room o e =
       let a = or-neither (ltb 256 (size (treeOf o)) || ltb 65535 (length (bytesOf o))) _ (at0-none _ e) in
@@ -121,14 +121,14 @@ module _ (f : Filling) where
   unfolding check14
   check-14-kept o = ap (λ (n : ℕ). at0 (ltb 64 n)) (ap depth (tree-filled o) ∙ depth-kept f (treeOf o))
 
-  check-13-kept : (room more : ℕ) (o : ℕ × State) → Fits room (bytesOf o) → Fits more (fillForest f (bytesOf o)) →
+  check-13-kept : (room more : ℕ) (o : ℕ × State) → BytesFit room (bytesOf o) → BytesFit more (fillForest f (bytesOf o)) →
       check13 more (fillInterned f o) ≡ check13 room o
   check-13-kept room more o h k =
-      by-records more (fillInterned f o) (subst (Fits more) (sym (bytes-filled o)) k)
+      by-records more (fillInterned f o) (subst (BytesFit more) (sym (bytes-filled o)) k)
       ∙ (ap (λ (n : ℕ). at0 (ltb 256 n)) (ap size (tree-filled o) ∙ size-kept f (treeOf o))
       ∙ sym (by-records room o h))
 
-  measured-filled : (room more : ℕ) (o : ℕ × State) → Fits room (bytesOf o) → Fits more (fillForest f (bytesOf o)) →
+  measured-filled : (room more : ℕ) (o : ℕ × State) → BytesFit room (bytesOf o) → BytesFit more (fillForest f (bytesOf o)) →
       measured more (fillInterned f o) ≡ mapAnswer (fillWritten f) (measured room o)
   unfolding measured treeChecks
   measured-filled room more o h k =
@@ -175,7 +175,7 @@ module _ (f : Filling) where
   -- ---- the call
 
   rest-filled : (room more : ℕ) (m : Out) →
-      ((o : ℕ × State) → m ≡ good o → Fits room (bytesOf o) × Fits more (fillForest f (bytesOf o))) →
+      ((o : ℕ × State) → m ≡ good o → BytesFit room (bytesOf o) × BytesFit more (fillForest f (bytesOf o))) →
       (mapAnswer (fillInterned f) m >>= measured more) ≡ mapAnswer (fillWritten f) (m >>= measured room)
   unfolding _>>=_
   rest-filled room more (refused n p) h = refl
@@ -183,12 +183,12 @@ module _ (f : Filling) where
 
   -- what a call that gives 0 has interned and written
   rest-good : (room : ℕ) (m : Out) (w : Written) → (m >>= measured room) ≡ good w → (o : ℕ × State) → m ≡ good o →
-      Fits room (bytesOf o) × (bytesOf o ≡ w .bytes)
+      BytesFit room (bytesOf o) × (bytesOf o ≡ w .bytes)
   unfolding _>>=_ measured treeChecks writtenOf
   rest-good room (refused n p) w e o d = refused-good e
   rest-good room (good x) w e o d =
       let c = checked-good ((13, check13 room x) ∷ (14, check14 x) ∷ []) (writtenOf x) w e in
-      subst (λ (z : ℕ × State). Fits room (bytesOf z) × (bytesOf z ≡ w .bytes)) (good-inj d)
+      subst (λ (z : ℕ × State). BytesFit room (bytesOf z) × (bytesOf z ≡ w .bytes)) (good-inj d)
       (passed-fits room x (c .0 .0), ap (λ (z : Written). z .bytes) (c .1))
 
   module _ (c c′ : Call) (lent : c′ .words ≡ c .words)
@@ -196,7 +196,7 @@ module _ (f : Filling) where
     abbrev BothFit : Type 0
     BothFit =
         (o : ℕ × State) → interned (c .forest) ≡ good o →
-        Fits (c .room) (bytesOf o) × Fits (c′ .room) (fillForest f (bytesOf o))
+        BytesFit (c .room) (bytesOf o) × BytesFit (c′ .room) (fillForest f (bytesOf o))
 
     run-filled : BothFit → run c′ ≡ mapAnswer (fillWritten f) (run c)
     unfolding run lentChecks checked unless _>>=_ written
@@ -211,15 +211,15 @@ module _ (f : Filling) where
             ∙ rest-filled (c .room) (c′ .room) (interned (c .forest)) h
         go (some p) = refl
 
-    zero-fits : (w : Written) → run c ≡ good w → Fits (c′ .room) (fillForest f (w .bytes)) → BothFit
+    zero-fits : (w : Written) → run c ≡ good w → BytesFit (c′ .room) (fillForest f (w .bytes)) → BothFit
     unfolding run lentChecks checked unless _>>=_ written
     zero-fits w e k o d = go (check1 (c .words)) e
       where
         go : (x : Option ℕ) → (checked ((1, x) ∷ []) c >>= written) ≡ good w →
-            Fits (c .room) (bytesOf o) × Fits (c′ .room) (fillForest f (bytesOf o))
+            BytesFit (c .room) (bytesOf o) × BytesFit (c′ .room) (fillForest f (bytesOf o))
         go none e =
             let z = rest-good (c .room) (interned (c .forest)) w e o d in
-            (z .0, subst (λ (bs : List ℕ). Fits (c′ .room) (fillForest f bs)) (sym (z .1)) k)
+            (z .0, subst (λ (bs : List ℕ). BytesFit (c′ .room) (fillForest f bs)) (sym (z .1)) k)
         go (some p) e = refused-good e
 
     numbers-alike : Alike (run c) (run c′)
@@ -235,7 +235,8 @@ module _ (f : Filling) where
             (sym interns) (rest-alike (c .room) (c′ .room) (interned (c .forest)))
         go (some p) = inr (inr (refl, refl))
 
-    only-13 : (number c ≡ 13) ⊎ (number c′ ≡ 13) ⊎ ((number c′ ≡ number c) × (place c′ ≡ place c))
+    only-13 : (numbers c .number ≡ 13) ⊎ (numbers c′ .number ≡ 13) ⊎
+        ((numbers c′ .number ≡ numbers c .number) × (numbers c′ .place ≡ numbers c .place))
     unfolding numbers
     only-13 = numbers-alike
 
