@@ -1,5 +1,7 @@
 // Ids in force with their symbols, in work words: two words to an entry, the newest entry last.
 // In order: the symbol of an id; one more entry; what a lambda and a definition bind.
+#![tactic(auto)]
+
 ghost use Rattle.std.specs.Prelude.{◌≡◌, ◌+◌, ◌*◌, ◌<◌, ◌≤◌, length};
 ghost use Rattle.model.specs.Opcodes.{FuncValue};
 ghost use Rattle.model.specs.Forest.{record_count};
@@ -12,7 +14,6 @@ ghost use Rattle.regions.specs.Regions.{WORDS, BINDINGS};
 ghost use Rattle.bindings.specs.Bindings.{env_of, bound, arg_bindings, bound_all};
 ghost use Rattle.bindings.specs.Made.{ArgsBound, DefBound};
 
-use regions::BINDINGS;
 use shape::VAL_DEF;
 
 // The symbol of an id among the first n entries, by the newest that has it. Rules out: by the oldest; the id itself.
@@ -23,8 +24,8 @@ pub fn resolve(work: &[u32], n: usize, id: u32) -> u32
     let mut k = n;
     while 0 < k {
         k -= 1;
-        if work[BINDINGS + 2 * k] == id {
-            return work[BINDINGS + 2 * k + 1];
+        if work[regions::BINDINGS + 2 * k] == id {
+            return work[regions::BINDINGS + 2 * k + 1];
         }
     }
     0
@@ -36,8 +37,8 @@ fn bind(work: &mut [u32], k: usize, id: u32, symbol: u32)
     requires { BINDINGS.first + 2 * k + 1 < length work.old }
     ensures { work.new ≡ bound work.old k id symbol }
 {
-    work[BINDINGS + 2 * k] = id;
-    work[BINDINGS + 2 * k + 1] = symbol;
+    work[regions::BINDINGS + 2 * k] = id;
+    work[regions::BINDINGS + 2 * k + 1] = symbol;
 }
 
 // ---- what a lambda and a definition bind

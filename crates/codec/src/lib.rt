@@ -12,7 +12,7 @@ ghost use Rattle.codec.specs.Codec.{bad_pair, Layout, Shaped, Answered, Judged};
 use walk::Place;
 
 // What the checks say of a forest: accepted, or the number of the first check that fails and its place.
-#[derive(Drop)]
+#[derive(Clone, Copy)]
 pub enum Verdict {
     Accepted,
     Refused(u32, usize),

@@ -24,12 +24,11 @@ ghost use Rattle.concluding.specs.Concluding.{Concludes, Branched, Selects, HasS
 
 use interner::{State, Step};
 use key::{Func, Leaf, Node, Operation};
-use regions::PENDING;
 use shape::{CONST, TUPLE, UNPARSED};
 use tables::Tables;
 
 // The scopes of a record's thunks, of which there are `count`.
-#[derive(Drop)]
+#[derive(Clone, Copy)]
 pub struct Branches {
     pub count: u32,
     pub first: u32,
@@ -163,7 +162,7 @@ pub fn reads_again(forest: &[u8], work: &[u32], i: usize, held: usize) -> bool
     ensures { (n : ℕ) → get_or work.now (PENDING.first + held) 0 < n →
         result ≡ reads_again forest.now work.now n i held }
 {
-    let s = work[PENDING + held] as usize;
+    let s = work[regions::PENDING + held] as usize;
     if of_pair(field_of(forest, i)) {
         return is_tuple(forest, work, s);
     }
@@ -207,7 +206,7 @@ pub fn last(work: &[u32], st: State, held: usize, count: usize) -> Step
     requires { (0 < count) × (held + count ≤ PENDING.size) × (WORDS ≤ length work.now) }
     ensures { result ≡ given st (last (pending_from work.now held count)) }
 {
-    interner::given(st, work[PENDING + held + count - 1])
+    interner::given(st, work[regions::PENDING + held + count - 1])
 }
 
 // Gives the symbol of the id that record i uses, among `top` bindings. Rules out: an older binding's; the id itself.

@@ -19,11 +19,10 @@ use codec::Verdict;
 use graph::Graph;
 use interner::State;
 use planner::Plan;
-use regions::{PLAN, WORDS};
 
 // What the call gives: how many bytes were written, how many symbols and readings there were; or the number and the
 // place of a refusal.
-#[derive(Drop)]
+#[derive(Clone, Copy)]
 pub enum Answer {
     Written(u32, u32, u32),
     Refused(u32, u32),
@@ -35,7 +34,7 @@ fn clear(work: &mut [u32])
     ensures { work.new ≡ cleared WORDS work.old }
 {
     let mut k = 0;
-    while k < WORDS {
+    while k < regions::WORDS {
         work[k] = 0;
         k += 1;
     }
@@ -62,7 +61,7 @@ fn write(
     if 256 < rows {
         return Answer::Refused(13, 0);
     }
-    let size = serialise::tree_length(forest, work, PLAN, rows);
+    let size = serialise::tree_length(forest, work, regions::PLAN, rows);
     if 65535 < size {
         return Answer::Refused(13, 0);
     }
@@ -72,7 +71,7 @@ fn write(
     if 64 < p.deepest {
         return Answer::Refused(14, 0);
     }
-    serialise::write_tree(forest, work, PLAN, rows, out);
+    serialise::write_tree(forest, work, regions::PLAN, rows, out);
     Answer::Written(size as u32, symbols, readings)
 }
 
@@ -148,7 +147,7 @@ pub fn cse(forest: &[u8], out: &mut [u8], work: &mut [u32]) -> Answer
     ensures demanded { Demanded (call_of forest.now out.old work.old) out.old
         (numbers_in result) out.new }
 {
-    if work.len() < WORDS {
+    if work.len() < regions::WORDS {
         return Answer::Refused(1, 0);
     }
     let r = pass(forest, out, work);

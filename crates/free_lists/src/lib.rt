@@ -13,14 +13,13 @@ ghost use Rattle.outsiders.specs.Outsiders.{WordsBelow, Held, Listed};
 ghost use Rattle.free_lists.specs.FreeLists.{end_at, list_at, Lists, run_of, with_list, Filed, gives};
 
 use graph::Graph;
-use regions::{FREE_ENDS, FREE_LISTS, SLOTS};
 use scopes::Rel;
 
 // The entries that are stored at most.
 const LIMIT: usize = 4096;
 
 // Where a list of symbols stands: in so many words from a word on; or nowhere, since it is not stored.
-#[derive(Drop)]
+#[derive(Clone, Copy)]
 pub enum Run {
     Words(usize, usize),
     Unstored,
@@ -33,7 +32,7 @@ pub fn start(work: &mut [u32])
     requires { WORDS ≤ length work.old }
     ensures { work.new ≡ set work.old (FREE_ENDS).first 0 }
 {
-    work[FREE_ENDS] = 0;
+    work[regions::FREE_ENDS] = 0;
 }
 
 // Where the lists of the symbols below s end, counted in entries.
@@ -41,7 +40,7 @@ fn end_at(work: &[u32], s: usize) -> usize
     requires { (FREE_ENDS).first + s < length work.now }
     ensures { result ≡ end_at work.now s }
 {
-    work[FREE_ENDS + s] as usize
+    work[regions::FREE_ENDS + s] as usize
 }
 
 // Where the free list of s stands. Rules out: the list of another symbol; an end past the last entry taken for a list's.
@@ -53,7 +52,7 @@ pub fn stored(work: &[u32], s: usize) -> Run
     let first = end_at(work, s);
     let end = end_at(work, s + 1);
     if end <= LIMIT {
-        return Run::Words(FREE_LISTS + first, end - first);
+        return Run::Words(regions::FREE_LISTS + first, end - first);
     }
     Run::Unstored
 }
@@ -80,10 +79,10 @@ fn give(work: &[u32], g: Graph, cs: usize, d: usize, list: &mut [u16], n: usize)
     }
     let rel = graph::relation(work, g, d, cs);
     match rel {
-        Rel::Local => outsiders::add_run(work, g, FREE_LISTS + first, count, list, n),
+        Rel::Local => outsiders::add_run(work, g, regions::FREE_LISTS + first, count, list, n),
         Rel::Deeper => {
-            let m = give_run(work, g, cs, d, FREE_LISTS + first, count, list, n);
-            outsiders::offer_run(work, g, cs, FREE_LISTS + first, count, list, m)
+            let m = give_run(work, g, cs, d, regions::FREE_LISTS + first, count, list, n);
+            outsiders::offer_run(work, g, cs, regions::FREE_LISTS + first, count, list, m)
         }
         Rel::Outside => n,
     }
@@ -137,7 +136,7 @@ fn gather(forest: &[u8], work: &[u32], g: Graph, c: usize, list: &mut [u16]) -> 
         g,
         cs,
         c,
-        SLOTS + y.kids as usize,
+        regions::SLOTS + y.kids as usize,
         y.count as usize,
         list,
         0,
@@ -155,15 +154,15 @@ fn store(work: &mut [u32], c: usize, list: &[u16], count: usize)
 {
     let first = end_at(work, c);
     if LIMIT < first + count {
-        work[FREE_ENDS + c + 1] = LIMIT as u32 + 1;
+        work[regions::FREE_ENDS + c + 1] = LIMIT as u32 + 1;
         return;
     }
     let mut k = 0;
     while k < count {
-        work[FREE_LISTS + first + k] = list[k] as u32;
+        work[regions::FREE_LISTS + first + k] = list[k] as u32;
         k += 1;
     }
-    work[FREE_ENDS + c + 1] = (first + count) as u32;
+    work[regions::FREE_ENDS + c + 1] = (first + count) as u32;
 }
 
 // The free list of symbol c, the newest, worked out and stored.
@@ -205,5 +204,5 @@ pub fn keep(forest: &[u8], work: &mut [u32], c: usize, scopes: usize, scope: usi
             }
         }
     }
-    work[FREE_ENDS + c + 1] = first as u32;
+    work[regions::FREE_ENDS + c + 1] = first as u32;
 }

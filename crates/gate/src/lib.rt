@@ -12,7 +12,6 @@ ghost use Rattle.symbols.specs.Symbols.{key_rec, kids_at, syms_of, Sound};
 ghost use Rattle.gate.specs.Gate.{uses_at, cleared, noted, all_noted, visited, visited_down};
 ghost use Rattle.gate.specs.Gate.{Lower, Countable, Small, Notable, Reached};
 
-use regions::{REACHED, SLOTS, USES};
 use shape::{CONST, GLOBAL_OP, HEIGHT_OP, INPUTS_OP, OUTPUTS_OP, SELF_BOX_OP};
 
 fn clear(work: &mut [u32], n: usize)
@@ -21,8 +20,8 @@ fn clear(work: &mut [u32], n: usize)
 {
     let mut s = 0;
     while s < n {
-        work[USES + s] = 0;
-        work[REACHED + s] = 0;
+        work[regions::USES + s] = 0;
+        work[regions::REACHED + s] = 0;
         s += 1;
     }
 }
@@ -32,8 +31,8 @@ fn note(work: &mut [u32], s: usize)
     requires { (s < 512) × (WORDS ≤ length work.old) × (uses_at work.old s < 4000000000) }
     ensures { work.new ≡ noted work.old s }
 {
-    work[USES + s] += 1;
-    work[REACHED + s] = 1;
+    work[regions::USES + s] += 1;
+    work[regions::REACHED + s] = 1;
 }
 
 // The symbols in the words from `at` on.
@@ -59,7 +58,7 @@ fn note_kids(work: &mut [u32], s: usize)
     let y = key::load(work, s);
     let kids = y.kids as usize;
     let count = y.count as usize;
-    note_all(work, SLOTS + kids, count)
+    note_all(work, regions::SLOTS + kids, count)
 }
 
 // The children of symbol s, if it is reached.
@@ -69,7 +68,7 @@ fn visit_symbol(work: &mut [u32], s: usize)
     requires small { Small work.old s }
     ensures { work.new ≡ visited (kids_at work.old) work.old s }
 {
-    let reached = work[REACHED + s];
+    let reached = work[regions::REACHED + s];
     if reached == 1 {
         note_kids(work, s);
     }
@@ -97,7 +96,7 @@ pub fn reach_and_count(work: &mut [u32], n: usize, root: usize)
     ensures { Reached work.old work.new n root }
 {
     clear(work, n);
-    work[REACHED + root] = 1;
+    work[regions::REACHED + root] = 1;
     visit(work, root)
 }
 

@@ -1,4 +1,6 @@
 // The graph in the work words: symbols and scopes, and tests of a symbol that hang on both.
+#![tactic(auto)]
+
 ghost use Rattle.std.specs.Prelude.{◌≡◌, ◌<◌};
 ghost use Rattle.model.specs.Gate.{sym_of};
 ghost use Rattle.model.specs.Schedule.{is_arg, is_outside};
@@ -8,7 +10,7 @@ ghost use Rattle.graph.specs.Graph.{Scoped, Related, Tests, is_outsider};
 use scopes::Rel;
 
 // How many symbols and scopes stand in the work words.
-#[derive(Drop)]
+#[derive(Clone, Copy)]
 pub struct Graph {
     pub symbols: usize,
     pub scopes: usize,

@@ -20,12 +20,11 @@ ghost use Rattle.intern.specs.Intern.{Enters, Concluded, Completable, Completed,
 
 use concluding::Branches;
 use interner::{State, Step};
-use regions::PENDING;
 use shape::{BLOCK_VALUE, FUNC_VALUE, SELECT_FIELD, VAL_DEF, VAL_USE};
 use tables::Tables;
 
 // Where a record is read: its scope, how many symbols are pending, how many ids are bound.
-#[derive(Drop)]
+#[derive(Clone, Copy)]
 pub struct Here {
     pub scope: usize,
     pub held: usize,
@@ -33,7 +32,7 @@ pub struct Here {
 }
 
 // A record's symbol and the state after it, or a refusal; and the record after its subtree.
-#[derive(Drop)]
+#[derive(Clone, Copy)]
 pub struct Read {
     pub step: Step,
     pub next: usize,
@@ -41,7 +40,7 @@ pub struct Read {
 
 // Children read: their symbols are pending; the record after them; the scopes of the thunks among them. Or, where
 // `number` is not 0, a refusal. `branches` stands first: in this order a store and the load of it are of one width.
-#[derive(Drop)]
+#[derive(Clone, Copy)]
 pub struct Kids {
     pub branches: Branches,
     pub st: State,
@@ -51,7 +50,7 @@ pub struct Kids {
 }
 
 // The body of a lambda, opened: where it is read, and the first of the arguments. Or a refusal.
-#[derive(Drop)]
+#[derive(Clone, Copy)]
 pub struct Entered {
     pub st: State,
     pub number: u32,
@@ -61,7 +60,7 @@ pub struct Entered {
 }
 
 // A record that is done; or its children, read for the last time, with the record still to be completed.
-#[derive(Drop)]
+#[derive(Clone, Copy)]
 pub enum Selected {
     Done(Read),
     Children(Kids),
@@ -295,7 +294,7 @@ fn operands(
         if step.number != 0 {
             return small::failed(k, r);
         }
-        work[PENDING + held + j] = step.symbol;
+        work[regions::PENDING + held + j] = step.symbol;
         top = bindings::bind_def(forest, work, next, top, step.symbol);
         k = small::with_child(k, thunk, r);
         j += 1;
@@ -327,7 +326,7 @@ fn in_thunk(forest: &[u8], work: &mut [u32], t: Tables, i: usize, at: Here, st: 
     let last = k.st;
     let closed = Step {
         st: opening::close_thunk(last, top),
-        symbol: work[PENDING + held],
+        symbol: work[regions::PENDING + held],
         number: k.number,
         place: k.place,
     };

@@ -22,7 +22,6 @@ ghost use Rattle.interner.specs.Levels.{any_has};
 
 use key::{Leaf, Node, Symbol};
 use memo::Projections;
-use regions::PENDING;
 use tables::{Found, Tables};
 
 // How many entries the open tables have; how many symbols, child slots, scopes and projections there are; the readings
@@ -30,7 +29,7 @@ use tables::{Found, Tables};
 // What it counts stands in the words up to PENDING. A function that makes symbols changes some of these words, though
 // none of a scope, and no other words.
 // The order of the fields matters for speed: those that are stored one by one are not loaded two at a time.
-#[derive(Drop)]
+#[derive(Clone, Copy)]
 pub struct State {
     pub readings: u32,
     pub entries: u32,
@@ -41,7 +40,7 @@ pub struct State {
 }
 
 // A symbol and the state after it; or, where `number` is not 0, a refusal with that number, at record `place`.
-#[derive(Drop)]
+#[derive(Clone, Copy)]
 pub struct Step {
     pub st: State,
     pub symbol: u32,
@@ -173,7 +172,7 @@ fn levels_of(work: &[u32], held: usize, count: usize) -> u64
     let mut all = scopes::levels::empty();
     let mut k = 0;
     while k < count {
-        let s = work[PENDING + held + k];
+        let s = work[regions::PENDING + held + k];
         let y = key::load(work, s as usize);
         all = scopes::levels::join(all, y.levels);
         k += 1;
@@ -345,7 +344,7 @@ pub fn pair_projection(
         (pair_projection at cur (row_at forest.now at).rec field (get_or work.old (PENDING.first + held) 0)
         (abs_of forest.now work.old t st)) work.new result }
 {
-    let p = work[PENDING + held];
+    let p = work[regions::PENDING + held];
     match memo::recall(work, st.memo as usize, p) {
         Projections::Pair(a, b) => projections::picked(st, field, a, b),
         Projections::Nothing => projections::new_projections(

@@ -11,7 +11,6 @@ ghost use Rattle.interner.specs.Step.{Answers, Projects, field_of, with_pair, gi
 
 use crate::{State, Step};
 use key::{Node, Operation};
-use regions::PENDING;
 use tables::Tables;
 
 // Field `field` of the pending symbol at `held`, a projection made for record `at`. Rules out: another field; a
@@ -98,7 +97,7 @@ pub fn new_projections(
         (new_projections at cur (row_at forest.now at).rec field (get_or work.old (PENDING.first + held) 0)
         (abs_of forest.now work.old t st)) work.new result }
 {
-    let p = work[PENDING + held];
+    let p = work[regions::PENDING + held];
     let a = projection(forest, work, t, st, cur, at, 1, held);
     if a.number != 0 {
         return a;

@@ -1,18 +1,20 @@
 // Symbols (key.rs), and their five words each in the work memory: words 5s to 5s + 4 are symbol s's.
 // In order: nodes and symbols; a node's parts; the words that they are packed into; a symbol stored, and loaded; its
 // record, its field.
+#![tactic(auto)]
+
 ghost use Rattle.std.specs.Prelude.{◌≡◌, ◌+◌, ◌*◌, ◌<◌, ◌≤◌, ◌/◌, ◌%◌, length};
 ghost use Rattle.key.specs.Key.{FitsWords, leaf_parts, parts_of, node_from, head, middle, tail};
 ghost use Rattle.key.specs.Key.{parts_in, put5, store_symbol, symbol_at};
 
 // A constant, an unparsed node or an argument: the record that it was made for.
-#[derive(Drop)]
+#[derive(Clone, Copy)]
 pub struct Leaf {
     pub source: u32,
 }
 
 // A lambda: its arguments are the symbols from `first` on, as many as the record's aux; the scope of its body.
-#[derive(Drop)]
+#[derive(Clone, Copy)]
 pub struct Func {
     pub source: u32,
     pub first: u32,
@@ -21,7 +23,7 @@ pub struct Func {
 
 // Any other record. `field` is 1 or 2 for that field of the projections that one record makes, 0 for the record as it
 // stands; the scopes of its thunks, of which there are `branches`.
-#[derive(Drop)]
+#[derive(Clone, Copy)]
 pub struct Operation {
     pub source: u32,
     pub field: u32,
@@ -30,7 +32,7 @@ pub struct Operation {
     pub second: u32,
 }
 
-#[derive(Drop)]
+#[derive(Clone, Copy)]
 pub enum Node {
     Const(Leaf),
     Unparsed(Leaf),
@@ -41,7 +43,7 @@ pub enum Node {
 
 // `kids` is the first of its child slots, `count` how many; `levels` has a bit for the nesting level of each lambda
 // that the symbol depends on.
-#[derive(Drop)]
+#[derive(Clone, Copy)]
 pub struct Symbol {
     pub node: Node,
     pub kids: u32,
@@ -51,7 +53,7 @@ pub struct Symbol {
 }
 
 // A node with all fields that any node has.
-#[derive(Drop)]
+#[derive(Clone, Copy)]
 pub struct Parts {
     pub tag: u32,
     pub source: u32,

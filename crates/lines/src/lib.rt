@@ -13,7 +13,6 @@ ghost use Rattle.output.specs.Output.{Wrote};
 ghost use Rattle.lines.specs.Lines.{columns, lines_to, Listable};
 
 use key::Node;
-use regions::USES;
 
 // A number, of at most twenty digits, and the byte after it.
 fn put_number(out: &mut [u8], at: usize, n: u32, after: u8) -> usize
@@ -106,7 +105,7 @@ fn put_lines(forest: &[u8], work: &[u32], n: usize, out: &mut [u8], start: usize
     let mut at = start;
     let mut s = 0;
     while s < n {
-        at = put_line(forest, work, out, at, s, work[USES + s]);
+        at = put_line(forest, work, out, at, s, work[regions::USES + s]);
         s += 1;
     }
     at

@@ -17,10 +17,9 @@ use graph::Graph;
 use key::{Func, Node, Operation};
 use plan::Planned;
 use planner::{Opened, Plan};
-use regions::SLOTS;
 
 // The definitions of a scope: the plan with them, and the last id given.
-#[derive(Drop)]
+#[derive(Clone, Copy)]
 struct Defined {
     plan: Plan,
     last: u32,
@@ -109,7 +108,7 @@ fn operands(
 {
     let opcode = record::opcode(forest, planner::wide(o.source));
     let y = key::load(work, s);
-    let at = SLOTS + planner::wide(y.kids);
+    let at = regions::SLOTS + planner::wide(y.kids);
     let count = planner::wide(y.count);
     let mut q = planner::put(work, p, above, planner::row_of(o));
     let mut j = 0;
@@ -200,7 +199,7 @@ fn lambda(
 {
     let count = symbols::wide(record::aux(forest, planner::wide(f.source)));
     let y = key::load(work, s);
-    let root = planner::wide(work[SLOTS + planner::wide(y.kids)]);
+    let root = planner::wide(work[regions::SLOTS + planner::wide(y.kids)]);
     let q = planner::put(work, p, above, Planned::Lambda(f.source, last));
     let mut map = planner::copied(ids);
     planner::number(&mut map, planner::wide(f.first), planner::wide(count), last);

@@ -1,13 +1,13 @@
 // Projections remembered, in work words: a word to a pair, the newest last.
+#![tactic(auto)]
+
 ghost use Rattle.std.specs.Prelude.{◌≡◌, ◌+◌, ◌<◌, ◌≤◌, length};
 ghost use Rattle.model.specs.Intern.{recall};
 ghost use Rattle.regions.specs.Regions.{WORDS, MEMO};
 ghost use Rattle.memo.specs.Memo.{memo_of, projections_of, remembered};
 
-use regions::MEMO;
-
 // The symbols of the fields 1 and 2 of a symbol.
-#[derive(Drop)]
+#[derive(Clone, Copy)]
 pub enum Projections {
     Pair(u32, u32),
     Nothing,
@@ -22,7 +22,7 @@ pub fn recall(work: &[u32], n: usize, p: u32) -> Projections
     let mut k = n;
     while 0 < k {
         k -= 1;
-        let w = work[MEMO + k];
+        let w = work[regions::MEMO + k];
         if w % 512 == p {
             return Projections::Pair(w / 512 % 512, w / 262144);
         }
@@ -36,5 +36,5 @@ pub fn remember(work: &mut [u32], n: usize, p: u32, a: u32, b: u32)
     requires p_bound { (p < 512) × (a < 512) × (b < 512) }
     ensures { work.new ≡ remembered work.old n p a b }
 {
-    work[MEMO + n] = p + 512 * a + 262144 * b;
+    work[regions::MEMO + n] = p + 512 * a + 262144 * b;
 }

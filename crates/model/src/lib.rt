@@ -1,1 +1,2 @@
 // No code: this crate is its definitions, in specs/.
+#![tactic(auto)]

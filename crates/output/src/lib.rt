@@ -1,4 +1,6 @@
 // Bytes put over an output, front to back: one, a number, a run of them. Each function gives the place after its bytes.
+#![tactic(auto)]
+
 ghost use Rattle.std.specs.Prelude.{[], ◌∷◌, ◌+◌, ◌<◌, ◌≤◌, length};
 ghost use Rattle.model.specs.Bytes.{put16, put32};
 ghost use Rattle.output.specs.Output.{Wrote};

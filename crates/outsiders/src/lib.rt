@@ -12,10 +12,9 @@ ghost use Rattle.graph.specs.Graph.{Arena, Scoped};
 ghost use Rattle.outsiders.specs.Outsiders.{offered, Below, WordsBelow, Held, Listed};
 
 use graph::Graph;
-use regions::SLOTS;
 
 // Which operands of a record with this opcode are meant: its thunks, or the others.
-#[derive(Drop)]
+#[derive(Clone, Copy)]
 struct Arms {
     opcode: u8,
     thunks: bool,
@@ -237,7 +236,7 @@ pub fn offer_kids(
     let node = y.node;
     let p = key::parts_of(node);
     let opcode = record::opcode(forest, p.source as usize);
-    let from = SLOTS + y.kids as usize;
+    let from = regions::SLOTS + y.kids as usize;
     let count = y.count as usize;
     let thunks = Arms {
         opcode,

@@ -1,10 +1,12 @@
 // The plan of a written tree: one row for each record to be written, three work words a row.
+#![tactic(auto)]
+
 ghost use Rattle.std.specs.Prelude.{◌≡◌, ◌+◌, ◌≤◌, length};
 ghost use Rattle.plan.specs.Plan.{put3, planned_of, planned_at, store_planned};
 
 // A record to be written. Field is made beside a projection that was read, so no record of the forest has its
 // literal.
-#[derive(Drop)]
+#[derive(Clone, Copy)]
 pub enum Planned {
     // the forest's record, as it stands
     Copy(u32),

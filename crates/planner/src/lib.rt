@@ -14,14 +14,14 @@ use key::Operation;
 use plan::Planned;
 
 // The plan so far: how many rows, 257 once there are more than 256, and the greatest depth.
-#[derive(Drop)]
+#[derive(Clone, Copy)]
 pub struct Plan {
     pub rows: usize,
     pub deepest: usize,
 }
 
 // Where an operand is built: in the scope of its parent, or in a thunk's.
-#[derive(Drop)]
+#[derive(Clone, Copy)]
 pub enum Opened {
     Same,
     Thunk(u32),

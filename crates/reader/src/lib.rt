@@ -1,10 +1,12 @@
 // A reader holds the forest and the record it has reached (codec.rs). In order: a reader is made; its record's number;
 // the next record; its record's literal; the literal of a record by number, for callers that hold no reader.
 // The work is done by crate `record`, on the forest and a number: these functions only take a reader apart.
+#![tactic(auto)]
+
 ghost use Rattle.std.specs.Prelude.{◌≡◌};
 ghost use Rattle.reader.specs.Held.{Reached, reaching, onward, lit_at};
 
-#[derive(Drop)]
+#[derive(Clone, Copy)]
 pub struct Reader<'a> {
     forest: &'a [u8],
     at: usize,

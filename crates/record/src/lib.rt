@@ -1,5 +1,7 @@
 // Records by number (codec.rs). In order: numbers; the header; where a record starts; its fields; a constant's class and
 // mark; its size; its literal, as a part of the forest.
+#![tactic(auto)]
+
 ghost use Rattle.std.specs.Prelude.{◌≡◌, ◌+◌, ◌<◌, ◌≤◌, length, drop};
 ghost use Rattle.model.specs.Bytes.{u16};
 ghost use Rattle.model.specs.Tree.{row_len};

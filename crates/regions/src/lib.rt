@@ -1,5 +1,6 @@
 // The regions of the work words: the first word of each. specs/Regions.antt has their first words and sizes and says
 // what they hold; contracts cite those, so a constant that differs from its region is refused where it is used.
+#![tactic(auto)]
 
 // The words that the main call is lent at least.
 pub const WORDS: usize = 16384;

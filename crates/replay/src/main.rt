@@ -16,7 +16,7 @@ const WORD: u32 = 2779096485;
 // The words that a call uses.
 const USED: usize = 16384;
 
-#[derive(Drop)]
+#[derive(Clone, Copy)]
 struct Row {
     forest: usize,
     room: usize,

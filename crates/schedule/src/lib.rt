@@ -18,11 +18,10 @@ ghost use Rattle.schedule.specs.Schedule.{Walked, Freed, Scheduled};
 
 use free_lists::Run;
 use graph::Graph;
-use regions::SLOTS;
 use scopes::Rel;
 
 // An order: the scope that it is seen from, and whether it is that of a body or a schedule.
-#[derive(Drop)]
+#[derive(Clone, Copy)]
 struct Order {
     scope: usize,
     body: bool,
@@ -83,16 +82,16 @@ fn neighbours(forest: &[u8], work: &[u32], g: Graph, o: Order, s: usize) -> Run
     ensures { Nearby forest.now work.now g.symbols g.scopes o.body o.scope s result }
 {
     if is_end(work, g, o, s) {
-        return Run::Words(SLOTS, 0);
+        return Run::Words(regions::SLOTS, 0);
     }
     let rel = graph::relation(work, g, s, o.scope);
     match rel {
         Rel::Local => {
             let y = key::load(work, s);
-            Run::Words(SLOTS + y.kids as usize, y.count as usize)
+            Run::Words(regions::SLOTS + y.kids as usize, y.count as usize)
         }
         Rel::Deeper => free_lists::stored(work, s),
-        Rel::Outside => Run::Words(SLOTS, 0),
+        Rel::Outside => Run::Words(regions::SLOTS, 0),
     }
 }
 
@@ -290,7 +289,7 @@ fn free(forest: &[u8], work: &[u32], g: Graph, c: usize, list: &mut [u16]) -> us
         g,
         o,
         c,
-        SLOTS + y.kids as usize,
+        regions::SLOTS + y.kids as usize,
         y.count as usize,
         &mut seen,
         list,

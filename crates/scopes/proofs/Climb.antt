@@ -1,7 +1,7 @@
 -- Steps from a scope outwards.
 -- In order: what a scope's word says; placement; levels that track a fresh argument; ancestors, and where a scope lies. Assumes nothing.
 use Prim.Native.Nat.{ℕ, zero, suc, ◌-◌, ◌<◌, ◌≤◌}
-use mathlib.Core.Path.{◌≡◌, refl, sym, ap, ◌∙◌}
+use mathlib.Core.Path.{◌≡◌, refl, sym, ap, ◌∙◌, subst}
 use mathlib.Core.Bool.{Bool, true, false, not, ◌&&◌}
 use mathlib.Core.Logic.{inl, inr}
 use mathlib.Core.Option.{Option, none, some}
@@ -133,7 +133,8 @@ tracks_apart scs levels deps (s ∷ out) m le e f = (
 pub placed : (ws : List ℕ) (m cur levels r : ℕ) (deps : List ℕ) (st : State) → st.scopes ≡ scopes_of ws m → cur < m
     → Tracks st.scopes levels deps (outward st.scopes cur) → Placed ws cur levels r → r ≡ placement st cur deps
 unfolding placement
-placed ws m cur levels r deps st e lt t p = rw e (p m deps lt (rw e at t))
+placed ws m cur levels r deps st e lt t p =
+    rw e (p m deps lt (subst (λ (scs : List Scope). Tracks scs levels deps (outward scs cur)) e t))
 
 -- ---- ancestors, and where a scope lies
 

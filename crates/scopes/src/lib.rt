@@ -1,5 +1,7 @@
 // Scopes in work words: opening one, its parts, where a new symbol is placed, where a scope lies seen from another.
 // levels.rt has sets of nesting levels.
+#![tactic(auto)]
+
 pub mod levels;
 
 ghost use Rattle.std.specs.Prelude.{◌≡◌, ℕ, ◌+◌, ◌<◌, ◌≤◌, length, set};
@@ -10,10 +12,8 @@ ghost use Rattle.scopes.specs.Scopes.{scope_word, packed_of, parent_of, level_of
 ghost use Rattle.scopes.specs.Scopes.{scopes_of, Nested, left_by, Placed};
 ghost use Rattle.scopes.specs.Relation.{Classified};
 
-use regions::SCOPES;
-
 // Where a scope lies, seen from another.
-#[derive(Drop)]
+#[derive(Clone, Copy)]
 pub enum Rel {
     Local,
     Deeper,
@@ -37,7 +37,7 @@ pub fn open_outermost(work: &mut [u32])
     requires { SCOPES.first < length work.old }
     ensures { work.new ≡ set work.old SCOPES.first 0 }
 {
-    work[SCOPES] = 0;
+    work[regions::SCOPES] = 0;
 }
 
 // Scope m is opened as a thunk inside `cur`. Rules out: a lambda without arguments; a scope one level deeper.
@@ -47,7 +47,7 @@ pub fn open_thunk(work: &mut [u32], m: usize, cur: usize)
     ensures { work.new ≡ with_thunk work.old m cur }
 {
     let depth = level(work, cur);
-    work[SCOPES + m] = packed(cur as u32, 0, 0, depth);
+    work[regions::SCOPES + m] = packed(cur as u32, 0, 0, depth);
 }
 
 // Scope m is opened as the body of a lambda inside `cur`, with `count` arguments from symbol `first` on.
@@ -60,7 +60,7 @@ pub fn open_lambda(work: &mut [u32], m: usize, cur: usize, first: u32, count: u3
     ensures { work.new ≡ with_lambda work.old m cur first count }
 {
     let depth = level(work, cur);
-    work[SCOPES + m] = packed(cur as u32, first, count + 1, depth + 1);
+    work[regions::SCOPES + m] = packed(cur as u32, first, count + 1, depth + 1);
 }
 
 // ---- the parts of a scope
@@ -70,7 +70,7 @@ fn parent(work: &[u32], k: usize) -> usize
     requires { SCOPES.first + k < length work.now }
     ensures { result ≡ parent_of (scope_word work.now k) }
 {
-    (work[SCOPES + k] % 4096) as usize
+    (work[regions::SCOPES + k] % 4096) as usize
 }
 
 // The lambdas around scope k, its own among them. Rules out: those around its parent; the scopes around k.
@@ -78,7 +78,7 @@ pub fn level(work: &[u32], k: usize) -> u32
     requires { SCOPES.first + k < length work.now }
     ensures { (result ≡ level_of (scope_word work.now k)) × (result < 64) }
 {
-    work[SCOPES + k] / 67108864
+    work[regions::SCOPES + k] / 67108864
 }
 
 // ---- placement
@@ -88,7 +88,7 @@ fn leaves(work: &[u32], k: usize, levels: u64) -> bool
     requires { SCOPES.first + k < length work.now }
     ensures { result ≡ left_by levels (scope_word work.now k) }
 {
-    let w = work[SCOPES + k];
+    let w = work[regions::SCOPES + k];
     if w / 2097152 % 32 == 0 {
         return false;
     }

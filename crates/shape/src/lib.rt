@@ -1,6 +1,8 @@
 // Checks 4 and 5 of one record: its children, aux and literal against its shape, and its opcode against its shape.
 // Then which operands are thunks, and the arguments in a lambda's literal. In order: names of shapes and
 // opcodes; the table of shapes; opcodes; ids, arguments. The parts of a literal are in parts.rt.
+#![tactic(auto)]
+
 mod parts;
 
 ghost use Rattle.std.specs.Prelude.{◌≡◌, false, ◌&&◌, ℕ, ◌+◌, ◌<◌, ◌≤◌, List, map, leb, length, drop};

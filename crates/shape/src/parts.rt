@@ -6,7 +6,7 @@ ghost use Rattle.model.specs.Shape.{a_byte, a_id, a_type, a_opt, a_arg, times, a
 ghost use Rattle.shape.specs.Part.{a_byte_type, a_method, Reads, ends_at};
 
 // Where a part of a literal ends, if it stands there.
-#[derive(Drop)]
+#[derive(Clone, Copy)]
 pub enum Part {
     End(usize),
     Broken,

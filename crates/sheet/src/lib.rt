@@ -177,7 +177,7 @@ fn put_line(out: &mut [u8], at: usize, forest: &[u8], i: usize, depth: usize) ->
 // ---- trees
 
 // How far a sheet has come: the next record, and where its text ends.
-#[derive(Drop)]
+#[derive(Clone, Copy)]
 pub struct Progress {
     pub record: usize,
     pub end: usize,

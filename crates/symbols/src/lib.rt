@@ -1,5 +1,7 @@
 // Symbols as model has them, over the work memory (key.rs, interner.rs). In order: a byte as a number;
 // records as keys have them, compared; one symbol more.
+#![tactic(auto)]
+
 ghost use Rattle.std.specs.Prelude.{◌≡◌, [], ◌∷◌, ◌+◌, ◌<◌, ◌≤◌, length};
 ghost use Rattle.std.proofs.lemmas.List.Edits.{sets};
 ghost use Rattle.model.specs.Lists.{same};
@@ -10,7 +12,6 @@ ghost use Rattle.symbols.specs.Words.{words_from};
 ghost use Rattle.symbols.specs.Symbols.{key_rec, made, RoomFor};
 
 use key::Symbol;
-use regions::{PENDING, SLOTS};
 
 // A byte as a number. Rules out: its low bits alone; one more.
 pub fn wide(x: u8) -> u32
@@ -114,6 +115,6 @@ pub fn make(work: &mut [u32], n: usize, held: usize, y: Symbol)
 {
     let kids = y.kids as usize;
     let count = y.count as usize;
-    copy(work, PENDING + held, SLOTS + kids, count);
+    copy(work, regions::PENDING + held, regions::SLOTS + kids, count);
     key::store(work, n, y)
 }

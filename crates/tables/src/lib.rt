@@ -1,6 +1,8 @@
 // The stack of open tables (interner.rs), and the search through it. Entry k of the tables is word k of ENTRIES: a symbol,
 // and above it a hint of its key, so that most entries are passed over by one comparison.
 // In order: the stack; one entry more; hints; keys compared; the search.
+#![tactic(auto)]
+
 ghost use Rattle.std.specs.Prelude.{◌≡◌, ℕ, ◌+◌, ◌*◌, ◌<◌, ◌≤◌, length, get_or, set};
 ghost use Rattle.model.specs.Lists.{same};
 ghost use Rattle.model.specs.Forest.{record_count};
@@ -12,16 +14,14 @@ ghost use Rattle.symbols.specs.Symbols.{key_rec, syms_of, Sound};
 ghost use Rattle.tables.specs.Tables.{found_of, tables_of, new_tables, opened};
 ghost use Rattle.tables.specs.Tables.{hint, Open, Entries, EntriesBelow, same_key};
 
-use regions::{ENTRIES, PENDING, SLOTS};
-
 // Where each open table's entries start, the oldest first; the newest table ends where the entries do.
-#[derive(Drop)]
+#[derive(Clone, Copy)]
 pub struct Tables {
     pub base: [u16; 64],
     pub depth: usize,
 }
 
-#[derive(Drop)]
+#[derive(Clone, Copy)]
 pub enum Found {
     At(u32),
     Nothing,
@@ -59,7 +59,7 @@ pub fn enter(work: &mut [u32], top: usize, symbol: u32, hint: u32)
     requires { (top < 512) × (symbol < 512) × (hint < 131072) × (WORDS ≤ length work.old) }
     ensures { work.new ≡ set work.old (ENTRIES.first + top) (symbol + 512 * hint) }
 {
-    work[ENTRIES + top] = symbol + 512 * hint;
+    work[regions::ENTRIES + top] = symbol + 512 * hint;
 }
 
 // The hint of the key of record i, or of a projection that it makes, over the pending children from `held` on.
@@ -76,7 +76,7 @@ pub fn hint_of(forest: &[u8], work: &[u32], i: usize, held: usize, count: usize)
     if count == 0 {
         return opcode;
     }
-    opcode + 256 * work[PENDING + held]
+    opcode + 256 * work[regions::PENDING + held]
 }
 
 fn same_kids(work: &[u32], kids: usize, n: usize, held: usize, count: usize) -> bool
@@ -88,7 +88,7 @@ fn same_kids(work: &[u32], kids: usize, n: usize, held: usize, count: usize) -> 
     }
     let mut k = 0;
     while k < n {
-        if work[SLOTS + kids + k] != work[PENDING + held + k] {
+        if work[regions::SLOTS + kids + k] != work[regions::PENDING + held + k] {
             return false;
         }
         k += 1;
@@ -157,7 +157,7 @@ pub fn find(
         let mut k = end;
         while start < k {
             k -= 1;
-            let e = work[ENTRIES + k];
+            let e = work[regions::ENTRIES + k];
             if e / 512 == hint {
                 let s = e % 512;
                 if same_key(forest, work, s as usize, i, field, held, count) {

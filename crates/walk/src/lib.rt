@@ -2,6 +2,8 @@
 // followed by its children's subtrees, in order: the walk of a subtree gives the record after it. The ids in force
 // stand in work words.
 // In order: ids in force; what a record binds; the tests; the walk.
+#![tactic(auto)]
+
 ghost use Rattle.std.specs.Prelude.{◌≡◌, not, ◌++◌, ◌+◌, ◌-◌, ◌<◌, ◌≤◌, eqb, length};
 ghost use Rattle.std.specs.Bool.{beq};
 ghost use Rattle.model.specs.Lists.{is_in};
@@ -22,14 +24,14 @@ use shape::{BLOCK_VALUE, FUNC_VALUE, VAL_DEF, VAL_USE};
 pub const ANY: u32 = 0;
 
 // Where a check fails, if it does.
-#[derive(Drop)]
+#[derive(Clone, Copy)]
 pub enum Place {
     At(usize),
     Nowhere,
 }
 
 // The record after a subtree, or the first that offends.
-#[derive(Drop)]
+#[derive(Clone, Copy)]
 pub enum Walk {
     Next(usize),
     Fault(usize),
@@ -37,7 +39,7 @@ pub enum Walk {
 
 // Where a record stands: its depth, whether a definition has to stand here, and how many ids are in force. They stand
 // in work[0..top], the newest last.
-#[derive(Drop)]
+#[derive(Clone, Copy)]
 pub struct Context {
     pub depth: usize,
     pub def: bool,

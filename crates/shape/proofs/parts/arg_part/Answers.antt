@@ -1,0 +1,15 @@
+-- `shape::parts::arg_part` meets its contract. Assumes nothing.
+use Rattle.shape.proofs.Part.{end_is, then_end, then_broken}
+use Rattle.shape.proofs.parts.arg_part.Goals as goal
+
+pub opt_part-requires : goal.opt_part-requires
+opt_part-requires c =
+    (end_is c.in-End.is c.id_part.ensures).within.1
+
+pub returns-in-End : goal.returns-in-End
+returns-in-End c =
+    then_end c.in-End.is c.id_part.ensures c.opt_part.ensures
+
+pub returns-in-Broken : goal.returns-in-Broken
+returns-in-Broken c =
+    then_broken _ c.in-Broken.is c.id_part.ensures
