@@ -1,6 +1,8 @@
 // Usage and the gate (gate.rs): how often a symbol is used, and whether it may be hoisted. Word s of region USES is the
 // count of symbol s, word s of region REACHED is 1 if it is reached.
 // In order: words cleared, uses noted; what is reached from the root, counted; the gate.
+#![tactic(auto)]
+
 ghost use Rattle.std.specs.Prelude.{◌≡◌, ℕ, suc, ◌+◌, ◌*◌, ◌<◌, ◌≤◌, length};
 ghost use Rattle.model.specs.Forest.{record_count};
 ghost use Rattle.model.specs.Intern.{Sym, sym_at};

@@ -2,6 +2,8 @@
 // list that has it not.
 // In order: an empty list; a search; one symbol, and those in words, whether outsiders or not; one outsider; those of a list; those in
 // words, all, thunks or others; the children of a symbol.
+#![tactic(auto)]
+
 ghost use Rattle.std.specs.Prelude.{◌≡◌, List, [], ◌∷◌, ℕ, ◌<◌, ◌≤◌, length, take, replicate};
 ghost use Rattle.model.specs.Lists.{is_in, add, union};
 ghost use Rattle.model.specs.Gate.{sym_of};

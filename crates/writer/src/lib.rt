@@ -1,5 +1,7 @@
 // Records written over an output: a record's fixed bytes, a record of the forest, and the records that a plan makes.
 // Each function gives the place after its bytes; the rest of the output is as it was.
+#![tactic(auto)]
+
 ghost use Rattle.std.specs.Prelude.{[], ◌+◌, ◌<◌, ◌≤◌, length};
 ghost use Rattle.model.specs.Tree.{row_bytes, row_len};
 ghost use Rattle.model.specs.Forest.{record_count};

@@ -1,0 +1,40 @@
+-- `writer::put_copy` meets its contract. Assumes nothing.
+use native.Mathlib.Omega.{arith}
+use mathlib.Core.Path.{◌≡◌, ap}
+use mathlib.Core.List.{List}
+use Prim.Native.Nat.{ℕ}
+use lib.ListN.{length}
+use Rattle.model.specs.Bytes.{put16}
+use Rattle.model.specs.Tree.{Row, row_bytes, row_len}
+use Rattle.record.specs.Record.{row_at}
+use Rattle.plan.specs.Plan.{row_for}
+use Rattle.output.specs.Output.{Wrote}
+use Rattle.writer.specs.Writer.{fixed}
+use Rattle.output.proofs.Wrote.{wrote_as, wrote_then}
+use Rattle.writer.proofs.put_copy.Goals as goal
+
+-- the fixed bytes, then the literal
+copied : (row : Row) {out out₁ out₂ lit : List ℕ} {at next end shape opcode kids aux : ℕ} → shape ≡ row.rec.shape
+    → opcode ≡ row.rec.opcode → kids ≡ row.kids → aux ≡ row.rec.aux → lit ≡ row.rec.lit
+    → Wrote out at (fixed shape opcode kids aux) out₁ next → Wrote out₁ next lit out₂ end
+    → Wrote out at (row_bytes row) out₂ end
+unfolding row_bytes fixed put16
+copied row a b c d e x y = wrote_as (rw (a, b, c, d, e)) (wrote_then x y)
+
+pub put_fixed-next-requires : goal.put_fixed-next-requires
+unfolding row_for row_len
+put_fixed-next-requires c =
+    record { at_in_bounds = omega (arith, c.requires.i_in_bounds); kids_bound = c.kids-kids.ensures.1 }
+
+pub put_bytes-requires : goal.put_bytes-requires
+unfolding row_for row_len fixed put16
+put_bytes-requires c =
+    let x = c.put_fixed-next in
+    omega (arith, c.requires.i_in_bounds, x.ensures.ends, x.auto.out, ap length c.literal.ensures)
+
+pub returns : goal.returns
+unfolding row_for
+returns c =
+    copied (row_at c.args.forest.now c.args.i) c.shape-shape.ensures c.opcode-opcode.ensures
+    c.kids-kids.ensures.0 c.aux-aux.ensures c.literal.ensures c.put_fixed-next.ensures
+    c.put_bytes.ensures
