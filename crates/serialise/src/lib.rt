@@ -1,5 +1,7 @@
 // A planned tree as bytes. In order: a lambda's arguments; one row, and its length; the tree's length; its directory,
 // its records, and the whole, front to back.
+#![tactic(auto)]
+
 ghost use Rattle.std.specs.Prelude.{◌≡◌, true, ◌+◌, ◌*◌, ◌<◌, ◌≤◌, length};
 ghost use Rattle.model.specs.Shape.{a_id, a_opt, ◌then◌, times, whole};
 ghost use Rattle.model.specs.Tree.{row_bytes, row_len, directory, bodies};
