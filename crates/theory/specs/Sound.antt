@@ -4,7 +4,7 @@
 -- B is a property of numbers, such as being a byte; `Any` asks nothing of them. Assumes nothing.
 use Rattle.std.specs.Prelude.{◌≡◌, true, false, List, [], ◌∷◌, ℕ, suc, ◌+◌, ◌≤◌, ◌<◌, length, get_or}
 use Rattle.std.proofs.Math.Option.{some}
-use Rattle.model.specs.Tree.{Rec, Tree, Trees, node, nil, cons, rec}
+use Rattle.model.specs.Tree.{Rec, Tree, Trees, node, nil, cons}
 use Rattle.model.specs.Intern.{Node, constant, unparsed, argument, func, operation, Sym, Scope, State, sym_at, root_scope, recall, thunked}
 use Rattle.laws.specs.Slots.{slots_in}
 use Rattle.laws.specs.Members.{Every, Under}

@@ -9,10 +9,10 @@ use mathlib.Core.Bool.{Bool, true, false, not, ◌&&◌, ◌||◌, beq}
 use mathlib.Core.List.{List, [], ◌++◌}
 use Prim.Native.Nat.{ℕ}
 use lib.Dec.{eqb}
-use Rattle.model.specs.Lists.{is_in, any_in, twice}
+use Rattle.model.specs.Lists.{any_in, twice}
 use Rattle.model.specs.Tree.{Rec, Tree, Trees, node, nil, cons, is_nil}
 use Rattle.model.specs.Faults.{faults}
-use Rattle.model.specs.Binding.{is_block, id_of, inside, defined, after, place_check, ids_check, rebound_at, unbound_at}
+use Rattle.model.specs.Binding.{is_block, inside, defined, after, place_check, ids_check, rebound_at, unbound_at}
 use Rattle.theory.specs.Checked.{Checked, CheckedIn}
 use Rattle.laws.proofs.Clear.{clear_head, clear_tail, clear_cons}
 

@@ -14,9 +14,8 @@ use lib.ListN.{length, get_or, take, drop}
 use borrow.Author.Tests.{eqb-false}
 use Rattle.model.specs.Lists.{last}
 use Rattle.model.specs.Answer.{◌>>=◌}
-use Rattle.model.specs.Tree.{Rec, rec, Tree, Trees, node, nil, cons, many, top}
+use Rattle.model.specs.Tree.{Rec, Tree, Trees, node, nil, cons, many, top}
 use Rattle.model.specs.Shape.{a_opt, shapes}
-use Rattle.model.specs.Faults.{faults}
 use Rattle.model.specs.Binding.{Kind, kind, val_use, val_def, block, lambda, field, other, is_def, id_of, opt_of, args_of}
 use Rattle.model.specs.Binding.{arg_ids, inside, after, unbound}
 use Rattle.model.specs.Intern.{Node, constant, unparsed, func, operation, State, Out, Outs, Env, Kids, sym_at, resolve}

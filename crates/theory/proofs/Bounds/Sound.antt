@@ -8,7 +8,7 @@ use mathlib.Core.List.{List}
 use Prim.Native.Nat.{ℕ, ◌+◌, ◌≤◌, ◌<◌}
 use native.Mathlib.Omega.{arith}
 use lib.ListN.{length, take, drop, take-append-drop}
-use Rattle.model.specs.Tree.{Rec, node}
+use Rattle.model.specs.Tree.{Rec}
 use Rattle.model.specs.Intern.{Node, constant, unparsed, argument, func, operation, Sym, State}
 use Rattle.theory.specs.Sound.{thunks, NodeSound, SymSound, StateSound, Room}
 use Rattle.laws.specs.Slots.{slots_in}

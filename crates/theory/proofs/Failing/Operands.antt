@@ -2,7 +2,7 @@
 -- In order: the last child (`intern_last_keeps`); no child (`nil_keeps`); a child, and then the others (`cons_keeps`), as
 -- operands and as a block's.
 -- Assumes nothing.
-use mathlib.Core.Path.{◌≡◌, refl, ap, sym, ◌∙◌}
+use mathlib.Core.Path.{◌≡◌, refl, ap, sym, subst, ◌∙◌}
 use mathlib.Core.Bool.{Bool, true, false, not, ◌&&◌}
 use mathlib.Core.Option.{Option, none, some}
 use mathlib.Core.List.{List, [], ◌∷◌, ◌++◌}
@@ -110,7 +110,7 @@ module _ {W : Type 0} (sem : Semantics W) (F : Final) where
           KidsLive sem F.syms (entered_from sem F cur (ys ++ zs)) op j c (s ∷ os.0) brs
       kids_cons c ys zs p q r =
           go (thunked op j) refl os.1
-          (kids_more sem F _ _ (sub_right (outwards F cur) ys zs) op (suc j) c os.0 os.1 r)
+          (kids_more sem F (entered_from sem F cur zs) M (sub_right (outwards F cur) ys zs) op (suc j) c os.0 os.1 r)
         where
           M : List ℕ
           M = entered_from sem F cur (ys ++ zs)
@@ -134,7 +134,9 @@ module _ {W : Type 0} (sem : Semantics W) (F : Final) where
 
         tail : (vs : List W) → found_from sem op (suc j) c rest ≡ some vs →
             OperandsHave sem F o.1 os.2 cur op (suc j) c rest os.0 os.1
-        tail vs q = k.operands f i here ms c vs (rw (bind_def_other t s env plain) ev) q
+        tail vs q =
+            let valued : Env → Type 0 = λ e. EnvValued sem F e ms cur in
+            k.operands f i here ms c vs (subst valued (sym (bind_def_other t s env plain)) ev) q
 
         cons-operands : (x : Bool) → skipped sem op j c ≡ x →
             elim x [
@@ -197,7 +199,8 @@ module _ {W : Type 0} (sem : Semantics W) (F : Final) where
           step v vs x ks (some y) e d rest q =
               let a = head y e in
               let bound = bound-more (id_of (top t)) s y env ms a.found_is (a.plain_in (nt j)) ev in
-              let z = rest ((id_of (top t), y) ∷ ms) w (rw (bind_def_is t s env d) bound) q in
+              let valued : Env → Type 0 = λ e. EnvValued sem F e ((id_of (top t), y) ∷ ms) cur in
+              let z = rest ((id_of (top t), y) ∷ ms) w (subst valued (sym (bind_def_is t s env d)) bound) q in
               record {
                 found_is = z.found_is;
                 scope_in = z.scope_in;

@@ -15,7 +15,6 @@ use lib.Dec.{eqb}
 use lib.ListN.{length, drop_of_length-le}
 use borrow.Author.Tests.{eqb-true}
 use Rattle.model.specs.Lists.{last}
-use Rattle.model.specs.Answer.{good}
 use Rattle.model.specs.Tree.{Rec, Trees, nil, cons, many, is_nil}
 use Rattle.model.specs.Shape.{fits, agrees}
 use Rattle.model.specs.Binding.{kind}

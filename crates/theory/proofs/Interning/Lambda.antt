@@ -18,7 +18,6 @@ use Prim.Native.Nat.{ℕ, suc, ◌≤◌, ◌<◌}
 use native.Mathlib.Omega.{arith}
 use lib.ListN.{length, get_or}
 use Rattle.model.specs.Lists.{without}
-use Rattle.model.specs.Answer.{good}
 use Rattle.model.specs.Tree.{Rec}
 use Rattle.model.specs.Binding.{kind, arg_ids}
 use Rattle.model.specs.Unfold.{Unfolded, Unfoldeds, lam, more, done}
