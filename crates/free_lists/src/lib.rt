@@ -1,6 +1,8 @@
 // Free lists stored with the symbols (materialize.rs, `free_vars`): a symbol's list is made of those of its children
 // when the symbol is made, and stands in the work words after those of the symbols before it, as long as there is room.
 // In order: where lists stand; what the symbols of a body give; a list gathered; a list stored.
+#![tactic(auto)]
+
 ghost use Rattle.std.specs.Prelude.{◌≡◌, List, [], ◌∷◌, ℕ, ◌+◌, ◌<◌, ◌≤◌, length, set, take};
 ghost use Rattle.model.specs.Schedule.{free_vars};
 ghost use Rattle.laws.specs.Gather.{gather_step};
