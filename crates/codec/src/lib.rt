@@ -1,5 +1,7 @@
 // Checks 2 to 6 of a forest, and checks 2 to 10 in order. A check gives the place where it fails.
 // In order: 2; 3; 4; 5; 6; all of them.
+#![tactic(auto)]
+
 ghost use Rattle.std.specs.Prelude.{◌≡◌, ◌+◌, ◌*◌, ◌<◌, ◌≤◌, length};
 ghost use Rattle.std.proofs.Math.Option.{none};
 ghost use Rattle.model.specs.Forest as model;

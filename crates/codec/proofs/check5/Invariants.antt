@@ -1,0 +1,13 @@
+-- `codec::check5` in its loops: what stays, and what falls. Assumes nothing.
+use Prim.Native.Nat.{◌-◌}
+use Rattle.model.specs.Forest.{check5}
+use Rattle.codec.proofs.Rows.{disagrees, Testing}
+use Rattle.codec.proofs.check5.Given as given
+
+abbrev pub invariant-loop-i : given.invariant-loop-i
+invariant-loop-i l =
+    Testing disagrees (check5 l.forest) l.forest l.n l.i
+
+abbrev pub decreases-loop-i : given.decreases-loop-i
+decreases-loop-i l =
+    l.n - l.i
