@@ -1,6 +1,8 @@
 // Text written over an output, front to back. Each function gives the place after its text; the rest of the output is
 // as it was.
 // In order: two bytes; a number in decimal; a byte in hexadecimal; lines with two numbers, that of a refusal among them.
+#![tactic(auto)]
+
 ghost use Rattle.std.specs.Prelude.{◌≡◌, [], ◌∷◌, ◌++◌, ◌+◌, ◌<◌, ◌≤◌, length};
 ghost use Rattle.model.specs.Lister.{numeral, hex_digit, hex_byte, refusal};
 ghost use Rattle.output.specs.Output.{Wrote};
