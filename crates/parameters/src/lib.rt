@@ -1,5 +1,7 @@
 // The parameters of a forest: its constants with a mark. In order: a record of a parameter; where one stands first; the
 // first record with another value than its parameter's first; how many parameters; how many definitions a tree has.
+#![tactic(auto)]
+
 ghost use Rattle.std.specs.Prelude.{◌≡◌, ◌<◌};
 ghost use Rattle.model.specs.Forest.{record_count, rows_in};
 ghost use Rattle.model.specs.Template.{is_parameter};
