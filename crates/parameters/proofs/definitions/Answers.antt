@@ -1,9 +1,9 @@
 -- `parameters::definitions` meets its contract. Assumes nothing.
+use borrow.Author.Rules.{rules}
 use native.Mathlib.Omega.{arith}
 use Rattle.laws.proofs.Header.{header_of}
 use Rattle.parameters.proofs.Counts.{counted_start, counted_all, counted_more, counted_same}
 use Rattle.parameters.proofs.definitions.Goals as goal
-use Rattle.parameters.proofs.definitions.Goals.{then-shape-eq-VAL_DEF, else-shape-eq-VAL_DEF}
 
 pub shape-requires : goal.shape-requires
 shape-requires c =
@@ -12,12 +12,9 @@ shape-requires c =
 pub loop-i-preserved : goal.loop-i-preserved
 loop-i-preserved c =
     let inv = c.loop-i.invariant in
-    elim c.if-shape-eq-VAL_DEF.branch [
-      | then-shape-eq-VAL_DEF w ↦
-          rw w.count-is (counted_more inv _ c.shape.ensures c.loop-i-test.true w.if-shape-eq-VAL_DEF.true)
-      | else-shape-eq-VAL_DEF w ↦
-          rw w.count-is (counted_same inv _ c.shape.ensures c.loop-i-test.true w.if-shape-eq-VAL_DEF.false)
-    ]
+    let more = counted_more inv _ c.shape.ensures c.loop-i-test.true in
+    let same = counted_same inv _ c.shape.ensures c.loop-i-test.true in
+    search (rules, more, same)
 
 pub record_count-n-requires : goal.record_count-n-requires
 record_count-n-requires c =
