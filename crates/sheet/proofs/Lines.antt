@@ -147,20 +147,20 @@ module _ (s op aux : ℕ) (lit : List ℕ) where
   own_field e = rw e
 
   -- of any other shape nothing
-  pub own_none : ((((Unit {0} × (s ≡ 0 → ⊥)) × (s ≡ 7 → ⊥)) × (s ≡ 10 → ⊥)) × (s ≡ 12 → ⊥)) × (s ≡ 17 → ⊥) →
+  pub own_none : (s ≡ 0 → ⊥) → (s ≡ 7 → ⊥) → (s ≡ 10 → ⊥) → (s ≡ 12 → ⊥) → (s ≡ 17 → ⊥) →
       [] ≡ own_text (rec s op aux lit)
   unfolding own_text kind
-  own_none n = go (eqb s 11) refl
+  own_none n_0 n_7 n_10 n_12 n_17 = go (eqb s 11) refl
     where
       go : (b : Bool) → eqb s 11 ≡ b → [] ≡ own_text (rec s op aux lit)
       go true e =
-          let k : kind s ≡ block = rw (ne_eqb s 7 n.0.0.0.1, ne_eqb s 10 n.0.0.1, e, kind) in
+          let k : kind s ≡ block = rw (ne_eqb s 7 n_7, ne_eqb s 10 n_10, e, kind) in
           rw (k, own_text)
       go false e =
-          let e17 = ne_eqb s 17 n.1 in
+          let e17 = ne_eqb s 17 n_17 in
           let k : kind s ≡ other =
-          rw (ne_eqb s 7 n.0.0.0.1, ne_eqb s 10 n.0.0.1, e, ne_eqb s 12 n.0.1, e17, kind) in
-          rw (k, own_text, ne_eqb s 0 n.0.0.0.0.1)
+          rw (ne_eqb s 7 n_7, ne_eqb s 10 n_10, e, ne_eqb s 12 n_12, e17, kind) in
+          rw (k, own_text, ne_eqb s 0 n_0)
 
 -- ---- a line
 

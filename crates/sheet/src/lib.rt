@@ -9,6 +9,8 @@
 // Text goes into a buffer from a place on, as far as there is room, and each function gives the place after it; no
 // other byte is touched (`Clipped`). A forest that a check refuses has one line, as `refused 10 at 0`.
 // In order: a record's number and depth; what it has; its line; trees; the sheet; the line of a refusal.
+#![tactic(auto)]
+
 mod clip;
 mod names;
 

@@ -71,10 +71,10 @@ pub fn put_shape(out: &mut [u8], at: usize, shape: u8) -> usize
     put_entry(
         out,
         at,
-        b"\x00_const,\x01_unparsed,\x02_zero,\x03_one,\x04_two,\x05_three,\x06_four,\x07_val_use,\x08_const_placeholder,\
-          \x09_tagged_var,\x0_aVal_def,\x0_bBlock_value,\x0_cFunc_value,\x0_dMethod_call,\x0_eConcrete_collection,\x0_fBool_collection,\
-          \x10_tuple,\x11_select_field,\x12_extract_register_as,\x13_get_var,\x14_deserialize_context,\x15_deserialize_register,\
-          \x16_sigma_collection,\x17_none_value,\x18_by_index,\x19_numeric_cast,\x1_aFunc_apply,",
+        b"\x00Const,\x01Unparsed,\x02Zero,\x03One,\x04Two,\x05Three,\x06Four,\x07ValUse,\x08ConstPlaceholder,\
+          \x09TaggedVar,\x0AValDef,\x0BBlockValue,\x0CFuncValue,\x0DMethodCall,\x0EConcreteCollection,\x0FBoolCollection,\
+          \x10Tuple,\x11SelectField,\x12ExtractRegisterAs,\x13GetVar,\x14DeserializeContext,\x15DeserializeRegister,\
+          \x16SigmaCollection,\x17NoneValue,\x18ByIndex,\x19NumericCast,\x1AFuncApply,",
         shape,
     )
 }
@@ -82,7 +82,7 @@ pub fn put_shape(out: &mut [u8], at: usize, shape: u8) -> usize
 // A constant's class at `at`; the answer is the place after it. Rules out: another class; a name for a class over 6.
 pub fn put_class(out: &mut [u8], at: usize, class: u8) -> usize
     requires { at ≤ length out.old }
-    ensures { Clipped out.old at (named (text "  ") classNames class) out.new result }
+    ensures { Clipped out.old at (named (text "  ") class_names class) out.new result }
 {
     put_entry(
         out,
@@ -96,7 +96,7 @@ pub fn put_class(out: &mut [u8], at: usize, class: u8) -> usize
 // name before the number.
 pub fn put_opcode(out: &mut [u8], at: usize, opcode: u8) -> usize
     requires { at ≤ length out.old }
-    ensures { Clipped out.old at (opcodeText opcode) out.new result }
+    ensures { Clipped out.old at (opcode_text opcode) out.new result }
 {
     let space = put(out, at, b' ');
     let end = put_hex(out, space, opcode);
@@ -106,15 +106,15 @@ pub fn put_opcode(out: &mut [u8], at: usize, opcode: u8) -> usize
 // The name of an opcode, after a space.
 fn put_operation(out: &mut [u8], at: usize, opcode: u8) -> usize
     requires { at ≤ length out.old }
-    ensures { Clipped out.old at (named (text " ") opcodeNames opcode) out.new result }
+    ensures { Clipped out.old at (named (text " ") opcode_names opcode) out.new result }
 {
     put_entry(
         out,
         at,
-        b"\x7_e Upcast,\x7_f True,\x80 False,\x82 GroupGenerator,\x8_f LT,\x90 LE,\x91 GT,\x92 GE,\x93 EQ,\x94 NEQ,\
-          \x95 IF,\x96 AND,\x97 OR,\x99 MINUS,\x9_a PLUS,\x9_c MULTIPLY,\x9_d DIVISION,\x9_e MODULO,\x_a1 MIN,\x_a2 MAX,\
-          \x_a3 HEIGHT,\x_a4 INPUTS,\x_a5 OUTPUTS,\x_a6 LastBlockUtxoRootHash,\x_a7 SELF_BOX,\x_ac MinerPubkey,\x_b1 SIZE_OF,\
-          \x_dd GLOBAL,\x_e5 OptionGetOrElse,\x_ec BIN_OR,\x_ed BIN_AND,\x_ef LOGICAL_NOT,\x_f0 NEGATION,\x_f4 BIN_XOR,\x_fe Context,",
+        b"\x7E Upcast,\x7F True,\x80 False,\x82 GroupGenerator,\x8F LT,\x90 LE,\x91 GT,\x92 GE,\x93 EQ,\x94 NEQ,\
+          \x95 IF,\x96 AND,\x97 OR,\x99 MINUS,\x9A PLUS,\x9C MULTIPLY,\x9D DIVISION,\x9E MODULO,\xA1 MIN,\xA2 MAX,\
+          \xA3 HEIGHT,\xA4 INPUTS,\xA5 OUTPUTS,\xA6 LastBlockUtxoRootHash,\xA7 SELF_BOX,\xAC MinerPubkey,\xB1 SIZE_OF,\
+          \xDD GLOBAL,\xE5 OptionGetOrElse,\xEC BIN_OR,\xED BIN_AND,\xEF LOGICAL_NOT,\xF0 NEGATION,\xF4 BIN_XOR,\xFE Context,",
         opcode,
     )
 }

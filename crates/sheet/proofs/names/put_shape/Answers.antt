@@ -1,0 +1,15 @@
+-- `sheet::names::put_shape` meets its contract. Assumes nothing.
+use mathlib.Core.Path.{refl}
+use mathlib.Core.List.{[]}
+use Rattle.model.specs.Text.{text}
+use Rattle.model.specs.Sheet.{shape_names}
+use Rattle.sheet.specs.Table.{packed}
+use Rattle.sheet.proofs.Clipping.{clipped_as}
+use Rattle.sheet.proofs.Table.{entry_named}
+use Rattle.sheet.proofs.names.put_shape.Goals as goal
+
+-- the code's table is model's
+pub returns : goal.returns
+unfolding text packed shape_names
+returns c =
+    clipped_as c.put_entry.ensures (entry_named [] shape_names _ refl)

@@ -1,0 +1,53 @@
+-- `sheet::put_own` meets its contract. Assumes nothing.
+use Prim.Native.Nat.{ℕ}
+use mathlib.Core.Path.{sym, ap, subst, ◌∙◌}
+use native.Mathlib.Omega.{arith}
+use Rattle.model.specs.Sheet.{args_text}
+use Rattle.shape.specs.Args.{Left}
+use Rattle.shape.proofs.Fitting.{fits_use, fits_def, fits_func, fits_field}
+use Rattle.walk.specs.Words.{arg_ids_at}
+use Rattle.sheet.proofs.Clipping.{clipped_none, clipped_as}
+use Rattle.sheet.proofs.Lines.{own_const, own_use, own_def, own_args, own_field, own_none}
+use Rattle.sheet.proofs.put_own.Goals as goal
+
+pub put_id-requires : goal.put_id-requires
+put_id-requires c =
+    (c.requires.at_in_bounds, omega (arith, fits_use _ c.requires.fits.is c.in-7.is))
+
+pub put_id-requires-in-10 : goal.put_id-requires-in-10
+put_id-requires-in-10 c =
+    (c.requires.at_in_bounds, (fits_def _ c.requires.fits.is c.in-10.is).1)
+
+pub put_args-requires : goal.put_args-requires
+put_args-requires c =
+    let left = (fits_func _ c.requires.fits.is c.in-12.is).2 in record { at_in_bounds = c.requires.at_in_bounds; left = subst (λ (n : ℕ). Left n c.args.lit.now 0) (sym c.wide.ensures.0) left }
+
+pub put_field-requires : goal.put_field-requires
+put_field-requires c =
+    (c.requires.at_in_bounds, omega (arith, (fits_field _ c.requires.fits.is c.in-17.is).1))
+
+pub returns-in-0 : goal.returns-in-0
+returns-in-0 c op =
+    clipped_as c.put_const.ensures (own_const _ op _ _ c.in-0.is)
+
+pub returns-in-7 : goal.returns-in-7
+returns-in-7 c op =
+    clipped_as c.put_id.ensures (own_use _ op _ _ c.in-7.is)
+
+pub returns-in-10 : goal.returns-in-10
+returns-in-10 c op =
+    clipped_as c.put_id-in-10.ensures (own_def _ op _ _ c.in-10.is)
+
+pub returns-in-12 : goal.returns-in-12
+returns-in-12 c op =
+    let a = c.args in
+    clipped_as c.put_args.ensures
+    (ap (λ (n : ℕ). args_text (arg_ids_at n a.lit.now)) c.wide.ensures.0 ∙ own_args _ op _ _ c.in-12.is)
+
+pub returns-in-17 : goal.returns-in-17
+returns-in-17 c op =
+    clipped_as c.put_field.ensures (own_field _ op _ _ c.in-17.is)
+
+pub returns-in_default : goal.returns-in_default
+returns-in_default c op =
+    clipped_as (clipped_none _ _ c.requires.at_in_bounds) (own_none _ op _ _ (λ e. omega arith) (λ e. omega arith) (λ e. omega arith) (λ e. omega arith) (λ e. omega arith))
