@@ -3,8 +3,6 @@ use Rattle.laws.proofs.Frame.{frame_then}
 use Rattle.codec.proofs.Accepting.{passed, all_passed}
 use Rattle.codec.proofs.bindings.Goals as goal
 
--- In each answer `w` is the place after the one walk.
-
 pub returns-in-At : goal.returns-in-At
 returns-in-At c =
     record {

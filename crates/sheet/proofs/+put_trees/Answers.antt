@@ -13,12 +13,18 @@ returns-then-count-eq0 t c =
 pub put_line-end-requires : goal.put_line-end-requires
 put_line-end-requires t c =
     let p = c.requires in
-    let there = record-there _ _ p.count_bound.0 c.if-count-eq0.false in record { at_in_bounds = (p.count_bound.1, omega (arith, p.count_bound.2, there, records_few _ p.well_formed)); well_formed = p.well_formed; i_bound = there }
+    let there = record-there _ _ p.count_bound.0 c.if-count-eq0.false in
+    record {
+      at_in_bounds = (p.count_bound.1, omega (arith, p.count_bound.2, there, records_few _ p.well_formed));
+      well_formed = p.well_formed;
+      i_bound = there;
+    }
 
 pub kids-kids-requires : goal.kids-kids-requires
 kids-kids-requires t c =
     let p = c.requires in
-    let there = record-there _ _ p.count_bound.0 c.if-count-eq0.false in record { laid = p.well_formed.laid; i_bound = there }
+    let there = record-there _ _ p.count_bound.0 c.if-count-eq0.false in
+    record { laid = p.well_formed.laid; i_bound = there }
 
 pub overflow_add-inside : goal.overflow_add-inside
 overflow_add-inside t c =
@@ -66,5 +72,6 @@ shape_of-out t c =
 pub returns : goal.returns
 returns t c =
     let p = c.requires in
-    shown_more _ _ _ _ p.count_bound.0 c.if-count-eq0.false _ c.kids-kids.ensures.0 c.put_line-end.ensures c.put_trees-below.ensures
+    shown_more _ _ _ _ p.count_bound.0 c.if-count-eq0.false _ c.kids-kids.ensures.0 c.put_line-end.ensures
+    c.put_trees-below.ensures
     c.put_trees.ensures

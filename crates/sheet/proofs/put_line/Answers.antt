@@ -4,8 +4,6 @@ use Rattle.sheet.proofs.Clipping.{clipped_room}
 use Rattle.sheet.proofs.Lines.{fits_at, line_parts}
 use Rattle.sheet.proofs.put_line.Goals as goal
 
--- In each answer `l` is the place after the literal, and `b` the start.
-
 pub put_own-owned-requires : goal.put_own-owned-requires
 put_own-owned-requires c =
     record {

@@ -20,7 +20,11 @@ put_id-requires-in-10 c =
 
 pub put_args-requires : goal.put_args-requires
 put_args-requires c =
-    let left = (fits_func _ c.requires.fits.is c.in-12.is).2 in record { at_in_bounds = c.requires.at_in_bounds; left = subst (λ (n : ℕ). Left n c.args.lit.now 0) (sym c.wide.ensures.0) left }
+    let left = (fits_func _ c.requires.fits.is c.in-12.is).2 in
+    record {
+      at_in_bounds = c.requires.at_in_bounds;
+      left = subst (λ (n : ℕ). Left n c.args.lit.now 0) (sym c.wide.ensures.0) left;
+    }
 
 pub put_field-requires : goal.put_field-requires
 put_field-requires c =
@@ -50,4 +54,6 @@ returns-in-17 c op =
 
 pub returns-in_default : goal.returns-in_default
 returns-in_default c op =
-    clipped_as (clipped_none _ _ c.requires.at_in_bounds) (own_none _ op _ _ (λ e. omega arith) (λ e. omega arith) (λ e. omega arith) (λ e. omega arith) (λ e. omega arith))
+    clipped_as (clipped_none _ _ c.requires.at_in_bounds)
+    (own_none _ op _ _ (λ e. omega arith) (λ e. omega arith) (λ e. omega arith) (λ e. omega arith)
+    (λ e. omega arith))

@@ -11,7 +11,11 @@ tree_count-requires c =
 
 pub put_trees-all-requires : goal.put_trees-all-requires
 put_trees-all-requires c =
-    let n = c.tree_count in record { well_formed = c.requires; count_bound = (trees_there c.args.forest.now n.result c.requires n.ensures.0, omega arith, omega arith) }
+    let n = c.tree_count in
+    record {
+      well_formed = c.requires;
+      count_bound = (trees_there c.args.forest.now n.result c.requires n.ensures.0, omega arith, omega arith);
+    }
 
 pub returns : goal.returns
 returns c =
