@@ -2,6 +2,8 @@
 // key; a lambda's arguments; projections, the steps of which are in projections.rt.
 // A symbol that is found or made is given as a number alone, from which the state after it follows: a number comes back
 // in a register, a state through memory.
+#![tactic(auto)]
+
 mod projections;
 
 ghost use Rattle.std.specs.Prelude.{◌≡◌, true, ℕ, ◌+◌, ◌*◌, ◌<◌, ◌≤◌, eqb, length, get_or};
