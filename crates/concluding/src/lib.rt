@@ -4,6 +4,8 @@
 // definition has it. Then the words hold the state of the step (`Answers`), after a refusal the one in which it was met;
 // the words of symbols, slots, entries and remembered pairs may have changed, and no others (`Leaves`). A function that
 // only reads the words gives the state as it was, and refuses nothing.
+#![tactic(auto)]
+
 ghost use Rattle.std.specs.Prelude.{◌≡◌, false, ◌||◌, [], ℕ, ◌+◌, ◌<◌, ◌≤◌, eqb, length, get_or};
 ghost use Rattle.regions.specs.Regions.{PENDING, WORDS};
 ghost use Rattle.model.specs.Lists.{last};

@@ -1,6 +1,8 @@
 // What interning does to its state beside making symbols: readings counted, thunks opened and closed, bodies of lambdas
 // opened (intern.rs). Each function gives the state after it; none refuses. Those that are lent the words write the word
 // of the new scope, and no other.
+#![tactic(auto)]
+
 ghost use Rattle.std.specs.Prelude.{◌≡◌, ◌+◌, ◌<◌, ◌≤◌, length};
 ghost use Rattle.regions.specs.Regions.{WORDS};
 ghost use Rattle.scopes.specs.Scopes.{scope_word, level_of, with_thunk, with_lambda};

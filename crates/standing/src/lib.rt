@@ -1,1 +1,2 @@
 // No code: this crate is what holds at each point of interning, in specs/ and proofs/, for the walk over records.
+#![tactic(auto)]
