@@ -1,5 +1,7 @@
 // The lister's lines, written over an output. In order: a number; a symbol's columns; its line; all symbols.
 // A refusal's line is written by `text`.
+#![tactic(auto)]
+
 ghost use Rattle.std.specs.Prelude.{◌≡◌, List, [], ◌∷◌, ◌++◌, ℕ, ◌+◌, ◌*◌, ◌<◌, ◌≤◌, length};
 ghost use Rattle.model.specs.Forest.{record_count};
 ghost use Rattle.model.specs.Intern.{sym_at};
