@@ -94,14 +94,14 @@ pub record Lambda (bs ws : List ℕ) (t : Tables) (st : State) (i : ℕ) (at : H
   pub counted : CountedAt bs ws t st i at
 
 pub lambda_given : {bs ws : List ℕ} {t : Tables} {st : State} {i : ℕ} {at : Here} →
-    WellFormed bs × (((i < record_count bs) × ((rec_at bs i).shape ≡ 12))
-    × (StandsAt bs ws t st i at × CountedAt bs ws t st i at)) → Lambda bs ws t st i at
-lambda_given p = record {
-  sound = p.0;
-  there = p.1.0.0;
-  shape = p.1.0.1;
-  stands = p.1.1.0;
-  counted = p.1.1.1;
+    WellFormed bs → (i < record_count bs) × ((rec_at bs i).shape ≡ 12) → StandsAt bs ws t st i at →
+    CountedAt bs ws t st i at → Lambda bs ws t st i at
+lambda_given sound there stands counted = record {
+  sound = sound;
+  there = there.0;
+  shape = there.1;
+  stands = stands;
+  counted = counted;
 }
 
 module _ {bs ws : List ℕ} {t : Tables} {st : State} {i : ℕ} {at : Here} (h : Lambda bs ws t st i at) where

@@ -168,17 +168,17 @@ pub record Counts (bs ws : List ℕ) (t : Tables) (st : State) (i : ℕ) (at : H
   pub is : counted ≡ with_reading st
 
 module _ {bs ws : List ℕ} {t : Tables} {st : State} {i : ℕ} {at : Here}
-    (p : WellFormed bs × ((i < record_count bs) × (StandsAt bs ws t st i at × LegibleAt bs ws t st i at)))
-    (unread : st.readings ≡ 2048 → ⊥) where
+    (stands : StandsAt bs ws t st i at) (unread : st.readings ≡ 2048 → ⊥) where
   pub record-left : st.readings < 2048
-  record-left = let few = p.1.1.0.rep.few_readings in omega (arith, few, unread)
+  record-left = let few = stands.rep.few_readings in omega (arith, few, unread)
 
-  pub counted_given : {counted : State} → counted ≡ with_reading st → Counts bs ws t st i at counted
-  counted_given e = record {
-    sound = p.0;
-    there = p.1.0;
-    stands = p.1.1.0;
-    legible = p.1.1.1;
+  pub counted_given : {counted : State} → counted ≡ with_reading st → WellFormed bs → i < record_count bs →
+      LegibleAt bs ws t st i at → Counts bs ws t st i at counted
+  counted_given e sound there legible = record {
+    sound = sound;
+    there = there;
+    stands = stands;
+    legible = legible;
     few = record-left;
     is = e;
   }

@@ -129,12 +129,12 @@ pub record Selecting (bs ws : List ℕ) (t : Tables) (st : State) (i : ℕ) (at 
   pub code : (rec_at bs i).opcode ≡ 0x8C
 
 pub selecting_given : {bs ws : List ℕ} {t : Tables} {st : State} {i : ℕ} {at : Here} →
-    WellFormed bs × ((i < record_count bs) × ((((rec_at bs i).shape ≡ 17) × ((rec_at bs i).opcode ≡ 0x8C))
-    × (StandsAt bs ws t st i at × WellKids bs ws t st i at))) → Selecting bs ws t st i at
-selecting_given p = record {
-  parent = record { sound = p.0; there = p.1.0; stands = p.1.1.1.0; well = p.1.1.1.1 };
-  shape = p.1.1.0.0;
-  code = p.1.1.0.1;
+    WellFormed bs → i < record_count bs → ((rec_at bs i).shape ≡ 17) × ((rec_at bs i).opcode ≡ 0x8C) →
+    StandsAt bs ws t st i at → WellKids bs ws t st i at → Selecting bs ws t st i at
+selecting_given sound there selects stands well = record {
+  parent = record { sound = sound; there = there; stands = stands; well = well };
+  shape = selects.0;
+  code = selects.1;
 }
 
 module _ {bs ws : List ℕ} {t : Tables} {st : State} {i : ℕ} {at : Here} (h : Selecting bs ws t st i at) where

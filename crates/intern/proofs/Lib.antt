@@ -1,6 +1,7 @@
 -- Laws that the function proofs cite. Assumes nothing.
 pub mod Kept
 pub mod After
+pub mod Weight
 pub mod Remains
 pub mod Reading
 pub mod Bodies

@@ -3,7 +3,7 @@
 -- read, and what is known once they are.
 -- Assumes nothing.
 use Prim.Native.Nat.{ℕ, zero, suc, ◌+◌, ◌<◌, ◌≤◌}
-use mathlib.Core.Path.{◌≡◌, refl, sym, ap, ◌∙◌}
+use mathlib.Core.Path.{◌≡◌, refl, sym, ap, ◌∙◌, subst}
 use mathlib.Core.Logic.{◌⊎◌, inl, inr}
 use mathlib.Core.Bool.{Bool, true, false}
 use mathlib.Core.List.{List, []}
@@ -150,7 +150,8 @@ unfolding words_from
 pending_in ws at zero j l = absurd (omega arith)
 pending_in ws at (suc n) zero l = let e : at + 0 ≡ at = omega arith in inl (rw e)
 pending_in ws at (suc n) (suc j) l =
-    let e : at + suc j ≡ suc at + j = omega arith in inr (rw e (pending_in ws (suc at) n j (omega arith)))
+    let e : suc at + j ≡ at + suc j = omega arith in
+    inr (subst (λ (z : ℕ). In (get_or ws z 0) (words_from ws (suc at) n)) e (pending_in ws (suc at) n j (omega arith)))
 
 -- a record whose children may be read
 pub record Parent (bs ws : List ℕ) (t : Tables) (st : State) (i : ℕ) (at : Here) : Type 0 where

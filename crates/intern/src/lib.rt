@@ -2,6 +2,8 @@
 // in work words, from `held` on. The ids in force stand in work words too. The stack of open tables, t, is handed down.
 // In order: what a walk is given and gives; a lambda's body; what a record gives; the walk; a forest. Its small steps
 // are in small.rt.
+#![tactic(auto)]
+
 mod small;
 
 ghost use Rattle.std.specs.Prelude.{◌≡◌, ◌<◌, ◌≤◌, length};
@@ -159,7 +161,7 @@ fn complete(forest: &[u8], work: &mut [u32], t: Tables, i: usize, at: Here, k: K
 // ---- the walk
 
 // Record i's subtree. Rules out: a reading that is not counted; the record after i's first child.
-#[cycle(field_in_thunk_lambda_operands_subtree)]
+#[cycle(interning)]
 fn subtree(forest: &[u8], work: &mut [u32], t: Tables, i: usize, at: Here, st: State) -> Read
     requires well_formed { WellFormed forest.now }
     requires i_bound { i < record_count forest.now }
@@ -196,7 +198,7 @@ fn subtree(forest: &[u8], work: &mut [u32], t: Tables, i: usize, at: Here, st: S
 }
 
 // A lambda. Rules out: arguments in force past its body; a body that is read in the lambda's own scope.
-#[cycle(field_in_thunk_lambda_operands_subtree)]
+#[cycle(interning)]
 fn lambda(forest: &[u8], work: &mut [u32], t: Tables, i: usize, at: Here, st: State) -> Read
     requires well_formed { WellFormed forest.now }
     requires i_bound { (i < record_count forest.now) × ((rec_at forest.now i).shape ≡ 12) }
@@ -232,7 +234,7 @@ fn lambda(forest: &[u8], work: &mut [u32], t: Tables, i: usize, at: Here, st: St
 
 // A SelectField. A Tuple's input is read again; where that gives the same, its readings are only counted again. Rules
 // out: the input of a Tuple's field counted once; any other input read twice.
-#[cycle(field_in_thunk_lambda_operands_subtree)]
+#[cycle(interning)]
 fn field(forest: &[u8], work: &mut [u32], t: Tables, i: usize, at: Here, st: State) -> Selected
     requires well_formed { WellFormed forest.now }
     requires i_bound { i < record_count forest.now }
@@ -261,7 +263,7 @@ fn field(forest: &[u8], work: &mut [u32], t: Tables, i: usize, at: Here, st: Sta
 // The operands of an opcode, `count` of them from record i on. `subtree` is called here and nowhere else, so that the
 // compiler makes one function of the two. Rules out: a symbol stored over an older pending one; a definition in force in
 // its own value; the scope of a thunk not noted.
-#[cycle(field_in_thunk_lambda_operands_subtree)]
+#[cycle(interning)]
 fn operands(
     forest: &[u8],
     work: &mut [u32],
@@ -304,7 +306,7 @@ fn operands(
 
 // A child in a thunk of its own, read as the one operand of nothing: opcode 0 has no thunks. Rules out: a thunk's table
 // left open; a symbol made in the thunk that is found after it.
-#[cycle(field_in_thunk_lambda_operands_subtree)]
+#[cycle(interning)]
 fn in_thunk(forest: &[u8], work: &mut [u32], t: Tables, i: usize, at: Here, st: State) -> Read
     requires well_formed { WellFormed forest.now }
     requires i_bound { i < record_count forest.now }

@@ -1,0 +1,15 @@
+-- `intern::small::repeated` meets its contract. Assumes nothing.
+use mathlib.Core.Path.{ap}
+use Rattle.interner.specs.declared.State.{State}
+use Rattle.intern.proofs.small.repeated.Goals as goal
+
+pub returns : goal.returns
+returns c =
+    let k = c.args.k in
+    ap (λ (st : State). record {
+      st = st;
+      number = k.number;
+      place = k.place;
+      next = k.next;
+      branches = k.branches;
+    }) c.count_readings-st.ensures
