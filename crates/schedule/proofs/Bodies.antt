@@ -7,7 +7,7 @@ use mathlib.Core.List.{List, []}
 use native.Mathlib.Omega.{arith}
 use lib.ListN.{length, take, replicate}
 use Rattle.model.specs.Gate.{sym_of}
-use Rattle.model.specs.Schedule.{Rel, local, deeper, outside, rel_of, each, visit, body_neighbours, local_dep_order, outsiders}
+use Rattle.model.specs.Schedule.{local, deeper, outside, rel_of, each, visit, body_neighbours, local_dep_order, outsiders}
 use Rattle.model.specs.Schedule.{collect, free_step, free_vars}
 use Rattle.laws.proofs.Falls.{free_falls}
 use Rattle.laws.proofs.Later.{slots_same}

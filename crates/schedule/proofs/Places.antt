@@ -1,5 +1,5 @@
 -- Where the neighbours of a symbol stand in the words. In order: its children's words; by how it lies, no words, these,
--- or those of its free list; what a match tells.
+-- or those of its free list.
 -- Assumes nothing.
 use Prim.Native.Nat.{ℕ, suc, ◌+◌, ◌-◌, ◌<◌, ◌≤◌}
 use mathlib.Core.Path.{◌≡◌, refl, sym, ap, subst, ◌∙◌}
@@ -29,7 +29,7 @@ use Rattle.free_lists.specs.declared.Run.TheVariants.{Words, Unstored}
 use Rattle.free_lists.specs.FreeLists.{end_at, list_at, run_of, Stocked}
 use Rattle.free_lists.proofs.Filed.{stored_rising, stored_is}
 use Rattle.free_lists.proofs.Giving.{kids_below}
-use Rattle.schedule.specs.Schedule.{stops, near_of, NearWords, NearFree, Nearby}
+use Rattle.schedule.specs.Schedule.{stops, near_of, NearWords, Nearby}
 use Rattle.schedule.proofs.Orders.{near_end, near_rel, told}
 
 -- ---- the words of the children
@@ -105,13 +105,3 @@ module _ {bs ws : List ℕ} {n m : ℕ} (stock : Stocked bs ws n m) (b : Bool) (
               below = record { fit = omega (arith, stored_rising stock.lists s lt fits); low = low is };
               is = is ∙ sym (near_rel (graph_of bs ws n m []) b cs s goes deeper lies);
             }
-
--- ---- what a match on where they stand tells
-
-module _ {bs ws : List ℕ} {n m : ℕ} {b : Bool} {cs s : ℕ} {r : Run} where
-  pub in_words : {from count : ℕ} → r ≡ Words from count → Nearby bs ws n m b cs s r →
-      NearWords bs ws n m b cs s from count
-  in_words e h = subst (Nearby bs ws n m b cs s) e h
-
-  pub unstored : r ≡ Unstored → Nearby bs ws n m b cs s r → NearFree bs ws n m b cs s
-  unstored e h = subst (Nearby bs ws n m b cs s) e h

@@ -5,6 +5,8 @@
 // it lists the outsiders that the symbol needs.
 // What nests: `visit` and `run` once a symbol, with no array. `across` (1 KB) and `free` (0.5 KB) open arrays: they are
 // called only for a symbol in a deeper scope whose free list is not stored.
+#![tactic(auto)]
+
 ghost use Rattle.std.specs.Prelude.{◌≡◌, true, [], ◌∷◌, ◌++◌, ◌+◌, ◌<◌, length, get_or, set, replicate};
 ghost use Rattle.model.specs.Schedule.{each, outsiders};
 ghost use Rattle.record.specs.Record.{Laid};
@@ -158,7 +160,7 @@ fn put(
 // ---- free lists, body order and neighbours: each calls the next on the same symbol, or `visit` on lower ones
 
 // Symbol s, which was not seen, after its neighbours, unless it is passed over.
-#[cycle(across_free_run_visit)]
+#[cycle(scheduling)]
 fn visit(
     forest: &[u8],
     work: &[u32],
@@ -191,7 +193,7 @@ fn visit(
 }
 
 // The symbols in `count` words from `from` on, all below `top`, each visited.
-#[cycle(across_free_run_visit)]
+#[cycle(scheduling)]
 fn run(
     forest: &[u8],
     work: &[u32],
@@ -226,7 +228,7 @@ fn run(
 }
 
 // Symbol s, whose free list is its neighbours' and is not stored, after each of these.
-#[cycle(across_free_run_visit)]
+#[cycle(scheduling)]
 fn across(
     forest: &[u8],
     work: &[u32],
@@ -268,7 +270,7 @@ fn across(
 // What symbol c refers to outside its scope (`free_vars`), into the list; how many there are. The body is walked once:
 // each symbol's outsiders are listed when it is visited.
 // Rules out: a symbol twice; the eager children of an IF before its arms; a change past the list's end.
-#[cycle(across_free_run_visit)]
+#[cycle(scheduling)]
 fn free(forest: &[u8], work: &[u32], g: Graph, c: usize, list: &mut [u16]) -> usize
     requires laid { Laid forest.now }
     requires stocked { Stocked forest.now work.now g.symbols g.scopes }
