@@ -151,6 +151,7 @@ members_more gr sc env order i s k b lt e f g =
 
 module _ (gr : Graph) (sc : ℕ) (env : Env) where
   members_some : (xs : List ℕ) (s : ℕ) → In s xs → member gr sc env s ≡ true → 0 < members_in gr sc env xs
+  members_some [] s m is = elim m [ ]
   members_some (x ∷ xs) s (inl e) is =
       omega (arith, members_member gr sc x xs env (ap (member gr sc env) (sym e) ∙ is))
   members_some (x ∷ xs) s (inr m) is = go (member gr sc env x) refl (members_some xs s m is)

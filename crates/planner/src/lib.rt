@@ -1,5 +1,7 @@
 // What planning a tree is made of. In order: the plan so far, and one row more; the ids of symbols; where an operand is
 // built; the symbols that get a definition in a scope.
+#![tactic(auto)]
+
 ghost use Rattle.std.specs.Prelude.{◌≡◌, ℕ, ◌+◌, ◌<◌, ◌≤◌, max, length, get_or, take, replicate};
 ghost use Rattle.std.proofs.lemmas.List.Edits.{sets};
 ghost use Rattle.laws.specs.Range.{range};
