@@ -25,25 +25,21 @@ from concurrent.futures import ThreadPoolExecutor
 
 TOP = os.path.dirname(os.path.dirname(os.path.abspath(__file__)))
 MODEL = os.path.join(TOP, "crates", "model")
-SPECS = "Rattle·model·specs.specs"
+SPECS = "Rattle.model.specs"
 
 HEAD = f"""-- Rows from outside.
-use Prim.Native.Nat.{{ℕ, zero, suc, _+_, _*_, _/_, _%_}}
-use mathlib.Core.Path.{{_≡_, refl}}
-use mathlib.Core.Bool.{{Bool, true, false, _&&_}}
-use mathlib.Core.Option.{{Option, none, some}}
-use mathlib.Core.List.{{List, [], _∷_}}
-use native.Mathlib.Omega.{{arith}}
-use lib.Dec.{{eqb}}
+use Rattle.std.specs.Prelude.{{ℕ, zero, suc, ◌+◌, ◌*◌, ◌/◌, ◌%◌, ◌≡◌, refl, Bool, true, false, ◌&&◌, List, [], ◌∷◌, eqb}}
+use Rattle.std.proofs.Math.Option.{{Option, none, some}}
+use Rattle.std.proofs.Common.{{arith}}
 use {SPECS}.Lists.{{same}}
 use {SPECS}.Answer.{{Answer, refused, good}}
 use {SPECS}.Tree.{{Rec, root}}
-use {SPECS}.Forest.{{treesOf}}
-use {SPECS}.Call.{{Written, Numbers, ample, run, numbersOf}}
+use {SPECS}.Forest.{{trees_of}}
+use {SPECS}.Call.{{Written, Numbers, ample, run, numbers_of}}
 use {SPECS}.Lister.{{lister}}
 use {SPECS}.Sheet.{{sheet}}
-use {SPECS}.Template.{{Filling, fillForest}}
-use {SPECS}.TemplateLine.{{templateLine}}
+use {SPECS}.Template.{{Filling, fill_forest}}
+use {SPECS}.TemplateLine.{{template_line}}
 use {SPECS}.Failing.{{Semantics, eval}}
 use {SPECS}.Computing.{{computing}}
 
@@ -54,22 +50,22 @@ bytes (suc k) n = n % 256 ∷ bytes k (n / 256)
 
 written : Answer Written → List ℕ
 written (refused n p) = []
-written (good w) = w .bytes
+written (good w) = w.bytes
 
 gives : Answer Written → Numbers → List ℕ → Bool
-unfolding same numbersOf
+unfolding same numbers_of
 gives a w tree =
-    let n = numbersOf a in
-    eqb (n .number) (w .number) && eqb (n .place) (w .place) && eqb (n .len) (w .len) && eqb (n .symbols) (w .symbols) &&
-    eqb (n .readings) (w .readings) && same (written a) tree
+    let n = numbers_of a in
+    eqb n.number w.number && eqb n.place w.place && eqb n.len w.len && eqb n.symbols w.symbols &&
+    eqb n.readings w.readings && same (written a) tree
 
 -- the literal for an aux, by its first byte and the others; one byte, 0, for an aux without a value
 chosen : List (ℕ × ℕ × List ℕ) → ℕ → ℕ × List ℕ
 chosen [] a = (0, [])
-chosen (v ∷ vs) a = elim (eqb (v .0) a) [ true ↦ (v .1, v .2) | false ↦ chosen vs a ]
+chosen (v ∷ vs) a = elim (eqb v.0 a) [ true ↦ (v.1, v.2) | false ↦ chosen vs a ]
 
 filling : List (ℕ × ℕ × List ℕ) → Filling
-filling vs = record {{ literal = λ a. let c = chosen vs a in c .0 ∷ c .1; some-bytes = λ a l. omega arith }}
+filling vs = record {{ literal = λ a. let c = chosen vs a in c.0 ∷ c.1; some_bytes = λ a l. omega arith }}
 
 -- what operations mean, by a number m; reference/cse/src/evaluate.rs has it in Rust
 
@@ -79,11 +75,11 @@ weighted k [] = 0
 weighted k (n ∷ ns) = k * n + weighted (suc k) ns
 
 weight : ℕ → Rec → ℕ
-weight m r = r .shape + 3 * r .opcode + 5 * r .aux + weighted 1 (r .lit) + m
+weight m r = r.shape + 3 * r.opcode + 5 * r.aux + weighted 1 r.lit + m
 
-lastOf : ℕ → List ℕ → ℕ
-lastOf v [] = v
-lastOf v (w ∷ ws) = lastOf w ws
+last_of : ℕ → List ℕ → ℕ
+last_of v [] = v
+last_of v (w ∷ ws) = last_of w ws
 
 quotient : ℕ → ℕ → Option ℕ
 quotient a zero = none
@@ -93,15 +89,15 @@ means : ℕ → Rec → List ℕ → Option ℕ
 means m r [] = let w = weight m r in elim (eqb (w % 5) 0) [ true ↦ none | false ↦ some (w % 7) ]
 means m r (v ∷ vs) =
     let sum = weight m r + weighted 2 (v ∷ vs) in
-    elim (eqb ((r .opcode + m) % 3) 0) [ true ↦ quotient sum (lastOf v vs) | false ↦ some (sum % 7) ]
+    elim (eqb ((r.opcode + m) % 3) 0) [ true ↦ quotient sum (last_of v vs) | false ↦ some (sum % 7) ]
 
 -- IF takes operand 1 where the condition is odd; ED skips where the left is even, EC where it is odd
 numbered : ℕ → Semantics ℕ
 numbered m =
     record {{ apply = means m; takes = λ v. eqb (v % 2) 1; skips = λ op v. elim (eqb op 0xED) [ true ↦ eqb (v % 2) 0 | false ↦ eqb (v % 2) 1 ] }}
 
-valueOf : ℕ → List ℕ → Option ℕ
-valueOf m forest = eval (numbered m) (root (treesOf forest)) []
+value_of : ℕ → List ℕ → Option ℕ
+value_of m forest = eval (numbered m) (root (trees_of forest)) []
 """
 CALL = """
 r{i} : gives (run (record {{ forest = {forest}; room = {room}; words = {words} }})) (record {{ number = {number}; place = {place}; len = {len}; symbols = {symbols};
@@ -115,17 +111,17 @@ unfolding bytes computing
 r{i} = refl
 """
 FILL = """
-r{i} : same (fillForest (filling {values}) {forest}) {filled} ≡ true
+r{i} : same (fill_forest (filling {values}) {forest}) {filled} ≡ true
 unfolding filling chosen bytes computing
 r{i} = refl
 """
 VALUE = """
-r{i} : (valueOf {m} {forest} ≡ {root}) × (valueOf {m} (written (run (ample {forest}))) ≡ {tree})
-unfolding weighted weight lastOf quotient means numbered valueOf written bytes computing
+r{i} : (value_of {m} {forest} ≡ {root}) × (value_of {m} (written (run (ample {forest}))) ≡ {tree})
+unfolding weighted weight last_of quotient means numbered value_of written bytes computing
 r{i} = (refl, refl)
 """
 # the definition that makes a row's text, by the row's first word
-TEXTS = {"sheet": "sheet", "template": "templateLine"}
+TEXTS = {"sheet": "sheet", "template": "template_line"}
 WRONG = """
 wrong : eqb 0 1 ≡ true
 wrong = refl
@@ -188,18 +184,21 @@ def declaration(i, line, fields):
 def judge(batch):
     """The rows (line, fields) that the checker refused, and those over its step limit."""
     with tempfile.TemporaryDirectory() as room:
-        copy = os.path.join(room, "model")
-        shutil.copytree(MODEL, copy)
+        copy = os.path.join(room, "crates", "model")
+        shutil.copytree(MODEL, copy, ignore=shutil.ignore_patterns("out", "must-fail"))
+        with open(os.path.join(room, "crates.txt"), "w") as f:
+            f.write("model:\n")
         text, starts = HEAD, []
         for i, (line, fields) in enumerate(batch):
             starts.append((text.count("\n") + 2, line))
             text += declaration(i, line, fields)
         wrong = text.count("\n") + 2
-        with open(os.path.join(copy, "specs", "Rows.antt"), "w") as f:
+        os.mkdir(os.path.join(copy, "proofs"))
+        with open(os.path.join(copy, "proofs", "Rows.antt"), "w") as f:
             f.write(text + WRONG)
-        with open(os.path.join(copy, "specs", "Lib.antt"), "a") as f:
-            f.write("pub mod Rows\n")
-        run = subprocess.run(["rt", "check", copy], capture_output=True, text=True, env=dict(os.environ, RT_CUT="0"))
+        with open(os.path.join(copy, "proofs", "Lib.antt"), "w") as f:
+            f.write("mod Rows\n")
+        run = subprocess.run(["rt", "check"], cwd=copy, capture_output=True, text=True)
     said = run.stdout + run.stderr
     found = [(int(at), message) for at, message in re.findall(r"Rows\.antt:(\d+):\d+: error: (.*)", said)]
     # every error is a row's, and the wrong one is among them
