@@ -1,4 +1,4 @@
-/* The main call of the proved common-subexpression pass; link libcse.a (rt staticlib cse). */
+/* The main call of the proved common-subexpression pass; link libcse.a, which tools/build_programs.sh builds. */
 #ifndef CSE_H
 #define CSE_H
 

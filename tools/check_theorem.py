@@ -17,7 +17,7 @@ that differ, but at a fact that no longer holds. For each edit, in a temporary c
   folders of the two theorems that have one of their own, Templates and Failing, unless the edit is for that theorem.)
 
 edit       the fact that fails, and why it is the theorem's: the written tree
-hoist      member-is: a definition's symbol is of the scope that is written. Only then are the arguments that it depends on in
+hoist      member_is: a definition's symbol is of the scope that is written. Only then are the arguments that it depends on in
            force there; else it is written outside its lambda.
 one-id     numbered-once: the ids of a lambda's arguments stand once. Else two arguments are one, and check 9 refuses the tree.
 body-from  env-args: no id in force is above the last one given. Else a definition in a lambda's body takes an argument's id.
@@ -28,8 +28,8 @@ next-id    ids-def: each id given is in force after its definition. Else a use i
 placement  climb-stays: a symbol stays inside each lambda on whose arguments it depends. Else it is written outside of it.
 
 edit       the fact that fails: a number is given exactly where its condition holds
-readings   cut-read, of the log of an interning without limits: the reading that interning refuses is the 2,049th.
-symbols    cut-read, which has the limit of symbols too: none of those up to the 512th is refused.
+readings   cut_read, of the log of an interning without limits: the reading that interning refuses is the 2,049th.
+symbols    cut_read, which has the limit of symbols too: none of those up to the 512th is refused.
 inputs     listed: the tables say the paper's statements on opcodes, and so the one on A4. Else a forest is written that 5 is for.
 depth      too-deep: check 7 finds what is deeper than 64. Else a forest gets another number.
 
@@ -43,14 +43,14 @@ past-block force-loose: nor past its block (9, 10).
 edit       the fact that fails, of the theorem on templates; its forest, filled, is then not written as the filled tree
 unmarked   isKey-kept: filling keeps which keys are equal. Else two parameters that are equal under one filling are one.
 gate-bytes shouldHoist-kept: the gate sees no literal. Else a definition comes or goes with a value's length.
-class      same-kept: filling keeps which records are the same. Else a value of another class is filled in, as it must not be.
+class      same_kept: filling keeps which records are the same. Else a value of another class is filled in, as it must not be.
 one-value  record-valued: a parameter has one value in a template. Else two of its constants, apart there, are one when filled.
 no-byte    record-fits: a filled constant fits its shape. Else check 4 refuses the filled forest.
 
 edit       the fact that fails, of the theorem on failing operations; its forest has a value, and the written tree then has none
 thunk      in-thunk: a thunk's scope is no lambda's, so its symbols stay there. Else what is skipped is defined outside, and is
            then never skipped.
-skipped    member-is: the edit of hoist, with a forest for this theorem. Else what may be skipped is defined outside, and is then
+skipped    member_is: the edit of hoist, with a forest for this theorem. Else what may be skipped is defined outside, and is then
            never skipped.
 any-right  skipped-thunked: what is skipped has a scope of its own. Else it is defined in the one around, and is found after all.
 environment passed-kept: the forest is one tree. Else another tree, which may fail, makes symbols in the same scope.
@@ -80,36 +80,32 @@ TOP = os.path.dirname(os.path.dirname(os.path.abspath(__file__)))
 CRATES = ("model", "laws", "theory")
 
 COUNTER = """-- What becomes of a small forest: is the written tree accepted, and does it unfold to what the root unfolds to?
-use Prim.Native.Nat.{ℕ, zero, suc, _+_, _*_}
-use mathlib.Core.Path.{_≡_, refl}
-use mathlib.Core.Bool.{Bool, true, false, _&&_}
-use mathlib.Core.Option.{Option, none, some}
-use mathlib.Core.List.{List, [], _∷_, _++_}
-use native.Mathlib.Omega.{arith}
-use lib.Dec.{eqb}
-use Rattle·model·specs.specs.Lists.{same}
-use Rattle·model·specs.specs.Bytes.{put32}
-use Rattle·model·specs.specs.Answer.{Answer, refused, good}
-use Rattle·model·specs.specs.Tree.{Rec, rec, Tree, Trees, node, nil, cons, root, serialise}
-use Rattle·model·specs.specs.Forest.{treesOf}
-use Rattle·model·specs.specs.Accept.{accept}
-use Rattle·model·specs.specs.Unfold.{Unfolded, Unfoldeds, arg, lam, made, done, more, unfolded}
-use Rattle·model·specs.specs.Call.{Written, ample, run}
-use Rattle·model·specs.specs.Template.{Filling, fillForest}
-use Rattle·model·specs.specs.Failing.{Semantics, eval}
-use Rattle·model·specs.specs.Computing.{computing}
+use Rattle.std.specs.Prelude.{ℕ, zero, suc, ◌+◌, ◌*◌, ◌≡◌, refl, Bool, true, false, ◌&&◌, List, [], ◌∷◌, ◌++◌, eqb}
+use Rattle.std.proofs.Math.Option.{Option, none, some}
+use Rattle.std.proofs.Common.{arith}
+use Rattle.model.specs.Lists.{same}
+use Rattle.model.specs.Bytes.{put32}
+use Rattle.model.specs.Answer.{Answer, refused, good}
+use Rattle.model.specs.Tree.{Rec, rec, Tree, Trees, node, nil, cons, root, serialise}
+use Rattle.model.specs.Forest.{trees_of}
+use Rattle.model.specs.Accept.{accept}
+use Rattle.model.specs.Unfold.{Unfolded, Unfoldeds, arg, lam, made, done, more, unfolded}
+use Rattle.model.specs.Call.{Written, ample, run}
+use Rattle.model.specs.Template.{Filling, fill_forest}
+use Rattle.model.specs.Failing.{Semantics, eval}
+use Rattle.model.specs.Computing.{computing}
 
 -- ---- equal unfoldings
 
-equalRecs : Rec → Rec → Bool
-equalRecs r q =
-    eqb (r .shape) (q .shape) && eqb (r .opcode) (q .opcode) && eqb (r .aux) (q .aux) && same (r .lit) (q .lit)
+equal_recs : Rec → Rec → Bool
+equal_recs r q =
+    eqb r.shape q.shape && eqb r.opcode q.opcode && eqb r.aux q.aux && same r.lit q.lit
 
-equalOpts : List (List ℕ) → List (List ℕ) → Bool
-equalOpts [] [] = true
-equalOpts [] (y ∷ ys) = false
-equalOpts (x ∷ xs) [] = false
-equalOpts (x ∷ xs) (y ∷ ys) = same x y && equalOpts xs ys
+equal_opts : List (List ℕ) → List (List ℕ) → Bool
+equal_opts [] [] = true
+equal_opts [] (y ∷ ys) = false
+equal_opts (x ∷ xs) [] = false
+equal_opts (x ∷ xs) (y ∷ ys) = same x y && equal_opts xs ys
 
 mutual
   equal : Unfolded → Unfolded → Bool
@@ -117,11 +113,11 @@ mutual
   equal (arg a b) (lam t p c ys vs) = false
   equal (arg a b) (made q vs) = false
   equal (lam s o a xs us) (arg c d) = false
-  equal (lam s o a xs us) (lam t p c ys vs) = eqb s t && eqb o p && eqb a c && equalOpts xs ys && equals us vs
+  equal (lam s o a xs us) (lam t p c ys vs) = eqb s t && eqb o p && eqb a c && equal_opts xs ys && equals us vs
   equal (lam s o a xs us) (made q vs) = false
   equal (made r us) (arg c d) = false
   equal (made r us) (lam t p c ys vs) = false
-  equal (made r us) (made q vs) = equalRecs r q && equals us vs
+  equal (made r us) (made q vs) = equal_recs r q && equals us vs
 
   equals : Unfoldeds → Unfoldeds → Bool
   equals done done = true
@@ -132,47 +128,47 @@ mutual
 -- ---- what becomes of a forest of one tree
 
 data Fate : Type 0 where
-  call-refuses not-accepted : ℕ → ℕ → Fate
+  call_refuses not_accepted : ℕ → ℕ → Fate
   unfolds : Bool → Fate
 
-read-back : Tree → Answer Trees → Fate
-read-back t (refused n p) = not-accepted n p
-read-back t (good ts) = unfolds (equal (unfolded (root ts)) (unfolded t))
+read_back : Tree → Answer Trees → Fate
+read_back t (refused n p) = not_accepted n p
+read_back t (good ts) = unfolds (equal (unfolded (root ts)) (unfolded t))
 
-after-call : Tree → Answer Written → Fate
-after-call t (refused n p) = call-refuses n p
-after-call t (good w) = read-back t (accept (w .bytes))
+after_call : Tree → Answer Written → Fate
+after_call t (refused n p) = call_refuses n p
+after_call t (good w) = read_back t (accept w.bytes)
 
 called : Tree → Answer Written
 called t = run (ample (serialise (cons t nil)))
 
 fate : Tree → Fate
-fate t = after-call t (called t)
+fate t = after_call t (called t)
 
 -- an answer is this tree
 is : Answer Written → Tree → Bool
 is (refused n p) t = false
-is (good w) t = same (w .bytes) (serialise (cons t nil))
+is (good w) t = same w.bytes (serialise (cons t nil))
 
 -- ---- what becomes of its filling by seven bytes for each parameter
 
 sevens : Filling
-sevens = record { literal = λ a. 7 ∷ 7 ∷ 7 ∷ 7 ∷ 7 ∷ 7 ∷ 7 ∷ []; some-bytes = λ a l. omega arith }
+sevens = record { literal = λ a. 7 ∷ 7 ∷ 7 ∷ 7 ∷ 7 ∷ 7 ∷ 7 ∷ []; some_bytes = λ a l. omega arith }
 
 -- the second is written as the first, filled
 agree : Answer Written → Answer Written → Bool
 agree (refused n p) v = false
 agree (good w) (refused n p) = false
-agree (good w) (good v) = same (v .bytes) (fillForest sevens (w .bytes))
+agree (good w) (good v) = same v.bytes (fill_forest sevens w.bytes)
 
 commutes : Tree → Bool
-commutes t = agree (called t) (run (ample (fillForest sevens (serialise (cons t nil)))))
+commutes t = agree (called t) (run (ample (fill_forest sevens (serialise (cons t nil)))))
 
 -- ---- has it a value, and has the written tree one, where z fails, and nothing else, and what may be skipped is
 
 careful : Semantics ℕ
 careful = record {
-  apply = λ r vs. elim (eqb (r .opcode) 0xFE) [ true ↦ none | false ↦ some 0 ];
+  apply = λ r vs. elim (eqb r.opcode 0xFE) [ true ↦ none | false ↦ some 0 ];
   takes = λ v. true;
   skips = λ op v. true;
 }
@@ -181,12 +177,12 @@ has : Option ℕ → Bool
 has none = false
 has (some v) = true
 
-root-has : Tree → Bool
-root-has t = has (eval careful t [])
+root_has : Tree → Bool
+root_has t = has (eval careful t [])
 
-tree-has : Answer Written → Bool
-tree-has (refused n p) = false
-tree-has (good w) = has (eval careful (root (treesOf (w .bytes))) [])
+tree_has : Answer Written → Bool
+tree_has (refused n p) = false
+tree_has (good w) = has (eval careful (root (trees_of w.bytes)) [])
 
 -- ---- the paper's letters
 
@@ -246,27 +242,27 @@ deep (suc d) = n (deep d)
 """
 FATE = """
 {name} : fate ({tree}) ≡ {fate}
-unfolding fate called after-call read-back equal equalRecs equalOpts z h k m n p u L L2 i deep computing
+unfolding fate called after_call read_back equal equal_recs equal_opts z h k m n p u L L2 i deep computing
 {name} = refl
 """
 WRITTEN = """
-{name}-tree : is (called ({tree})) ({written}) ≡ true
+{name}_tree : is (called ({tree})) ({written}) ≡ true
 unfolding is called z h k m n p e u L L2 B i deep computing
-{name}-tree = refl
+{name}_tree = refl
 """
 FILLED = """
-{name}-filled : commutes ({filled}) ≡ {kept}
+{name}_filled : commutes ({filled}) ≡ {kept}
 unfolding commutes agree called sevens n p x computing
-{name}-filled = refl
+{name}_filled = refl
 """
 VALUES = """
-{name}-root : root-has ({value}) ≡ {found}
-unfolding root-has careful has z k p e computing
-{name}-root = refl
+{name}_root : root_has ({value}) ≡ {found}
+unfolding root_has careful has z k p e computing
+{name}_root = refl
 
-{name}-value : tree-has (called ({value})) ≡ {kept}
-unfolding tree-has called careful has z k p e computing
-{name}-value = refl
+{name}_value : tree_has (called ({value})) ≡ {kept}
+unfolding tree_has called careful has z k p e computing
+{name}_value = refl
 """
 
 MEMBER = "model/specs/Materialize"
@@ -283,10 +279,10 @@ TRACE, COUNTED, TOGETHER, DEPTHS, PLACED, IDS = (
 KEYS, RECORDS = (f"theory/proofs/Templates/{name}" for name in ("Keys", "Records"))
 TEMPLATE = "model/specs/Template"
 FAILING = "model/specs/Failing"
-UNMARKED = "sameRec (rec ({0} .shape) ({0} .opcode) (class ({0} .aux)) ({0} .lit)) (rec ({1} .shape) ({1} .opcode) (class ({1} .aux)) ({1} .lit))"
-AUX = "(elim (isParameter r) [ true ↦ 7 * mark (r .aux) | false ↦ r .aux ])"
-ONCE = ("shouldHoist (symOf g s) (usage g s)", "shouldHoist (symOf g s) (suc (usage g s))")
-SAME_REC = "(rec ({0} .shape) ({0} .opcode) ({0} .aux) (r .lit)) r"
+UNMARKED = "same_rec (rec {0}.shape {0}.opcode (class {0}.aux) {0}.lit) (rec {1}.shape {1}.opcode (class {1}.aux) {1}.lit)"
+AUX = "(elim (is_parameter r) [ true ↦ 7 * mark r.aux | false ↦ r.aux ])"
+ONCE = ("should_hoist (sym_of g s) (usage g s)", "should_hoist (sym_of g s) (suc (usage g s))")
+SAME_REC = "(rec {0}.shape {0}.opcode {0}.aux r.lit) r"
 NEXT = "suc (suc last)"
 
 
@@ -308,134 +304,134 @@ class Edit:
 
 EDITS = [
     Edit("hoist", "a member of another scope is hoisted",
-         [(MEMBER, "eqb (symOf g s .scope) sc", "eqb (symOf g s .scope) (symOf g s .scope)"), (MEMBER, *ONCE)],
-         [(SCOPES, "eqb (symOf g s .scope) sc in", "eqb (symOf g s .scope) (symOf g s .scope) in"), (SCOPES, *ONCE)],
-         "member-is", "L 7 (n (u 7))", "not-accepted 10 3", "B 1 (n (u 0)) (L 2 (u 1))"),
+         [(MEMBER, "eqb (sym_of g s).scope sc", "eqb (sym_of g s).scope (sym_of g s).scope"), (MEMBER, *ONCE)],
+         [(SCOPES, "eqb (sym_of g s).scope sc in", "eqb (sym_of g s).scope (sym_of g s).scope in"), (SCOPES, *ONCE)],
+         "member_is", "L 7 (n (u 7))", "not_accepted 10 3", "B 1 (n (u 0)) (L 2 (u 1))"),
     Edit("one-id", "a lambda's arguments all get the same number",
-         [(MEMBER, "(a .1 ++ argLit (suc last) xs)", "(a .1 ++ argLit last xs)"),
-          (MEMBER, "argEnv (suc last) xs ((a .0, suc last) ∷ env)", "argEnv last xs ((a .0, suc last) ∷ env)")],
+         [(MEMBER, "(a.1 ++ arg_lit (suc last) xs)", "(a.1 ++ arg_lit last xs)"),
+          (MEMBER, "arg_env (suc last) xs ((a.0, suc last) ∷ env)", "arg_env last xs ((a.0, suc last) ∷ env)")],
          [(f, a, b) for f in (NUMBERED, GIVEN)
           for a, b in (("(suc last) xs", "last xs"), ("(suc last) (suc p) xs", "last (suc p) xs"))],
-         "numbered-once", "L2 7 8 (p (u 7) (u 8))", "not-accepted 9 0", "L2 1 1 (p (u 1) (u 1))"),
+         "numbered_once", "L2 7 8 (p (u 7) (u 8))", "not_accepted 9 0", "L2 1 1 (p (u 1) (u 1))"),
     Edit("body-from", "a lambda's body is numbered from before its arguments",
          [(MEMBER, "(suc (last + length xs))", "last")],
-         [(GIVEN, "lastIn last xs = suc (last + length xs)", "lastIn last xs = last")],
-         "env-args", "L 7 (p (n (u 7)) (n (u 7)))", "not-accepted 9 2", "L 1 (B 1 (n (u 1)) (p (u 1) (u 1)))"),
+         [(GIVEN, "last_in last xs = suc (last + length xs)", "last_in last xs = last")],
+         "env_args", "L 7 (p (n (u 7)) (n (u 7)))", "not_accepted 9 2", "L 1 (B 1 (n (u 1)) (p (u 1) (u 1)))"),
     Edit("literals", "keys are equal without their literals",
-         [(INTERN, "sameRec (symAt ss i .rec) r &&", "sameRec " + SAME_REC.format("symAt ss i .rec") + " &&")],
-         [(FINISH, "and-both (sameRec (recAt ss i) r)", "and-both (sameRec " + SAME_REC.format("recAt ss i") + ")"),
-          (FINISH, "Tree.{Rec, sameRec}", "Tree.{Rec, rec, sameRec}")],
-         "isKey-true", "p (k 1) (k 2)", "unfolds false", "p (k 1) (k 1)"),
+         [(INTERN, "same_rec (sym_at ss i).rec r &&", "same_rec " + SAME_REC.format("(sym_at ss i).rec") + " &&")],
+         [(FINISH, "and_both (same_rec (rec_at ss i) r)", "and_both (same_rec " + SAME_REC.format("(rec_at ss i)") + ")"),
+          (FINISH, "Tree.{Rec, same_rec}", "Tree.{Rec, rec, same_rec}")],
+         "is_key_true", "p (k 1) (k 2)", "unfolds false", "p (k 1) (k 1)"),
     Edit("marks", "keys are equal whatever their marks",
-         [("model/specs/Tree", "eqb (a .aux) (b .aux)", "eqb (class (a .aux)) (class (b .aux))")],
-         [("laws/proofs/Members", "let x = eqb (a .aux) (b .aux) in", "let x = eqb (class (a .aux)) (class (b .aux)) in"),
-          ("laws/proofs/Members", "eqb-true (a .aux) (b .aux) (q .1)", "eqb-true (class (a .aux)) (class (b .aux)) (q .1)"),
-          ("laws/proofs/Members", "Tree.{Rec, sameRec}", "Tree.{Rec, class, sameRec}")],
-         "sameRec-true", "p (m 1) (m 2)", "unfolds false", "p (m 1) (m 1)"),
+         [("model/specs/Tree", "eqb a.aux b.aux", "eqb (class a.aux) (class b.aux)")],
+         [("laws/proofs/Members", "let x = eqb a.aux b.aux in", "let x = eqb (class a.aux) (class b.aux) in"),
+          ("laws/proofs/Members", "eqb-true a.aux b.aux q.1", "eqb-true (class a.aux) (class b.aux) q.1"),
+          ("laws/proofs/Members", "Tree.{Rec, same_rec}", "Tree.{Rec, class, same_rec}")],
+         "same_rec_true", "p (m 1) (m 2)", "unfolds false", "p (m 1) (m 1)"),
     Edit("children", "keys are equal without their child symbols",
-         [(INTERN, "same (symAt ss i .kids) ks", "same ks ks")],
-         [(FINISH, "(same (symKids ss i) ks) e in", "(same ks ks) e in")],
-         "isKey-true", "p (n z) (n h)", "unfolds false", "B 1 (n z) (p (u 1) (u 1))"),
+         [(INTERN, "same (sym_at ss i).kids ks", "same ks ks")],
+         [(FINISH, "(same (sym_kids ss i) ks) e in", "(same ks ks) e in")],
+         "is_key_true", "p (n z) (n h)", "unfolds false", "B 1 (n z) (p (u 1) (u 1))"),
     Edit("next-id", "a definition's use is written with the next number",
          [(MEMBER, "((s, suc last) ∷ env)", f"((s, {NEXT}) ∷ env)")],
          [(f, "(s, suc last) ∷ env", f"(s, {NEXT}) ∷ env") for f in (DEFINING, SCOPES, GIVEN)] +
-         [(GIVEN, "given-cases s (suc last)", f"given-cases s ({NEXT})"),
-          (GIVEN, "has-more s (suc last)", f"has-more s ({NEXT})"),
+         [(GIVEN, "given_cases s (suc last)", f"given_cases s ({NEXT})"),
+          (GIVEN, "has_more s (suc last)", f"has_more s ({NEXT})"),
           (GIVEN, "(s ≡ t) × (suc last ≡ i)", f"(s ≡ t) × ({NEXT} ≡ i)"),
           (GIVEN, "(s ≡ a) × (suc last ≡ i)", f"(s ≡ a) × ({NEXT} ≡ i)"),
-          (SCOPES, "has-more s (suc last)", f"has-more s ({NEXT})")],
-         "ids-def", "p z z", "not-accepted 10 4", "B 1 z (p (u 2) (u 2))"),
+          (SCOPES, "has_more s (suc last)", f"has_more s ({NEXT})")],
+         "ids_def", "p z z", "not_accepted 10 4", "B 1 z (p (u 2) (u 2))"),
     Edit("placement", "a symbol moves out of lambdas whose arguments it depends on",
-         [(INTERN, "elim (anyIn xs deps)", "elim (anyIn xs [])")],
-         [(INV, "elim (anyIn xs deps)", "elim (anyIn xs [])"), (INV, "anyIn xs deps ≡ t", "anyIn xs [] ≡ t")],
-         "climb-stays", "L 7 (p (n (u 7)) (n (u 7)))", "not-accepted 10 3", "B 1 (n (u 0)) (L 2 (p (u 1) (u 1)))"),
+         [(INTERN, "elim (any_in xs deps)", "elim (any_in xs [])")],
+         [(INV, "elim (any_in xs deps)", "elim (any_in xs [])"), (INV, "any_in xs deps ≡ t", "any_in xs [] ≡ t")],
+         "climb_stays", "L 7 (p (n (u 7)) (n (u 7)))", "not_accepted 10 3", "B 1 (n (u 0)) (L 2 (p (u 1) (u 1)))"),
     Edit("readings", "interning refuses over 1,000 readings",
-         [(INTERN, "ltb (st .readings) 2048", "ltb (st .readings) 1000")],
+         [(INTERN, "ltb st.readings 2048", "ltb st.readings 1000")],
          [(f"theory/proofs/{f}", "2048", "1000") for f in
           ("Promise/Refusals", "Interning/Walk", "Interning/Reread", "Interning/Reread/Walk", "Interning/Reread/Later", "Failing/Walk")]
          + [(TRACE, "2048", "1000"), (COUNTED, "lt-ltb r 2048", "lt-ltb r 1000"), (COUNTED, "le-ltb r 2048", "le-ltb r 1000")],
-         "cut-read"),
+         "cut_read"),
     Edit("symbols", "interning refuses over 100 symbols",
-         [(INTERN, "ltb (length (st .syms)) 512", "ltb (length (st .syms)) 100")],
+         [(INTERN, "ltb (length st.syms) 512", "ltb (length st.syms) 100")],
          [(f"theory/proofs/{f}", "512", "100") for f in
           ("Promise/Refusals", "Interning/Fresh", "Interning/Finish")]
          + [(TRACE, "512", "100"), (COUNTED, "lt-ltb s 512", "lt-ltb s 100"), (COUNTED, "le-ltb s 512", "le-ltb s 100")],
-         "cut-read"),
+         "cut_read"),
     Edit("inputs", "A4 is not in the table of opcodes",
          [("model/specs/Shape", "(InputsOp, Zero) ∷ ", "")], [],
-         "listed", "i z", "unfolds true", "i z", "call-refuses 5 0"),
+         "listed", "i z", "unfolds true", "i z", "call_refuses 5 0"),
     Edit("depth", "check 7 lets a depth of 65 pass",
          [("model/specs/Forest", "ltb 64 d", "ltb 65 d")],
          [("theory/proofs/Acceptance/Bytes", "le-ltb 64 d", "le-ltb 65 d"), (DEPTHS, "ltb 64 e", "ltb 65 e"),
           (DEPTHS, "ltb-true 64", "ltb-true 65"), (DEPTHS, "lt-ltb 64", "lt-ltb 65")],
-         "too-deep", "deep 64", "call-refuses 14 0", None, "call-refuses 7 64"),
+         "too_deep", "deep 64", "call_refuses 14 0", None, "call_refuses 7 64"),
     Edit("high-mark", "a mark may be 36",
-         [("model/specs/ShapeRules", "m ≤ 35", "m ≤ 36")], [], "right-tested"),
+         [("model/specs/ShapeRules", "m ≤ 35", "m ≤ 36")], [], "right_tested"),
     Edit("tuple", "opcode 86 is for Tuple, which may have another opcode",
          [(RULES, "(o ≡ 0x86) ↔ (s ≡ 16)", "o ≡ 0x86 → s ≡ 16")],
-         [(TOGETHER, "tuple = (x .1 .1 .1 .1 .1 .0, y .1 .1 .1 .1 .1 .0)", "tuple = x .1 .1 .1 .1 .1 .0"),
-          (TOGETHER, "t .tuple .0", "t .tuple")],
-         "both-listed"),
+         [(TOGETHER, "tuple = (x.1.1.1.1.1.0, y.1.1.1.1.1.0)", "tuple = x.1.1.1.1.1.0"),
+          (TOGETHER, "t.tuple.0", "t.tuple")],
+         "both_listed"),
     Edit("parent", "a definition may stand in any record but a constant",
-         [(NESTING, "(shapeIn ts b ≡ BlockValue) ×", "(1 ≤ shapeIn ts b) ×")],
-         [(PLACED, "ap (λ z. z .shape) (rec-under r us ts b j) ∙ s", "omega (arith, s, ap (λ z. z .shape) (rec-under r us ts b j))"),
-          (PLACED, "ap (λ z. z .shape) (rec-top r us ts) ∙ eqb-true (r .shape) 11 s",
-           "omega (arith, ap (λ z. z .shape) (rec-top r us ts), eqb-true (r .shape) 11 s)"),
-          (PLACED, "shapeIn W b ≡ 11", "1 ≤ shapeIn W b"), (PLACED, "{ℕ, suc, _+_, _<_}", "{ℕ, suc, _+_, _<_, _≤_}")],
-         "stands-under"),
+         [(NESTING, "(shape_in ts b ≡ BlockValue) ×", "(1 ≤ shape_in ts b) ×")],
+         [(PLACED, "ap (λ z. z.shape) (rec-under r us ts b j) ∙ s", "omega (arith, s, ap (λ z. z.shape) (rec-under r us ts b j))"),
+          (PLACED, "ap (λ z. z.shape) (rec-top r us ts) ∙ eqb-true r.shape 11 s",
+           "omega (arith, ap (λ z. z.shape) (rec-top r us ts), eqb-true r.shape 11 s)"),
+          (PLACED, "shape_in W b ≡ 11", "1 ≤ shape_in W b"), (PLACED, "{ℕ, suc, ◌+◌, ◌<◌}", "{ℕ, suc, ◌+◌, ◌<◌, ◌≤◌}")],
+         "stands_under"),
     Edit("own-value", "a definition is in force in its own value",
-         [(NESTING, "endOf ts d ≤ p →", "d < p →")],
-         [(IDS, "(w .1) (w .2) h (f", "(w .1) (w .2) (omega (arith, h, extent-fits ts d l .0)) (f")], "force-loose"),
+         [(NESTING, "end_of ts d ≤ p →", "d < p →")],
+         [(IDS, "w.1 w.2 h (f", "w.1 w.2 (omega (arith, h, (extent_fits ts d l).0)) (f")], "force_loose"),
     Edit("past-block", "a definition is in force at the record after its block",
-         [(NESTING, "p < endOf ts b → InForce", "p ≤ endOf ts b → InForce")],
-         [(IDS, "(f (w .0) (w .2 .0) .1)", "(omega (arith, f (w .0) (w .2 .0) .1))")], "force-loose"),
+         [(NESTING, "p < end_of ts b → InForce", "p ≤ end_of ts b → InForce")],
+         [(IDS, "(f w.0 w.2.0).1", "(omega (arith, (f w.0 w.2.0).1))")], "force_loose"),
     Edit("unmarked", "keys are equal whatever their marks, said of keys",
-         [(INTERN, "sameRec (symAt ss i .rec) r &&", UNMARKED.format("(symAt ss i .rec)", "r") + " &&"),
-          (INTERN, "Tree.{Rec, rec, sameRec,", "Tree.{Rec, rec, class, sameRec,")],
-         [(KEYS, "sameRec (z .rec) (fillRec f r) &&", UNMARKED.format("z .rec", "(fillRec f r)") + " &&"),
-          (KEYS, "Tree.{Rec, sameRec}", "Tree.{Rec, rec, class, sameRec}")],
-         "isKey-kept", filled="p (n (x 1 1)) (n (x 2 2))"),
+         [(INTERN, "same_rec (sym_at ss i).rec r &&", UNMARKED.format("(sym_at ss i).rec", "r") + " &&"),
+          (INTERN, "Tree.{Rec, rec, same_rec,", "Tree.{Rec, rec, class, same_rec,")],
+         [(KEYS, "same_rec z.rec (fill_rec f r) &&", UNMARKED.format("z.rec", "(fill_rec f r)") + " &&"),
+          (KEYS, "Tree.{Rec, same_rec}", "Tree.{Rec, rec, class, same_rec}")],
+         "is_key-kept", filled="p (n (x 1 1)) (n (x 2 2))"),
     Edit("gate-bytes", "a constant is scalar by its literal's length",
-         [("model/specs/Gate", "ltb (class (s .rec .aux)) 6", "ltb (class (s .rec .aux)) (length (s .rec .lit))"),
-          ("model/specs/Gate", "use lib.Dec.{eqb, ltb}", "use lib.Dec.{eqb, ltb}\nuse lib.ListN.{length}")], [],
-         "shouldHoist-kept", filled="p (x 1 1) (x 1 1)"),
+         [("model/specs/Gate", "ltb (class s.rec.aux) 6", "ltb (class s.rec.aux) (length s.rec.lit)"),
+          ("model/specs/Gate", "eqb, ltb}", "eqb, ltb, length}")], [],
+         "should_hoist-kept", filled="p (x 1 1) (x 1 1)"),
     Edit("class", "a filling gives a parameter another class",
-         [(TEMPLATE, "(r .aux) (elim (isParameter r) [", AUX + " (elim (isParameter r) ["),
-          (TEMPLATE, "Tree.{Rec, rec,", "Tree.{Rec, rec, mark,"), (TEMPLATE, "{ℕ, suc, _<_, _≤_}", "{ℕ, suc, _*_, _<_, _≤_}")],
-         [(RECORDS, f"{name} r e = λ i. rec (r .shape) (r .opcode) (r .aux) (lit-is i)\n    where\n",
-           f"{name} r e = λ i. rec (r .shape) (r .opcode) (aux-is i) (lit-is i)\n    where\n      aux-is : {AUX} ≡ {aux}\n      aux-is = rw e\n")
-          for name, aux in (("other-stays", "r .aux"), ("parameter-gets", "7 * mark (r .aux)"))]
-         + [(RECORDS, "(r .opcode) (r .aux) (f .literal (r .aux))\n", "(r .opcode) (7 * mark (r .aux)) (f .literal (r .aux))\n"),
-            (RECORDS, "Tree.{Rec, rec,", "Tree.{Rec, rec, mark,"), (RECORDS, "{ℕ, suc, _<_, _≤_}", "{ℕ, suc, _*_, _<_, _≤_}")],
-         "same-kept", filled="p (x 1 1) (x 1 1)"),
+         [(TEMPLATE, "r.aux (elim (is_parameter r) [", AUX + " (elim (is_parameter r) ["),
+          (TEMPLATE, "Tree.{Rec, rec,", "Tree.{Rec, rec, mark,"), (TEMPLATE, "ℕ, suc, ◌<◌", "ℕ, suc, ◌*◌, ◌<◌")],
+         [(RECORDS, f"{name} r e = λ i. rec r.shape r.opcode r.aux (lit_is i)\n    where\n",
+           f"{name} r e = λ i. rec r.shape r.opcode (aux_is i) (lit_is i)\n    where\n      aux_is : {AUX} ≡ {aux}\n      aux_is = rw e\n")
+          for name, aux in (("other_stays", "r.aux"), ("parameter_gets", "7 * mark r.aux"))]
+         + [(RECORDS, "r.opcode r.aux (f.literal r.aux)\n", "r.opcode (7 * mark r.aux) (f.literal r.aux)\n"),
+            (RECORDS, "Tree.{Rec, rec,", "Tree.{Rec, rec, mark,"), (RECORDS, "{ℕ, suc, ◌<◌, ◌≤◌}", "{ℕ, suc, ◌*◌, ◌<◌, ◌≤◌}")],
+         "same_kept", filled="p (x 1 1) (x 1 1)"),
     Edit("one-value", "a parameter may have two values in a template",
-         [(TEMPLATE, "recordAt forest p .rec .lit ≡ recordAt forest q .rec .lit", "recordAt forest p .rec .lit ≡ recordAt forest p .rec .lit")],
+         [(TEMPLATE, "(record_at forest p).rec.lit ≡ (record_at forest q).rec.lit", "(record_at forest p).rec.lit ≡ (record_at forest p).rec.lit")],
          [], "record-valued", templates=True),
     Edit("no-byte", "a filling may give an empty literal",
          [(TEMPLATE, "1 ≤ length (literal a)", "0 ≤ length (literal a)")], [], "record-fits", templates=True),
     Edit("thunk", "a thunk's symbols move out of it, as out of a lambda with no arguments",
-         [(INTERN, "openScope cur none ([] ∷ st .tables)", "openScope cur (some []) ([] ∷ st .tables)")],
+         [(INTERN, "open_scope cur none ([] ∷ st.tables)", "open_scope cur (some []) ([] ∷ st.tables)")],
          [(f"theory/proofs/{f}", "cur none ([] ∷", "cur (some []) ([] ∷") for f in
           ("Interning/Operands", "Interning/Reread/Walk", "Failing/Thunks")]
          + [(f"theory/proofs/{f}", "args = none }", "args = some [] }") for f in ("Interning/Operands", "Failing/Thunks")]
          + [(f"theory/proofs/{f}", "Option.{none}", "Option.{none, some}") for f in ("Interning/Operands", "Interning/Reread/Walk")],
          "in-thunk", value="e (k 1) (p z z)", written="B 1 z (e (k 1) (p (u 1) (u 1)))"),
     Edit("skipped", "what stands in a scope that may be skipped is defined outside of it",
-         [(MEMBER, "eqb (symOf g s .scope) sc", "eqb (symOf g s .scope) (symOf g s .scope)"), (MEMBER, *ONCE)],
-         [(SCOPES, "eqb (symOf g s .scope) sc in", "eqb (symOf g s .scope) (symOf g s .scope) in"), (SCOPES, *ONCE)],
-         "member-is", value="e (k 1) z", written="B 1 z (e (k 1) (u 1))"),
+         [(MEMBER, "eqb (sym_of g s).scope sc", "eqb (sym_of g s).scope (sym_of g s).scope"), (MEMBER, *ONCE)],
+         [(SCOPES, "eqb (sym_of g s).scope sc in", "eqb (sym_of g s).scope (sym_of g s).scope in"), (SCOPES, *ONCE)],
+         "member_is", value="e (k 1) z", written="B 1 z (e (k 1) (u 1))"),
     Edit("any-right", "any operation may skip its right operand",
          [(FAILING, "((eqb op AndOp || eqb op OrOp) &&", "((eqb op op || eqb op OrOp) &&")],
          [("theory/proofs/Failing/Values", "go (eqb op IfOp) (eqb op AndOp || eqb op OrOp)", "go (eqb op IfOp) (eqb op op || eqb op OrOp)")],
          "skipped-thunked", value="p (k 1) (p z z)", had="false", written="B 1 z (p (k 1) (p (u 1) (u 1)))"),
     Edit("environment", "a forest may have several trees",
-         [(FAILING, "treeCount forest ≡ 1", "treeCount forest ≡ treeCount forest")], [], "passed-kept", failing=True),
+         [(FAILING, "tree_count forest ≡ 1", "tree_count forest ≡ tree_count forest")], [], "passed-kept", failing=True),
     Edit("field", "a forest may have a SelectField",
-         [(FAILING, "recordAt forest p .rec .shape ≡ SelectField", "recordAt forest p .rec .shape ≡ FuncValue")], [], "passed-kept",
+         [(FAILING, "(record_at forest p).rec.shape ≡ SelectField", "(record_at forest p).rec.shape ≡ FuncValue")], [], "passed-kept",
          failing=True),
 ]
 GATE = Edit("gate", "symbols that are used once are defined, too", [(MEMBER, *ONCE)],
-            [(SCOPES, *ONCE), ("theory/proofs/Templates/Building", "shouldHoist-kept f g s (usage g s)", "shouldHoist-kept f g s (suc (usage g s))")])
+            [(SCOPES, *ONCE), ("theory/proofs/Templates/Building", "should_hoist-kept f g s (usage g s)", "should_hoist-kept f g s (suc (usage g s))")])
 
 
 def fail(why):
@@ -467,30 +463,34 @@ def leave_out(folder, names):
         f.write(text)
 
 
-def checked(edit, fates, crate):
-    """Whether the checker proves a crate of a copy with the edit, and what it says."""
+def checked(edit, fates, crates):
+    """Checks crates of a copy with the edit, in order, up to the first that is refused: how many the checker proves, and what it says of the last."""
     with tempfile.TemporaryDirectory() as room:
         for name in CRATES:
-            shutil.copytree(os.path.join(TOP, "crates", name), os.path.join(room, "crates", name))
+            shutil.copytree(os.path.join(TOP, "crates", name), os.path.join(room, "crates", name), ignore=shutil.ignore_patterns("out", "must-fail"))
         with open(os.path.join(room, "crates.txt"), "w") as f:
             f.write("model:\nlaws: model\ntheory: model laws\n")
-        specs = os.path.join(room, "crates", "model", "specs")
+        model = os.path.join(room, "crates", "model")
         # the tables of examples, and laws that code cites and the theorem does not, would be refused before anything else
-        leave_out(specs, ["Examples", "SheetExamples", "TemplateExamples", "FailingExamples"])
+        leave_out(os.path.join(model, "specs"), ["Examples", "SheetExamples", "TemplateExamples", "FailingExamples"])
         leave_out(os.path.join(room, "crates", "laws", "proofs"), ["Blocks", "Building", "Numbering"])
-        with open(os.path.join(specs, "Lib.antt"), "a") as f:
-            f.write("pub mod Counter\n")
-        with open(os.path.join(specs, "Counter.antt"), "w") as f:
+        os.mkdir(os.path.join(model, "proofs"))
+        with open(os.path.join(model, "proofs", "Lib.antt"), "w") as f:
+            f.write("mod Counter\n")
+        with open(os.path.join(model, "proofs", "Counter.antt"), "w") as f:
             f.write(COUNTER + "".join(fates))
         for place, old, new in edit.edits if edit else []:
             replace(room, place, old, new, True)
         for place, old, new in edit.words if edit else []:
             replace(room, place, old, new, False)
-        run = subprocess.run(["rt", "check", crate], cwd=room, capture_output=True, text=True, env=dict(os.environ, RT_CUT="0"))
-        said = (run.stdout + run.stderr).replace(os.path.join(room, "crates") + os.sep, "")
-    if run.returncode not in (0, 1):
-        fail(said[-3000:])
-    return run.returncode == 0, said
+        for proved, crate in enumerate(crates):
+            run = subprocess.run(["rt", "check"], cwd=os.path.join(room, "crates", crate), capture_output=True, text=True)
+            said = re.sub(r"^\./", f"{crate}/", run.stdout + run.stderr, flags=re.M)
+            if run.returncode not in (0, 1):
+                fail(said[-3000:])
+            if run.returncode != 0:
+                return proved, said
+    return len(crates), said
 
 
 def judge(edit):
@@ -500,11 +500,11 @@ def judge(edit):
     words = dict(name="it", tree=edit.tree or edit.value, fate=edit.fate, written=edit.written, filled=edit.filled, value=edit.value,
                  found="true", kept="false")
     claims = (FATE, edit.tree), (WRITTEN, edit.written), (FILLED, edit.filled), (VALUES, edit.value)
-    proved, said = checked(edit, [text.format(**words) for text, there in claims if there], "theory")
+    proved, said = checked(edit, [text.format(**words) for text, there in claims if there], CRATES)
     if edit is GATE:
-        lines.append("  accepted, as it should be" if proved else "  REFUSED: " + said[-800:])
-        return lines, proved
-    if "rt: model proved" not in said:
+        lines.append("  accepted, as it should be" if proved == len(CRATES) else "  REFUSED: " + said[-800:])
+        return lines, proved == len(CRATES)
+    if proved == 0:
         return lines + ["  NO COUNTEREXAMPLE: " + said[-800:]], False
     if edit.tree:
         written = f" is written as {edit.written}, whose fate is" if edit.written else ", whose fate is"
@@ -516,8 +516,8 @@ def judge(edit):
         lines.append(f"  computed: {edit.value} has a value, and is written as {edit.written}, which has none")
     errors = [e for e in errors if "was not admitted" not in e[3] and "/Bounds/" not in e[0]
               and ("/Templates/" in e[0]) == edit.templates and (edit.failing or "/Failing/" not in e[0])]
-    if proved or not errors:
-        return lines + ["  ACCEPTED" if proved else "  REFUSED, but at no declaration: " + said[-800:]], False
+    if proved == len(CRATES) or not errors:
+        return lines + ["  ACCEPTED" if proved == len(CRATES) else "  REFUSED, but at no declaration: " + said[-800:]], False
     place, line, name, why = errors[0]
     lines.append(f"  refused: {name} ({place}:{line}): {why[:200]}")
     if name != edit.fact:
@@ -536,8 +536,8 @@ def main():
     fates = [FATE.format(name=f"it{i}", tree=e.tree, fate=e.was) for i, e in enumerate(EDITS) if e.tree]
     fates += [FILLED.format(name=f"it{i}", filled=e.filled, kept="true") for i, e in enumerate(EDITS) if e.filled]
     fates += [VALUES.format(name=f"it{i}", value=e.value, found=e.had, kept=e.had) for i, e in enumerate(EDITS) if e.value]
-    proved, said = checked(None, fates, "model")
-    if not proved:
+    proved, said = checked(None, fates, ["model"])
+    if proved == 0:
         print("the forests, under the definitions as they are: REFUSED\n" + said[-2000:])
         return 1
     print("the forests, under the definitions as they are: written, accepted, and unfold equally, or refused as they should be; and written, filled, as the filled tree; and with a value where the root has one")

@@ -1,7 +1,7 @@
 #!/usr/bin/env python3
 """Counts the instructions of the main call and of the unchanged Rust on fixed forests of each class, by valgrind's callgrind.
 
-Usage: count_instructions.py [--count N] [--seed N]   (anywhere, once `rt staticlib cse` has written the library)
+Usage: count_instructions.py [--count N] [--seed N]   (anywhere, once tools/build_programs.sh has built the library)
 
 Needs cargo and valgrind. The forests are those that `beside measure` times: of each class the first N that are written, by seeds from
 --seed on, each sent once through each side. Counted is what runs inside the functions `counted_` of reference/beside: the Rust from its own
@@ -71,7 +71,7 @@ def main():
             stop(f"{tool} is not on this machine")
     build = ["cargo", "build", "--offline", "--quiet", "--release", "-p", "beside", "--target-dir", "target"]
     if subprocess.run(build, cwd=REFERENCE).returncode != 0:
-        stop("reference/beside can't be built; has `rt staticlib cse` written the library?")
+        stop("reference/beside can't be built; has tools/build_programs.sh built the library?")
     _, clearing = counted("call", "-\n")
     print("| class | records | Rust | main call | with clearing | times fewer | with clearing |")
     print("|---|---|---|---|---|---|---|")

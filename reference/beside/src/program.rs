@@ -5,7 +5,7 @@ use std::process::{Command, Stdio};
 
 use cse_reference::hex;
 
-/// Where the programs are, once `rt check` or `rt ci` has built them.
+/// Where the programs are, once `tools/build_programs.sh` has built them.
 const PROGRAMS: &str = concat!(env!("CARGO_MANIFEST_DIR"), "/../../target/bin");
 
 /// What is wrong with what a program prints of a forest, if it is not that text.
