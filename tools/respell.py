@@ -21,9 +21,9 @@ import re
 import sys
 
 WORD = r"[^\s(){}.;,@\"«»\[\]\\]+"
-TOKEN = re.compile(r"--[^\n]*|//[^\n]*|\"(?:[^\"\\]|\\.)*\"|" + WORD)
-DECLARED = re.compile(r"^(\s*)((?:pub |abbrev |unfoldable |pattern )*)(\S+(?: \S+)*?) : ")
-NOT = re.compile(r"\s*(let|use|record|data|module|mod|in|λ|ghost)\b")
+TOKEN = re.compile(r"--[^\n]*|//[^\n]*|\"(?:[^\"\\]|\\[\s\S])*\"|" + WORD)
+DECLARED = re.compile(r"^(\s*)((?:pub |abbrev |unfoldable |pattern )*)([^\s=(){}]+(?: [^\s=(){}]+)*) : ")
+NOT = re.compile(r"\s*(let|use|record|data|module|mod|in|λ|ghost) ")
 NAME = re.compile(r"^[^\s(){}.;,@\"«»\[\]\\=→×≡∙◌λ]+$")
 OWN_PROOF = re.compile(r"/proofs/(.*/)?(Proof|Answers|Invariants)(/.*)?\.antt$|/proofs/.*\+")
 # lemmas that would have a definition's name, and that port.py has spelled with underscores
@@ -64,7 +64,7 @@ def declarations(text):
         indent = len(line) - len(line.lstrip())
         if inside is not None and indent <= inside:
             inside = None
-        if re.match(r"\s*(pub )?(record|data)\b.* where$", line) or re.match(r"\s*(pub )?(record|data)\b", line):
+        if re.match(r"\s*(pub )?(record|data) ", line):
             inside = indent
             continue
         m = DECLARED.match(line)

@@ -38,18 +38,18 @@ module _ (w : ℕ → ℕ) where
   total-nil (suc m) = omega (arith, total-nil m)
 
   module _ (x : ℕ) (xs : List ℕ) where
-    in-others : (m : ℕ) → (m ≡ x → ⊥) → is_in m (x ∷ xs) ≡ is_in m xs
+    in_others : (m : ℕ) → (m ≡ x → ⊥) → is_in m (x ∷ xs) ≡ is_in m xs
     unfolding is_in
-    in-others m h = rw (ne_eqb m x h)
+    in_others m h = rw (ne_eqb m x h)
 
-    in-first : is_in x (x ∷ xs) ≡ true
+    in_first : is_in x (x ∷ xs) ≡ true
     unfolding is_in
-    in-first = rw (eq-eqb x x refl)
+    in_first = rw (eq-eqb x x refl)
 
     total_above : (m : ℕ) → m ≤ x → total w (x ∷ xs) m ≡ total w xs m
     total_above zero l = refl
     total_above (suc m) l =
-        let e : is_in m (x ∷ xs) ≡ is_in m xs = in-others m (λ e. omega arith) in
+        let e : is_in m (x ∷ xs) ≡ is_in m xs = in_others m (λ e. omega arith) in
         rw (e, total_above m (omega arith))
 
     total-cons : (m : ℕ) → x < m → is_in x xs ≡ false → total w (x ∷ xs) m ≡ w x + total w xs m
@@ -62,12 +62,12 @@ module _ (w : ℕ → ℕ) where
         here q =
             rw (sym q)
             (let a : total w (x ∷ xs) x ≡ total w xs x = total_above x (omega arith) in
-            rw (in-first, e) (omega arith))
+            rw (in_first, e) (omega arith))
 
         lower : x < m → total w (x ∷ xs) m ≡ w x + total w xs m →
             total w (x ∷ xs) (suc m) ≡ w x + total w xs (suc m)
         lower k t =
-            let i : is_in m (x ∷ xs) ≡ is_in m xs = in-others m (λ q. omega arith) in
+            let i : is_in m (x ∷ xs) ≡ is_in m xs = in_others m (λ q. omega arith) in
             rw i (omega arith)
 
   once_total : (m : ℕ) (xs : List ℕ) → Once xs → Under m xs → sum w xs ≡ total w xs m

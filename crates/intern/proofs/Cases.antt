@@ -152,9 +152,9 @@ block_plain r h j e = go (is_block r) refl
 -- ---- a record of any kind
 
 -- no reading is left
-pub record-full : {bs ws : List ℕ} {t : Tables} {st : State} {i : ℕ} {at : Here} → StandsAt bs ws t st i at →
+pub record_full : {bs ws : List ℕ} {t : Tables} {st : State} {i : ℕ} {at : Here} → StandsAt bs ws t st i at →
     {r : Read} → st.readings ≡ 2048 → r ≡ refused_read st 11 i i → RecordRead bs ws t st i at ws r
-record-full {bs} {ws} {t} {st} {i} {at} stands e f =
+record_full {bs} {ws} {t} {st} {i} {at} stands e f =
     rw f (reads_refused (kept_none at ws st) stands.rep stands.opened (λ z. omega arith)
     (intern_full bs i at.scope (env_of ws at.top) (abs_of bs ws t st) (omega arith)))
 
@@ -169,8 +169,8 @@ pub record Counts (bs ws : List ℕ) (t : Tables) (st : State) (i : ℕ) (at : H
 
 module _ {bs ws : List ℕ} {t : Tables} {st : State} {i : ℕ} {at : Here}
     (stands : StandsAt bs ws t st i at) (unread : st.readings ≡ 2048 → ⊥) where
-  pub record-left : st.readings < 2048
-  record-left = let few = stands.rep.few_readings in omega (arith, few, unread)
+  pub record_left : st.readings < 2048
+  record_left = let few = stands.rep.few_readings in omega (arith, few, unread)
 
   pub counted_given : {counted : State} → counted ≡ with_reading st → WellFormed bs → i < record_count bs →
       LegibleAt bs ws t st i at → Counts bs ws t st i at counted
@@ -179,7 +179,7 @@ module _ {bs ws : List ℕ} {t : Tables} {st : State} {i : ℕ} {at : Here}
     there = there;
     stands = stands;
     legible = legible;
-    few = record-left;
+    few = record_left;
     is = e;
   }
 
@@ -240,9 +240,9 @@ module _ {bs ws : List ℕ} {t : Tables} {st : State} {i : ℕ} {at : Here} {cou
     kept = counted_kept v.kept;
   }
 
-  pub record-lambda : (rec_at bs i).shape ≡ 12 → {ws' : List ℕ} {r : Read} → LambdaRead bs ws t counted i at ws' r →
+  pub record_lambda : (rec_at bs i).shape ≡ 12 → {ws' : List ℕ} {r : Read} → LambdaRead bs ws t counted i at ws' r →
       RecordRead bs ws t st i at ws' r
-  record-lambda e =
+  record_lambda e =
       counted_reads
       (intern_lambda bs i at.scope env₀ (abs_of bs ws t st) h.few e
       ∙ ap (intern_func i at.scope (rec_at bs i) env₀ (kids_read bs i)) (sym counted_abs))
@@ -252,9 +252,9 @@ module _ {bs ws : List ℕ} {t : Tables} {st : State} {i : ℕ} {at : Here} {cou
   counted_incomplete e u = record { ready = u.ready; is = u.is ∙ sym e; kept = counted_kept u.kept }
 
   -- a SelectField, and any other record: it is done, or still to be completed
-  pub record-field : (rec_at bs i).shape ≡ 17 → (ws' : List ℕ) (s : Selected) → SelectedRead bs ws t counted i at ws' s →
+  pub record_field : (rec_at bs i).shape ≡ 17 → (ws' : List ℕ) (s : Selected) → SelectedRead bs ws t counted i at ws' s →
       ReadsOn bs ws t st i at whole ws' s
-  record-field e ws' s = go s
+  record_field e ws' s = go s
     where
       is_field : whole ≡ intern_kind field i at.scope (rec_at bs i) env₀ (kids_read bs i) (abs_of bs ws t counted)
       is_field =
@@ -265,42 +265,42 @@ module _ {bs ws : List ℕ} {t : Tables} {st : State} {i : ℕ} {at : Here} {cou
       go (Done r) v = counted_reads is_field v
       go (Children k) v = counted_incomplete is_field v
 
-  pub record-other : ((rec_at bs i).shape ≡ 7 → ⊥) → ((rec_at bs i).shape ≡ 12 → ⊥) →
+  pub record_other : ((rec_at bs i).shape ≡ 7 → ⊥) → ((rec_at bs i).shape ≡ 12 → ⊥) →
       ((rec_at bs i).shape ≡ 17 → ⊥) → (ws' : List ℕ) (k : Kids) →
       Incomplete bs ws t counted i at
       (concluded i at.scope (rec_at bs i) (kids_read bs i at.scope env₀ (abs_of bs ws t counted))) ws' k →
       Incomplete bs ws t st i at whole ws' k
-  record-other a b c ws' k =
+  record_other a b c ws' k =
       counted_incomplete
       (intern_other bs i at.scope env₀ (abs_of bs ws t st) h.few a b c
       ∙ ap (λ (z : intern.State). concluded i at.scope (rec_at bs i) (kids_read bs i at.scope env₀ z))
       (sym counted_abs))
 
   -- a use
-  pub record-uses : (rec_at bs i).shape ≡ 7 → Uses bs ws i at.top
+  pub record_uses : (rec_at bs i).shape ≡ 7 → Uses bs ws i at.top
   unfolding depth
-  record-uses e = record {
+  record_uses e = record {
     from = h.there;
     shape = e;
     few = omega (arith, h.stands.top, h.there, records_few bs h.sound);
     words = h.stands.rep.arena.scoped.words;
   }
 
-  use-kids : (rec_at bs i).shape ≡ 7 → (row_at bs i).kids ≡ 0
+  use_kids : (rec_at bs i).shape ≡ 7 → (row_at bs i).kids ≡ 0
   unfolding shapes
-  use-kids e =
+  use_kids e =
       let f = fitting (row_at bs i) (row_fits bs i h.sound.fit h.there) in
       let m = rw e at f.many in omega (arith, m)
 
-  use-past : (rec_at bs i).shape ≡ 7 → Past bs i (size (tree_at bs i)) (rest_at bs i) (i + 1)
+  use_past : (rec_at bs i).shape ≡ 7 → Past bs i (size (tree_at bs i)) (rest_at bs i) (i + 1)
   unfolding size kid_trees_at rest_at take_t drop_t
-  use-past e =
-      let z : take_t (row_at bs i).kids (trees_from bs (i + 1)) ≡ nil = rw (use-kids e) in
-      (omega (arith, ap sizes z), rw (use-kids e))
+  use_past e =
+      let z : take_t (row_at bs i).kids (trees_from bs (i + 1)) ≡ nil = rw (use_kids e) in
+      (omega (arith, ap sizes z), rw (use_kids e))
 
-  pub record-use : (rec_at bs i).shape ≡ 7 → {r : Step} → r ≡ given counted (resolve env₀ (id_of (rec_at bs i))) →
+  pub record_use : (rec_at bs i).shape ≡ 7 → {r : Step} → r ≡ given counted (resolve env₀ (id_of (rec_at bs i))) →
       RecordRead bs ws t st i at ws (record { step = r; next = i + 1 })
-  record-use e f =
+  record_use e f =
       counted_reads refl (record {
         rep = rw f counted_stands.rep;
         opened = rw f counted_stands.opened;
@@ -309,6 +309,6 @@ module _ {bs ws : List ℕ} {t : Tables} {st : State} {i : ℕ} {at : Here} {cou
             ∙ out_good bs ws t (given counted (resolve env₀ (id_of (rec_at bs i)))) refl
             ∙ ap (λ (z : intern.State). good (resolve env₀ (id_of (rec_at bs i)), z)) counted_abs
             ∙ sym (intern_use bs i at.scope env₀ (abs_of bs ws t st) h.few e);
-        past = λ z. use-past e;
+        past = λ z. use_past e;
         kept = rw f (kept_none at ws counted);
       })

@@ -42,10 +42,10 @@ AllUnder n [] = Unit {0}
 AllUnder n (t ∷ ts) = Under n t × AllUnder n ts
 
 module _ (ss : List Sym) (r : Rec) (ks : List ℕ) (n : ℕ) where
-  in-low : (es : List ℕ) (i : ℕ) → Under n es → lookup_in ss r ks es ≡ some i → i < n
+  in_low : (es : List ℕ) (i : ℕ) → Under n es → lookup_in ss r ks es ≡ some i → i < n
   unfolding lookup_in
-  in-low [] i b e = none_some e
-  in-low (x ∷ es) i b e = go (is_key ss r ks x) (in-low es i (λ a h. b a (inr h))) e
+  in_low [] i b e = none_some e
+  in_low (x ∷ es) i b e = go (is_key ss r ks x) (in_low es i (λ a h. b a (inr h))) e
     where
       go : (t : Bool) → (lookup_in ss r ks es ≡ some i → i < n) →
           elim t [ true ↦ some x | false ↦ lookup_in ss r ks es ] ≡ some i → i < n
@@ -59,7 +59,7 @@ module _ (ss : List Sym) (r : Rec) (ks : List ℕ) (n : ℕ) where
     where
       go : (o : Option ℕ) → lookup_in ss r ks t ≡ o → (lookup ss r ks ts ≡ some i → i < n) →
           elim o [ some j ↦ some j | none ↦ lookup ss r ks ts ] ≡ some i → i < n
-      go (some j) f rest e = in-low t i b.0 (f ∙ e)
+      go (some j) f rest e = in_low t i b.0 (f ∙ e)
       go none f rest e = rest e
 
 module _ (ws : List ℕ) (top n : ℕ) (below : EntriesBelow ws top n) where

@@ -78,7 +78,7 @@ pub data InForce (ts : Trees) (i p : ℕ) : Type 0 where
   after_definition : (d b : ℕ) → shape_in ts d ≡ ValDef → id_of (rec_in ts d) ≡ i → shape_in ts b ≡ BlockValue → Child ts b d →
       end_of ts d ≤ p → p < end_of ts b → InForce ts i p
   -- "an argument in its lambda's body": lambda l, of which all that lies below it is the body
-  in-lambda : (l k : ℕ) → shape_in ts l ≡ FuncValue → Argument (rec_in ts l) k i → Descends ts l p → InForce ts i p
+  in_lambda : (l k : ℕ) → shape_in ts l ≡ FuncValue → Argument (rec_in ts l) k i → Descends ts l p → InForce ts i p
 
 -- record p binds id i: a definition its id, a lambda its arguments. "Nothing else binds"
 abbrev pub Binds : Rec → ℕ → Type 0

@@ -102,9 +102,9 @@ opened_scope {m} b sc e f h = subst (λ (y : ℕ). y < m) (sym f) (subst (OpenLo
 
 -- ---- symbol s
 
-use-row : (bs : List ℕ) (i : ℕ) → rows (val_use_of i) ≡ row_for bs (ValUse i) ∷ []
+use_row : (bs : List ℕ) (i : ℕ) → rows (val_use_of i) ≡ row_for bs (ValUse i) ∷ []
 unfolding row_for
-use-row bs i = use_rows i
+use_row bs i = use_rows i
 
 given_some : (i : ℕ) → (i ≡ 0 → ⊥) → id_in i ≡ some i
 given_some zero n = absurd (n refl)
@@ -118,7 +118,7 @@ module _ {bs ws : List ℕ} {g : Graph} {ids : List ℕ} {p : Plan} {above : ℕ
   plans_use n h =
       plans_row h (λ gr sc env. build_value gr s sc env last)
       (λ gr sc env st maps. let e = is gr sc env st maps in
-      (ap rows e ∙ use-row bs (get_or ids s 0), ap depth e ∙ use_depth (get_or ids s 0)))
+      (ap rows e ∙ use_row bs (get_or ids s 0), ap depth e ∙ use_depth (get_or ids s 0)))
     where
       is : (gr : model.Graph) (sc : ℕ) (env : Env) → GraphIn bs ws g.symbols g.scopes gr → Maps ids env
           → build_value gr s sc env last ≡ val_use_of (get_or ids s 0)
@@ -164,4 +164,4 @@ module _ {bs ws : List ℕ} {g : Graph} {ids : List ℕ} {p : Plan} {above : ℕ
   plans_argument l e h =
       plans_row h (fresh_tree s last) (λ gr sc env st maps.
       let f = fresh_is b s lt (Arg l) e gr sc env last st in
-      (ap rows f ∙ use-row bs 0, ap depth f ∙ use_depth 0))
+      (ap rows f ∙ use_row bs 0, ap depth f ∙ use_depth 0))

@@ -19,9 +19,9 @@ use Rattle.sheet.specs.Clip.{Clipped}
 use Rattle.sheet.specs.Shown.{Shown}
 use Rattle.sheet.proofs.Clipping.{clipped_none, clipped_then, clipped_as}
 
-pub record-there : (bs : List ℕ) (i : ℕ) {count : ℕ} → count ≤ many (trees_from bs i) → (count ≡ 0 → ⊥) →
+pub record_there : (bs : List ℕ) (i : ℕ) {count : ℕ} → count ≤ many (trees_from bs i) → (count ≡ 0 → ⊥) →
     i < record_count bs
-record-there bs i l some = trees_left bs i (omega arith)
+record_there bs i l some = trees_left bs i (omega arith)
 
 module _ (bs : List ℕ) (i depth count : ℕ) where
   -- ---- no trees
@@ -42,14 +42,14 @@ module _ (bs : List ℕ) (i depth count : ℕ) where
     unfolding take_t
     taken =
         let e : count ≡ suc (count - 1) = omega arith in
-        ap (take_t count) (trees_at bs i (record-there bs i l some))
+        ap (take_t count) (trees_at bs i (record_there bs i l some))
         ∙ ap (λ (n : ℕ). take_t n (cons (tree_at bs i) (rest_at bs i))) e
 
     dropped : drop_t count (trees_from bs i) ≡ drop_t (count - 1) (rest_at bs i)
     unfolding drop_t
     dropped =
         let e : count ≡ suc (count - 1) = omega arith in
-        ap (drop_t count) (trees_at bs i (record-there bs i l some))
+        ap (drop_t count) (trees_at bs i (record_there bs i l some))
         ∙ ap (λ (n : ℕ). drop_t n (cons (tree_at bs i) (rest_at bs i))) e
 
     module _ (kids : ℕ) (k : kids ≡ (row_at bs i).kids) {out out₁ out₂ : List ℕ} {at end : ℕ} {below : Progress}
@@ -74,7 +74,7 @@ module _ (bs : List ℕ) (i depth count : ℕ) where
       -- the trees left are there
       pub left_there : count - 1 ≤ many (trees_from bs below.record)
       unfolding many
-      left_there = omega (arith, ap many after, ap many (trees_at bs i (record-there bs i l some)))
+      left_there = omega (arith, ap many after, ap many (trees_at bs i (record_there bs i l some)))
 
       inner : trees_lines (i + 1) (depth + 1) (take_t kids (trees_from bs (i + 1))) ≡
           trees_lines (suc i) (suc depth) (kid_trees_at bs i)

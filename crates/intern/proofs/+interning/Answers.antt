@@ -19,9 +19,9 @@ use Rattle.intern.proofs.Reading.{reading_end, reading_there, reading_room, read
 use Rattle.intern.proofs.Reading.{reading_refused, reading_turn, loop_start, loop_reads}
 use Rattle.intern.proofs.Thunks.{child_plainly, child_thunked}
 use Rattle.intern.specs.Intern.{ReadsOn}
-use Rattle.intern.proofs.Cases.{Counts, record-full, record-left, counted_given, counted_stands, counted_well}
-use Rattle.intern.proofs.Cases.{counted_parent, counted_opcode, counted_plain, record-lambda, record-field}
-use Rattle.intern.proofs.Cases.{record-other, record-uses, record-use}
+use Rattle.intern.proofs.Cases.{Counts, record_full, record_left, counted_given, counted_stands, counted_well}
+use Rattle.intern.proofs.Cases.{counted_parent, counted_opcode, counted_plain, record_lambda, record_field}
+use Rattle.intern.proofs.Cases.{record_other, record_uses, record_use}
 use Rattle.intern.proofs.Gives.{children-operands, children-read, children_none, incomplete_reads}
 use Rattle.intern.proofs.Records.{Parent}
 use Rattle.intern.proofs.Weight.{weight_between, weight_thunked, weight_none}
@@ -84,9 +84,9 @@ reads_on t c =
     c.requires.well_formed c.requires.i_bound c.requires.legible_at in
     let s = c.shape-shape.ensures in
     let parent = counted_parent h (λ z. c.if-shape-eq-FUNC_VALUE.false (s ∙ z)) in
-    let is = record-other h (λ z. c.if-shape-eq-VAL_USE.false (s ∙ z)) (λ z. c.if-shape-eq-FUNC_VALUE.false (s ∙ z)) in
+    let is = record_other h (λ z. c.if-shape-eq-VAL_USE.false (s ∙ z)) (λ z. c.if-shape-eq-FUNC_VALUE.false (s ∙ z)) in
     elim c.if-shape-eq-SELECT_FIELD.branch [
-      | subtree-then-shape-eq-SELECT_FIELD w ↦ record-field h (sym s ∙ w.if-shape-eq-SELECT_FIELD.true) met.work met.selected
+      | subtree-then-shape-eq-SELECT_FIELD w ↦ record_field h (sym s ∙ w.if-shape-eq-SELECT_FIELD.true) met.work met.selected
           (rw (w.work-is, w.selected-is) w.field-selected.ensures)
       | subtree-else-shape-eq-SELECT_FIELD+then-count-eq0 w ↦ rw (w.work-is, w.selected-is)
           (is (λ z. w.if-shape-eq-SELECT_FIELD.false (s ∙ z)) _ _
@@ -384,11 +384,11 @@ subtree-overflow_cast-i t c =
 
 pub subtree-returns-then-st-eq2048 : goal.subtree-returns-then-st-eq2048
 subtree-returns-then-st-eq2048 t c =
-    record-full c.requires.stands_at c.if-st-eq2048.true c.refused.ensures
+    record_full c.requires.stands_at c.if-st-eq2048.true c.refused.ensures
 
 pub subtree-count_reading-counted-requires : goal.subtree-count_reading-counted-requires
 subtree-count_reading-counted-requires t c =
-    record-left c.requires.stands_at c.if-st-eq2048.false
+    record_left c.requires.stands_at c.if-st-eq2048.false
 
 pub subtree-shape-shape-requires : goal.subtree-shape-shape-requires
 subtree-shape-shape-requires t c =
@@ -396,7 +396,7 @@ subtree-shape-shape-requires t c =
 
 pub subtree-value_use-step-requires : goal.subtree-value_use-step-requires
 subtree-value_use-step-requires t c =
-    let h = counted t (goal.at.subtree-value_use-step-requires t c).After-count_reading-counted in record { well_formed = h.sound; uses = record-uses h (sym c.shape-shape.ensures ∙ c.if-shape-eq-VAL_USE.true) }
+    let h = counted t (goal.at.subtree-value_use-step-requires t c).After-count_reading-counted in record { well_formed = h.sound; uses = record_uses h (sym c.shape-shape.ensures ∙ c.if-shape-eq-VAL_USE.true) }
 
 pub subtree-overflow_add-result : goal.subtree-overflow_add-result
 subtree-overflow_add-result t c =
@@ -404,7 +404,7 @@ subtree-overflow_add-result t c =
 
 pub subtree-returns-then-shape-eq-VAL_USE : goal.subtree-returns-then-shape-eq-VAL_USE
 subtree-returns-then-shape-eq-VAL_USE t c =
-    record-use (counted t (goal.at.subtree-returns-then-shape-eq-VAL_USE t c).After-count_reading-counted) (sym c.shape-shape.ensures ∙ c.if-shape-eq-VAL_USE.true)
+    record_use (counted t (goal.at.subtree-returns-then-shape-eq-VAL_USE t c).After-count_reading-counted) (sym c.shape-shape.ensures ∙ c.if-shape-eq-VAL_USE.true)
     c.value_use-step.ensures
 
 pub subtree-lambda-requires : goal.subtree-lambda-requires
@@ -419,7 +419,7 @@ subtree-shape_of-work-then-shape-eq-FUNC_VALUE t c =
 
 pub subtree-returns-then-shape-eq-FUNC_VALUE : goal.subtree-returns-then-shape-eq-FUNC_VALUE
 subtree-returns-then-shape-eq-FUNC_VALUE t c =
-    record-lambda (counted t (goal.at.subtree-returns-then-shape-eq-FUNC_VALUE t c).After-count_reading-counted) (sym c.shape-shape.ensures ∙ c.if-shape-eq-FUNC_VALUE.true) c.lambda.ensures
+    record_lambda (counted t (goal.at.subtree-returns-then-shape-eq-FUNC_VALUE t c).After-count_reading-counted) (sym c.shape-shape.ensures ∙ c.if-shape-eq-FUNC_VALUE.true) c.lambda.ensures
 
 pub subtree-kids-count-requires : goal.subtree-kids-count-requires
 subtree-kids-count-requires t c =

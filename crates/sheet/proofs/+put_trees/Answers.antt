@@ -3,7 +3,7 @@ use mathlib.Core.Path.{refl, ◌∙◌}
 use native.Mathlib.Omega.{arith}
 use Rattle.walk.proofs.Bridge.{kids_there, records_few}
 use Rattle.sheet.proofs.Clipping.{clipped_length, clipped_room}
-use Rattle.sheet.proofs.Trees.{shown_none, record-there, onward, left_there, shown_more}
+use Rattle.sheet.proofs.Trees.{shown_none, record_there, onward, left_there, shown_more}
 use Rattle.sheet.proofs.+put_trees.Goals as goal
 
 pub returns-then-count-eq0 : goal.returns-then-count-eq0
@@ -13,7 +13,7 @@ returns-then-count-eq0 t c =
 pub put_line-end-requires : goal.put_line-end-requires
 put_line-end-requires t c =
     let p = c.requires in
-    let there = record-there _ _ p.count_bound.0 c.if-count-eq0.false in
+    let there = record_there _ _ p.count_bound.0 c.if-count-eq0.false in
     record {
       at_in_bounds = (p.count_bound.1, omega (arith, p.count_bound.2, there, records_few _ p.well_formed));
       well_formed = p.well_formed;
@@ -23,25 +23,25 @@ put_line-end-requires t c =
 pub kids-kids-requires : goal.kids-kids-requires
 kids-kids-requires t c =
     let p = c.requires in
-    let there = record-there _ _ p.count_bound.0 c.if-count-eq0.false in
+    let there = record_there _ _ p.count_bound.0 c.if-count-eq0.false in
     record { laid = p.well_formed.laid; i_bound = there }
 
 pub overflow_add-inside : goal.overflow_add-inside
 overflow_add-inside t c =
     let p = c.requires in
-    let there = record-there _ _ p.count_bound.0 c.if-count-eq0.false in
+    let there = record_there _ _ p.count_bound.0 c.if-count-eq0.false in
     omega (arith, there, records_few _ p.well_formed)
 
 pub overflow_add-depth : goal.overflow_add-depth
 overflow_add-depth t c =
     let p = c.requires in
-    let there = record-there _ _ p.count_bound.0 c.if-count-eq0.false in
+    let there = record_there _ _ p.count_bound.0 c.if-count-eq0.false in
     omega (arith, p.count_bound.2, there, records_few _ p.well_formed)
 
 pub put_trees-below-requires : goal.put_trees-below-requires
 put_trees-below-requires t c =
     let p = c.requires in
-    let there = record-there _ _ p.count_bound.0 c.if-count-eq0.false in
+    let there = record_there _ _ p.count_bound.0 c.if-count-eq0.false in
     let few = records_few _ p.well_formed in
     let kids = kids_there c.args.forest.now c.args.at.record p.well_formed.closed there in (
       omega (arith, c.decreases, there, few),
@@ -55,7 +55,7 @@ overflow_sub-count t c =
 pub put_trees-requires : goal.put_trees-requires
 put_trees-requires t c =
     let p = c.requires in
-    let there = record-there _ _ p.count_bound.0 c.if-count-eq0.false in
+    let there = record_there _ _ p.count_bound.0 c.if-count-eq0.false in
     let few = records_few _ p.well_formed in
     let on = onward _ _ _ _ p.count_bound.0 c.if-count-eq0.false _ c.kids-kids.ensures.0 c.put_line-end.ensures
     c.put_trees-below.ensures in

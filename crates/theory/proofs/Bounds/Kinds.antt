@@ -159,8 +159,8 @@ module _ (B : ℕ → Type 0) (b0 : B 0) (b1 : B 1) (b2 : B 2) (at cur : ℕ) (r
   Kept = KeepsAll B st (suc k + many ts) (suc c) (many ts) r.opcode 0
 
   -- a use is of an id that is bound
-  use-low : kind r.shape ≡ val_use → In (id_of r) (keys env) × (resolve env (id_of r) < sym_count st)
-  use-low e = envs (id_of r) (use_bound r ts ids known (kind_shape r.shape val_use e).shape)
+  use_low : kind r.shape ≡ val_use → In (id_of r) (keys env) × (resolve env (id_of r) < sym_count st)
+  use_low e = envs (id_of r) (use_bound r ts ids known (kind_shape r.shape val_use e).shape)
 
   -- the children of a record that is no lambda, from a later state
   kids_keep : (inside r ≡ []) → (st' : State) (j d : ℕ) → Keeps B st st' j (suc d) →
@@ -335,7 +335,7 @@ module _ (B : ℕ → Type 0) (b0 : B 0) (b1 : B 1) (b2 : B 2) (at cur : ℕ) (r
 
   pub kind_keeps : (kd : Kind) → kind r.shape ≡ kd → Holds Post (intern_kind kd at cur r env kids st)
   unfolding intern_kind shapes
-  kind_keeps val_use e = record { keeps = keeps_none sound room; low = (use-low e).1 }
+  kind_keeps val_use e = record { keeps = keeps_none sound room; low = (use_low e).1 }
   kind_keeps val_def e =
       last_child (omega (arith, def_child r (many ts) (kind_shape r.shape val_def e).shape fine.0))
       (inside_of r val_def e)

@@ -45,9 +45,9 @@ id_has i l x (inr (inr (inl e))) = omega arith
 id_has i l x (inr (inr (inr (inl e)))) = omega arith
 id_has i l x (inr (inr (inr (inr e)))) = absurd e
 
-use-has : (i : ℕ) → i < 4294967296 → TreeHas Byte (val_use_of i)
+use_has : (i : ℕ) → i < 4294967296 → TreeHas Byte (val_use_of i)
 unfolding val_use_of
-use-has i l =
+use_has i l =
     (record { shape_has = omega arith; opcode_has = omega arith; aux_has = omega arith; lit_has = id_has i l }, tt)
 
 def_has : (i : ℕ) (v : Tree) → i < 4294967296 → TreeHas Byte v → TreeHas Byte (val_def_of i v)
@@ -207,7 +207,7 @@ module _ (g : Graph) (recs : (s : ℕ) → RecHas Byte (sym_of g s).rec) (nodes 
           TreeHas Byte (build_node g f (sym_of g s) nd sc env last)
       built constant h ft = (recs s, tt)
       built unparsed h ft = (recs s, tt)
-      built argument h ft = use-has 0 (omega arith)
+      built argument h ft = use_has 0 (omega arith)
       built (func xs b) h ft = (
         record {
           shape_has = omega arith;
@@ -228,7 +228,7 @@ module _ (g : Graph) (recs : (s : ℕ) → RecHas Byte (sym_of g s).rec) (nodes 
       tree o = elim o [ some i ↦ val_use_of i | none ↦ build_node g f (sym_of g s) (sym_of g s).node sc env last ]
 
       given : (o : Option ℕ) → id_given env s ≡ o → Fit last (size (tree o)) → TreeHas Byte (tree o)
-      given (some i) e ft = use-has i (omega (arith, ids s i e))
+      given (some i) e ft = use_has i (omega (arith, ids s i e))
       given none e ft = built (sym_of g s).node (nodes s) ft
 
   abbrev zero_use : ℕ → Env → ℕ → Tree
@@ -238,11 +238,11 @@ module _ (g : Graph) (recs : (s : ℕ) → RecHas Byte (sym_of g s).rec) (nodes 
   under-has n f ok s =
       under_holds (λ (x : ℕ → Env → ℕ → Tree). (sc : ℕ) (env : Env) (last : ℕ) → IdsTo env last →
       Fit last (size (x sc env last)) → TreeHas Byte (x sc env last)) zero_use n f s
-      (λ l. ok s) (λ sc env last ids ft. use-has 0 (omega arith))
+      (λ l. ok s) (λ sc env last ids ft. use_has 0 (omega arith))
 
   fuel_has : (m s : ℕ) → Writes (down_fuel zero_use (build_step g) m) s
   unfolding down_fuel
-  fuel_has zero s = λ sc env last ids ft. use-has 0 (omega arith)
+  fuel_has zero s = λ sc env last ids ft. use_has 0 (omega arith)
   fuel_has (suc m) s = step_has (under zero_use s (down_fuel zero_use (build_step g) m)) (under-has s _ (fuel_has m)) s
 
   build_has : (s : ℕ) → Writes (build_value g) s

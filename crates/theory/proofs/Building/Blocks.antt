@@ -86,9 +86,9 @@ pub kind_use : (s : ℕ) → eqb s 7 ≡ true → kind s ≡ val_use
 unfolding kind
 kind_use s e = rw (e, kind)
 
-use-of : (r : Tree) (ms : Meaning) (d : ℕ) → eqb (top r).shape 7 ≡ true → unfold_at r ms d ≡ meaning ms (id_of (top r)) d
+use_of : (r : Tree) (ms : Meaning) (d : ℕ) → eqb (top r).shape 7 ≡ true → unfold_at r ms d ≡ meaning ms (id_of (top r)) d
 unfolding unfold_at unfold_kind
-use-of (node r ts) ms d e =
+use_of (node r ts) ms d e =
     ap (λ (k : Kind). unfold_kind k r (λ m x. unfold_all ts m x) (λ m x. unfold_last ts m x) ms d) (kind_use r.shape e)
 
 -- a result that only renames definition d is a use of it
@@ -108,7 +108,7 @@ unfolding meaning
 renamed_unfold i v r ms d e =
     let x = val_def_of i v in
     let is = renames_is x v r e in
-    sym (use-of r (bind_def x ms) d is.0 ∙ rw (is.1, meaning) (def_unfold i v ms d))
+    sym (use_of r (bind_def x ms) d is.0 ∙ rw (is.1, meaning) (def_unfold i v ms d))
 
 -- a block's tree is the result if there are no definitions, the value of the one if it only renames, or else the block
 pub wrap_cases : (P : Tree → Type 0) (ds : Trees) (r : Tree) → AllDefs ds → (ds ≡ nil → P r) →

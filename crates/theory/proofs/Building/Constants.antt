@@ -130,9 +130,9 @@ module _ (fin : List Sym) (scs : List Scope) (n : ℕ) (good : Goods fin scs n) 
 -- ---- definitions and blocks
 
 module _ (P : Rec → Type 0) where
-  use-each : (i : ℕ) → EachConstant P (val_use_of i)
+  use_each : (i : ℕ) → EachConstant P (val_use_of i)
   unfolding val_use_of
-  use-each i = (λ e. absurd (omega arith), tt)
+  use_each i = (λ e. absurd (omega arith), tt)
 
   def_each : (i : ℕ) (v : Tree) → EachConstant P v → EachConstant P (val_def_of i v)
   unfolding val_def_of
@@ -217,7 +217,7 @@ module _ (g : Graph) (n : ℕ) (good : Goods g.syms g.scopes n) (top : ℕ) (low
             EachConstant P (build_node g f (sym_of g s) nd sc env last)
         built constant e h = (own s b h.0 (ap no_arg e), tt)
         built unparsed e h = (own s b h.0 (ap no_arg e), tt)
-        built argument e h = use-each P 0
+        built argument e h = use_each P 0
         built (func xs c) e h =
             let first : In (get_or (sym_kids g.syms s) 0 0) (sym_kids g.syms s) = rw h.kids_is (inl refl) in (
               λ z. absurd (omega arith),
@@ -230,7 +230,7 @@ module _ (g : Graph) (n : ℕ) (good : Goods g.syms g.scopes n) (top : ℕ) (low
           | some i ↦ val_use_of i
           | none ↦ build_node g f (sym_of g s) (sym_of g s).node sc env last
         ])
-        given (some i) = use-each P i
+        given (some i) = use_each P i
         given none = built (node_at g.syms s) refl (good s l).node_is
 
   abbrev zero_use : ℕ → Env → ℕ → Tree
@@ -238,11 +238,11 @@ module _ (g : Graph) (n : ℕ) (good : Goods g.syms g.scopes n) (top : ℕ) (low
 
   fuel_each : (m s : ℕ) → Each (down_fuel zero_use (build_step g) m) s
   unfolding down_fuel
-  fuel_each zero s = λ b sc env last. use-each P 0
+  fuel_each zero s = λ b sc env last. use_each P 0
   fuel_each (suc m) s =
       step_each (under zero_use s (down_fuel zero_use (build_step g) m))
       (λ t b sc env last. under_holds (λ (x : ℕ → Env → ℕ → Tree). EachConstant P (x sc env last)) zero_use s
-      (down_fuel zero_use (build_step g) m) t (λ l. fuel_each m t b sc env last) (use-each P 0)) s
+      (down_fuel zero_use (build_step g) m) t (λ l. fuel_each m t b sc env last) (use_each P 0)) s
 
   -- the tree of the top symbol, in a scope
   pub tree_constants : (sc : ℕ) → EachConstant P (process_scope g (build_value g) top sc [] 0)

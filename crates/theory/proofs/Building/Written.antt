@@ -51,11 +51,11 @@ use_checked i ids h = record {
   fine = (refl, refl, tt);
   placed = (refl, tt);
   fresh = (refl, tt);
-  known = (in-force, tt);
+  known = (in_force, tt);
 }
   where
-    in-force : not (is_in (id_of (top (val_use_of i))) ids) ≡ false
-    in-force = ap not (ap (λ (z : ℕ). is_in z ids) (use_id i) ∙ in_is_in i ids h)
+    in_force : not (is_in (id_of (top (val_use_of i))) ids) ≡ false
+    in_force = ap not (ap (λ (z : ℕ). is_in z ids) (use_id i) ∙ in_is_in i ids h)
 
 -- ---- a definition
 

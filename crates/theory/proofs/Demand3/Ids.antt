@@ -19,7 +19,7 @@ use Rattle.model.specs.Binding.{kind, lambda, args_of, id_of, arg_ids, inside, d
 use Rattle.model.specs.Binding.{unbound_at, unbound_in, check8, check9, check10}
 use Rattle.model.specs.Places.{First}
 use Rattle.model.specs.ShapeRules.{IsId, IsOpt, ◌followed◌, Many}
-use Rattle.model.specs.Nesting.{rec_in, shape_in, end_of, Descends, Argument, InForce, after_definition, in-lambda, Binds}
+use Rattle.model.specs.Nesting.{rec_in, shape_in, end_of, Descends, Argument, InForce, after_definition, in_lambda, Binds}
 use Rattle.model.specs.Nesting.{BindsTwice, Rebinds, Unbound}
 use Rattle.laws.specs.Members.{In}
 use Rattle.laws.proofs.Members.{is_in_true, in_is_in, is_in_false, not_in_is_in, and_both, both_and, clash, in_left, in_right}
@@ -118,10 +118,10 @@ module _ (ts : Trees) (args : (l : ℕ) → shape_in ts l ≡ 12 → Args (rec_i
   loose_force eight i p (def d l s e h f) =
       let w = def_stands ts eight d l s in after_definition d w.0 s e w.1 w.2 h (f w.0 w.2.0).1
   loose_force eight i p (arg l s h b) =
-      let w = argument_of (rec_in ts l) (args l s) i h in in-lambda l w.0 s w.1 b
+      let w = argument_of (rec_in ts l) (args l s) i h in in_lambda l w.0 s w.1 b
 
   force_loose : (i p : ℕ) → InForce ts i p → Loose ts i p
-  force_loose i p (in-lambda l k s h b) = arg l s (of_argument (rec_in ts l) (args l s) k i h) b
+  force_loose i p (in_lambda l k s h b) = arg l s (of_argument (rec_in ts l) (args l s) k i h) b
   force_loose i p (after_definition d b s e t h l u) = def d there s e l go
     where
       there : d < sizes ts

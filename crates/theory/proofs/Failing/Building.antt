@@ -39,9 +39,9 @@ module _ {W : Type 0} (sem : Semantics W) where
 
   -- ---- records that are written
 
-  use-eval : (i : ℕ) (ms : Values W) → ev (val_use_of i) ms ≡ value_in ms i
+  use_eval : (i : ℕ) (ms : Values W) → ev (val_use_of i) ms ≡ value_in ms i
   unfolding val_use_of eval eval_kind kind id_of put32
-  use-eval i ms = ap (λ (z : ℕ). value_in ms z) (read_id i [])
+  use_eval i ms = ap (λ (z : ℕ). value_in ms z) (read_id i [])
 
   def_eval : (i : ℕ) (t : Tree) (ms : Values W) → ev (val_def_of i t) ms ≡ ev t ms
   unfolding val_def_of eval eval_kind kind
@@ -84,9 +84,9 @@ module _ {W : Type 0} (sem : Semantics W) where
       go none h = refl
       go (some w) h = h w
 
-  use-of : (r : Tree) (ms : Values W) → eqb (top r).shape 7 ≡ true → ev r ms ≡ value_in ms (id_of (top r))
+  use_of : (r : Tree) (ms : Values W) → eqb (top r).shape 7 ≡ true → ev r ms ≡ value_in ms (id_of (top r))
   unfolding eval eval_kind
-  use-of (node r ts) ms e =
+  use_of (node r ts) ms e =
       ap (λ (k : Kind). eval_kind sem k r ms (eval_all sem ts ms) (eval_last sem ts ms)) (kind_use r.shape e)
 
   -- a definition that is a use, and a result that uses it: the definition's value alone has the same value
@@ -101,7 +101,7 @@ module _ {W : Type 0} (sem : Semantics W) where
       uses : (w : W) → ev r ((id_of (top x), w) ∷ ms) ≡ some w
       uses w =
           let is = renames_is x v r e in
-          use-of r ((id_of (top x), w) ∷ ms) is.0 ∙ rw (is.1, value_in) refl
+          use_of r ((id_of (top x), w) ∷ ms) is.0 ∙ rw (is.1, value_in) refl
 
       go : (o : Option W) → o ≡ (o >>= (λ w. some ((id_of (top x), w) ∷ ms)) >>= λ m. ev r m)
       go none = refl
@@ -266,7 +266,7 @@ module _ {W : Type 0} (sem : Semantics W) where
             | some i ↦ val_use_of i
             | none ↦ build_node g f (sym_of g s) (sym_of g s).node sc env last
           ]) ms ≡ val s
-          go (some i) e = use-eval i ms ∙ h.stands s i e
+          go (some i) e = use_eval i ms ∙ h.stands s i e
           go none e = node_right (node_at g.syms s) (good s l).node_is is_live.node_is is_live.kids_live
 
     value_right : (s : ℕ) → s < n → Evaluates (build_value g) s

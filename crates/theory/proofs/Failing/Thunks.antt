@@ -110,8 +110,8 @@ module _ {W : Type 0} (sem : Semantics W) (F : Final) where
         more : scope_count (open_thunk cur st) ≡ suc (scope_count st)
         more = one_more st.scopes _
 
-        in-thunk : Here F (open_thunk cur st) (scope_count st)
-        in-thunk = record {
+        in_thunk : Here F (open_thunk cur st) (scope_count st)
+        in_thunk = record {
           opens = opens;
           plain = ap (λ (z : Scope). z.args) is;
           lined = (λ x m. absurd m, rw around_is h.lined);
@@ -122,7 +122,7 @@ module _ {W : Type 0} (sem : Semantics W) (F : Final) where
             opens b (inr m) = omega (arith, more, h.opens b (rw around_is at m))
 
         after_thunk : After F (open_thunk cur st) o.1 (scope_count st)
-        after_thunk = k.after inner in-thunk
+        after_thunk = k.after inner in_thunk
 
         new_scope_lem : (x : ℕ) → sym_count st ≤ x → x < sym_count o.1 → scope_count st ≤ home F x
         new_scope_lem x l m = go (after_thunk.placed x l m).0
@@ -148,7 +148,7 @@ module _ {W : Type 0} (sem : Semantics W) (F : Final) where
 
         module _ (ms : Values W) (w : W) (env-is : EnvValued env ms cur) (q : e ms ≡ some w) where
           v : HasValue (open_thunk cur st) o.1 (scope_count st) o.0 w
-          v = k.valued inner in-thunk ms w (λ i x p. let y = env-is i x p in (y.0, inr (rw around_is y.1))) q
+          v = k.valued inner in_thunk ms w (λ i x p. let y = env-is i x p in (y.0, inr (rw around_is y.1))) q
 
           -- the same scopes, listed in another order
           inward : Sub (entered_from sem F cur (scope_count st ∷ v.live)) (entered_from sem F (scope_count st) v.live)

@@ -47,8 +47,8 @@ module _ {W : Type 0} (sem : Semantics W) (F : Final) where
         Holds (OwesAll sem F st cur env r.opcode 0 t ts) (kids cur env st)
     kids_keep e t f = rw f at (keep cur env st (rw e at (checked_kids r ts b (keys env) c)))
 
-    use-keeps : Owes sem F st cur env (λ ms. value_in ms (id_of r)) (resolve env (id_of r), st)
-    use-keeps = record {
+    use_keeps : Owes sem F st cur env (λ ms. value_in ms (id_of r)) (resolve env (id_of r), st)
+    use_keeps = record {
       grows = grow_none st;
       after = λ i h. after_none F st cur h;
       valued = λ i h ms w ev q. record {
@@ -63,7 +63,7 @@ module _ {W : Type 0} (sem : Semantics W) (F : Final) where
         Holds (Owes sem F st cur env (λ ms. eval_kind sem k r ms (eval_all sem ts ms) (eval_last sem ts ms)))
         (intern_kind k at cur r env kids st)
     unfolding intern_kind eval_kind inside
-    intern_kind_keeps val_use e = use-keeps
+    intern_kind_keeps val_use e = use_keeps
     intern_kind_keeps val_def e =
         let is = (kind_shape r.shape val_def e).shape in
         intern_last_keeps sem F cur r.opcode env false ts st (kids cur env st)

@@ -114,9 +114,9 @@ module _ (f : Filling) where
       (both_and _ _ (both_and _ _ (both_and _ _ (le-leb 0 n (omega arith)) (le-leb n 0 h)) (le-leb a 251 k))
       (le-leb 1 (length l) w))
 
-  record-fits : (r : Rec) (n : ℕ) → FitsWith r n → FitsWith (fill_rec f r) n
+  record_fits : (r : Rec) (n : ℕ) → FitsWith r n → FitsWith (fill_rec f r) n
   unfolding shapes
-  record-fits r n h = go (is_parameter r) refl
+  record_fits r n h = go (is_parameter r) refl
     where
       go : (b : Bool) → is_parameter r ≡ b → FitsWith (fill_rec f r) n
       go true e =
@@ -130,7 +130,7 @@ module _ (f : Filling) where
   fits_kept : (rs : List Row) → Clear (map (λ r. not (fits r)) rs) →
       Clear (map (λ r. not (fits r)) (map (fill_row f) rs))
   fits_kept [] h = tt
-  fits_kept (r ∷ rs) h = (ap not (record-fits r.rec r.kids (not-false _ h.0)), fits_kept rs h.1)
+  fits_kept (r ∷ rs) h = (ap not (record_fits r.rec r.kids (not-false _ h.0)), fits_kept rs h.1)
 
   agrees-kept : (rs : List Row) →
       map (λ r. not (agrees r.rec)) (map (fill_row f) rs) ≡ map (λ r. not (agrees r.rec)) rs

@@ -65,18 +65,18 @@ module _ (f : Filling) (v : ℕ → List ℕ) where
           h.valued;
     }
 
-    in-more : (is : List ℕ) → ValuedIn ss is → ValuedIn (ss ++ (y ∷ [])) is
-    in-more [] h = tt
-    in-more (i ∷ is) h = (at_more i h.0, in-more is h.1)
+    in_more : (is : List ℕ) → ValuedIn ss is → ValuedIn (ss ++ (y ∷ [])) is
+    in_more [] h = tt
+    in_more (i ∷ is) h = (at_more i h.0, in_more is h.1)
 
     pub sound_more : (ts : List (List ℕ)) → Sound ss ts → Sound (ss ++ (y ∷ [])) ts
     sound_more [] h = tt
-    sound_more (t ∷ ts) h = (in-more t h.0, sound_more ts h.1)
+    sound_more (t ∷ ts) h = (in_more t h.0, sound_more ts h.1)
 
     pub sound_enter : (ts : List (List ℕ)) → Valued v y.rec → Sound ss ts →
         Sound (ss ++ (y ∷ [])) (enter (length ss) ts)
     sound_enter [] k h = tt
-    sound_enter (t ∷ ts) k h = ((new, in-more t h.0), sound_more ts h.1)
+    sound_enter (t ∷ ts) k h = ((new, in_more t h.0), sound_more ts h.1)
       where
         new : ValuedAt (ss ++ (y ∷ [])) (length ss)
         new = record {

@@ -72,9 +72,9 @@ module _ (forest : List ℕ) (h : Template forest) where
   abbrev values : ℕ → List ℕ
   values a = value_of a (rows_in forest)
 
-  pub record-valued : (p : ℕ) → Valued values (record_at forest p).rec
+  pub record_valued : (p : ℕ) → Valued values (record_at forest p).rec
   unfolding is_of
-  record-valued p e =
+  record_valued p e =
       let a = (record_at forest p).rec.aux in
       let mine : is_of a (record_at forest p) ≡ true = both_and _ _ e (eq-eqb a a refl) in
       let w = first_of a (rows_in forest) p mine in
@@ -83,4 +83,4 @@ module _ (forest : List ℕ) (h : Template forest) where
 -- ---- its trees
 
 pub trees_valued : (forest : List ℕ) → Template forest → ValuedTrees (λ a. value_of a (rows_in forest)) (trees_of forest)
-trees_valued forest h = forest_each (Valued (λ a. value_of a (rows_in forest))) forest (record-valued forest h)
+trees_valued forest h = forest_each (Valued (λ a. value_of a (rows_in forest))) forest (record_valued forest h)
