@@ -5,7 +5,6 @@ use Prim.Native.Nat.{ℕ}
 use mathlib.Core.Path.{◌≡◌, refl}
 use mathlib.Core.List.{List, []}
 use lib.ListN.{replicate}
-use Rattle.model.specs.Tree.{rows}
 use Rattle.model.specs.Gate.{reachable}
 use Rattle.model.specs.Materialize.{materialize, build_value, process_scope}
 use Rattle.graph.specs.declared.Graph.{Graph}

@@ -4,6 +4,8 @@
 // Interning makes no symbol for a use, so no definition's value is one, and the case has no code.
 // What nests: `build`, `fresh`, `operands`, `operand` once a symbol, with no array. `lambda`, and `thunk` where it gives
 // ids, open a copy of the ids (2 KB), `define` an order (1 KB); these nest once a scope.
+#![tactic(auto)]
+
 ghost use Rattle.std.specs.Prelude.{◌≡◌, ◌∷◌, [], ℕ, ◌+◌, ◌<◌, ◌≤◌, length, get_or, take};
 ghost use Rattle.model.specs.Materialize.{build_value, process_scope};
 ghost use Rattle.key.specs.declared.Node.TheVariants.{Lambda, Op};
@@ -28,7 +30,7 @@ struct Defined {
 // ---- a symbol
 
 // Symbol s, as a use where it has an id. Rules out: the value of a symbol that is defined; a use of another id.
-#[cycle(build_define_definition_definitions_fresh_lambda_operand_operands_thunk)]
+#[cycle(building)]
 fn build(
     forest: &[u8],
     work: &mut [u32],
@@ -56,7 +58,7 @@ fn build(
 }
 
 // Symbol s, which has no id. An argument outside its lambda is never met; the definition writes a use of 0.
-#[cycle(build_define_definition_definitions_fresh_lambda_operand_operands_thunk)]
+#[cycle(building)]
 fn fresh(
     forest: &[u8],
     work: &mut [u32],
@@ -87,7 +89,7 @@ fn fresh(
 // ---- an operation
 
 // Operation s with its operands.
-#[cycle(build_define_definition_definitions_fresh_lambda_operand_operands_thunk)]
+#[cycle(building)]
 fn operands(
     forest: &[u8],
     work: &mut [u32],
@@ -122,7 +124,7 @@ fn operands(
 }
 
 // One operand, in its parent's scope or in a thunk of its own.
-#[cycle(build_define_definition_definitions_fresh_lambda_operand_operands_thunk)]
+#[cycle(building)]
 fn operand(
     forest: &[u8],
     work: &mut [u32],
@@ -150,7 +152,7 @@ fn operand(
 // ---- scopes
 
 // The scope of a thunk. If it gives ids, it has a copy of them, so those that it gives are not known outside.
-#[cycle(build_define_definition_definitions_fresh_lambda_operand_operands_thunk)]
+#[cycle(building)]
 fn thunk(
     forest: &[u8],
     work: &mut [u32],
@@ -178,7 +180,7 @@ fn thunk(
 
 // Lambda s. Its arguments get the ids after `last`; the first definition in its body gets the second after them.
 // Rules out: the first definition numbered right after the arguments.
-#[cycle(build_define_definition_definitions_fresh_lambda_operand_operands_thunk)]
+#[cycle(building)]
 fn lambda(
     forest: &[u8],
     work: &mut [u32],
@@ -218,7 +220,7 @@ fn lambda(
 
 // A scope: its schedule, then its definitions and its result. Where no symbol gets a definition, its result alone.
 // Rules out: a block around a result without definitions; one definition left out of its block.
-#[cycle(build_define_definition_definitions_fresh_lambda_operand_operands_thunk)]
+#[cycle(building)]
 fn define(
     forest: &[u8],
     work: &mut [u32],
@@ -268,7 +270,7 @@ fn define(
 }
 
 // The definitions of the symbols of an order, none of which is higher than `root`.
-#[cycle(build_define_definition_definitions_fresh_lambda_operand_operands_thunk)]
+#[cycle(building)]
 fn definitions(
     forest: &[u8],
     work: &mut [u32],
@@ -302,7 +304,7 @@ fn definitions(
 
 // The definition of symbol s, if it gets one. Its value is built before its number is given.
 // Rules out: a value that is a use of itself.
-#[cycle(build_define_definition_definitions_fresh_lambda_operand_operands_thunk)]
+#[cycle(building)]
 fn definition(
     forest: &[u8],
     work: &mut [u32],

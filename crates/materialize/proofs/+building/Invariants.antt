@@ -1,0 +1,64 @@
+-- The functions of the cycle `building` of `materialize` in their loops and calls: what stays, and what falls. Assumes nothing.
+use Prim.Native.Nat.{◌+◌, ◌-◌, ◌*◌, ◌≤◌}
+use mathlib.Core.Path.{◌≡◌}
+use lib.ListN.{length, take}
+use Rattle.planner.specs.Grew.{PlanOnly}
+use Rattle.planner.specs.Planning.{Defines, Leads}
+use Rattle.materialize.proofs.+building.Given as given
+
+abbrev pub decreases-build : given.decreases-build
+decreases-build l =
+    8 * l.s + 2
+
+abbrev pub decreases-define : given.decreases-define
+decreases-define l =
+    8 * l.root + 5
+
+abbrev pub decreases-definition : given.decreases-definition
+decreases-definition l =
+    8 * l.s + 3
+
+abbrev pub decreases-definitions : given.decreases-definitions
+decreases-definitions l =
+    8 * l.root + 4
+
+abbrev pub invariant-definitions-loop-i : given.invariant-definitions-loop-i
+invariant-definitions-loop-i l =
+    (l.i ≤ l.count)
+    × (length l.map ≡ 512)
+    × Defines l.forest l.initial.work l.g l.initial.map l.initial.d.plan l.above l.sc (take l.i l.order) l.last l.i l.work l.map l.d.plan l.d.last
+
+abbrev pub decreases-definitions-loop-i : given.decreases-definitions-loop-i
+decreases-definitions-loop-i l =
+    l.count - l.i
+
+abbrev pub decreases-fresh : given.decreases-fresh
+decreases-fresh l =
+    8 * l.s + 1
+
+abbrev pub decreases-lambda : given.decreases-lambda
+decreases-lambda l =
+    8 * l.s
+
+abbrev pub decreases-operand : given.decreases-operand
+decreases-operand l =
+    8 * l.s + 7
+
+abbrev pub decreases-operands : given.decreases-operands
+decreases-operands l =
+    8 * l.s
+
+abbrev pub invariant-operands-loop-j : given.invariant-operands-loop-j
+invariant-operands-loop-j l =
+    (l.j ≤ l.count)
+    × PlanOnly l.initial.work l.work
+    × (l.q.rows ≤ 257)
+    × Leads l.forest l.initial.work l.g l.ids l.initial.q (l.above + 1) l.s l.opcode l.o l.last l.j l.work l.q
+
+abbrev pub decreases-operands-loop-j : given.decreases-operands-loop-j
+decreases-operands-loop-j l =
+    l.count - l.j
+
+abbrev pub decreases-thunk : given.decreases-thunk
+decreases-thunk l =
+    8 * l.root + 6
