@@ -17,7 +17,6 @@ use Rattle.model.specs.Gate.{sym_of}
 use Rattle.model.specs.Gate as model
 use Rattle.model.specs.Materialize.{build_node, build_value}
 use Rattle.laws.proofs.Trees.{leaf_rows, leaf_depth}
-use Rattle.regions.specs.Regions.{SLOTS}
 use Rattle.record.specs.Record.{row_at}
 use Rattle.key.specs.declared.Symbol.{Symbol}
 use Rattle.key.specs.declared.Parts.{Parts}
@@ -83,10 +82,6 @@ module _ {bs ws : List ℕ} {n m : ℕ} (b : Buildable bs ws n m) (s : ℕ) (lt 
 
     pub node_opens : Opens bs m s nd
     node_opens = subst (Opens bs m s) e (b.opens s lt)
-
-  -- its slots, as loaded
-  pub slots_loaded : {y : Symbol} → y ≡ symbol_at ws s → y.kids + y.count ≤ SLOTS.size
-  slots_loaded e = rw e (b.arena.sound s lt).slots
 
   -- ---- an operation's row
 

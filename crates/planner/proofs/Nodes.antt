@@ -5,16 +5,14 @@ use mathlib.Core.Path.{◌≡◌, refl, sym, ap, ◌∙◌, subst}
 use mathlib.Core.Option.{none, some}
 use mathlib.Core.List.{List, [], ◌∷◌}
 use native.Mathlib.Omega.{arith}
-use lib.ListN.{length, get_or}
+use lib.ListN.{get_or}
 use Rattle.model.specs.Tree.{Row, Tree, rows, depth}
 use Rattle.model.specs.Intern.{Env}
 use Rattle.model.specs.Gate.{sym_of}
 use Rattle.model.specs.Gate as model
 use Rattle.model.specs.Materialize.{val_use_of, id_given, build_node, build_step, build_value, process_scope}
-use Rattle.laws.proofs.Rows.{size_rows}
-use Rattle.laws.proofs.Trees.{use_rows, use_depth, size_some}
+use Rattle.laws.proofs.Trees.{use_rows, use_depth}
 use Rattle.laws.proofs.Building.{build_step_lem, build_use}
-use Rattle.laws.proofs.Frame.{frame_none}
 use Rattle.key.specs.declared.Leaf.{Leaf}
 use Rattle.key.specs.declared.Node.TheVariants.{Const, Unparsed, Arg}
 use Rattle.key.specs.Key.{symbol_at}
@@ -23,68 +21,48 @@ use Rattle.plan.specs.declared.Planned.TheVariants.{Copy, ValUse}
 use Rattle.plan.specs.Plan.{row_for}
 use Rattle.planner.specs.declared.Plan.{Plan}
 use Rattle.planner.specs.declared.Opened.{Opened}
-use Rattle.planner.specs.declared.Opened.TheVariants.{Same, Thunk}
+use Rattle.planner.specs.declared.Opened.TheVariants.{Thunk}
 use Rattle.planner.specs.Grew.{Grew, Grown}
-use Rattle.planner.specs.Building.{Buildable, GraphIn, Maps, id_in, OpenLow, operand_tree}
+use Rattle.planner.specs.Building.{Buildable, GraphIn, Maps, id_in, operand_tree}
 use Rattle.planner.specs.Planning.{Plans, fresh_tree}
-use Rattle.planner.proofs.Growing.{grew_full, grew_as}
+use Rattle.planner.proofs.Growing.{grew_as}
 use Rattle.planner.proofs.Loaded.{fresh_is, rec_of_lem, source_fits, leaf_is}
 use Rattle.planner.proofs.Graphs.{kids_low, body_lower}
 
 -- ---- trees in general
 
-rows_some : (t : Tree) → 1 ≤ length (rows t)
-rows_some t = omega (arith, size_rows t, size_some t)
-
 pub grew_few : {bs ws : List ℕ} {p : Plan} {rs : List Row} {d : ℕ} {ws' : List ℕ} {r : Plan} → Grew bs ws p rs d ws' r
     → r.rows ≤ 257
 grew_few g = omega (arith, g.count)
 
-module _ {bs ws : List ℕ} {g : Graph} {ids : List ℕ} {p : Plan} {above : ℕ} where
-  -- a full plan stays as it is
-  pub plans_full : (tree : model.Graph → ℕ → Env → Tree) → 256 < p.rows → p.rows ≤ 257
-      → Plans bs ws g ids p above tree ws p
-  plans_full tree lo hi = record {
+module _ {bs ws : List ℕ} {g : Graph} {ids : List ℕ} {p : Plan} {above : ℕ} {ws' : List ℕ} {r : Plan} where
+  -- the same tree, otherwise said
+  plans_as : {t u : model.Graph → ℕ → Env → Tree} → Plans bs ws g ids p above t ws' r
+      → ((gr : model.Graph) (sc : ℕ) (env : Env) → GraphIn bs ws g.symbols g.scopes gr → Maps ids env
+      → t gr sc env ≡ u gr sc env)
+      → Plans bs ws g ids p above u ws' r
+  plans_as h e = record {
     grown = λ gr sc env st maps.
-        grew_full bs ws p (rows (tree gr sc env)) (above + depth (tree gr sc env)) p (omega arith) hi
-        (rows_some (tree gr sc env)) (omega arith);
-    kept = frame_none _ _ ws;
-    full = hi;
+        subst (λ (x : Tree). Grown bs ws p above x ws' r) (e gr sc env st maps) (h.grown gr sc env st maps);
+    kept = h.kept;
+    full = h.full;
   }
 
-  module _ {ws' : List ℕ} {r : Plan} where
-    -- the same tree, otherwise said
-    plans_as : {t u : model.Graph → ℕ → Env → Tree} → Plans bs ws g ids p above t ws' r
-        → ((gr : model.Graph) (sc : ℕ) (env : Env) → GraphIn bs ws g.symbols g.scopes gr → Maps ids env
-        → t gr sc env ≡ u gr sc env)
-        → Plans bs ws g ids p above u ws' r
-    plans_as h e = record {
-      grown = λ gr sc env st maps.
-          subst (λ (x : Tree). Grown bs ws p above x ws' r) (e gr sc env st maps) (h.grown gr sc env st maps);
-      kept = h.kept;
-      full = h.full;
-    }
+  -- a tree of one row
+  plans_row : {row : Row} → Grew bs ws p (row ∷ []) (above + 1) ws' r
+      → (tree : model.Graph → ℕ → Env → Tree)
+      → ((gr : model.Graph) (sc : ℕ) (env : Env) → GraphIn bs ws g.symbols g.scopes gr → Maps ids env
+      → (rows (tree gr sc env) ≡ row ∷ []) × (depth (tree gr sc env) ≡ 1))
+      → Plans bs ws g ids p above tree ws' r
+  plans_row h tree e = record {
+    grown = λ gr sc env st maps.
+        grew_as h (sym (e gr sc env st maps).0) (omega (arith, (e gr sc env st maps).1));
+    kept = h.kept;
+    full = grew_few h;
+  }
 
-    -- a tree of one row
-    plans_row : {row : Row} → Grew bs ws p (row ∷ []) (above + 1) ws' r
-        → (tree : model.Graph → ℕ → Env → Tree)
-        → ((gr : model.Graph) (sc : ℕ) (env : Env) → GraphIn bs ws g.symbols g.scopes gr → Maps ids env
-        → (rows (tree gr sc env) ≡ row ∷ []) × (depth (tree gr sc env) ≡ 1))
-        → Plans bs ws g ids p above tree ws' r
-    plans_row h tree e = record {
-      grown = λ gr sc env st maps.
-          grew_as h (sym (e gr sc env st maps).0) (omega (arith, (e gr sc env st maps).1));
-      kept = h.kept;
-      full = grew_few h;
-    }
-
--- an operand in its parent's scope, or in a thunk
+-- an operand in a thunk
 module _ {bs ws : List ℕ} {g : Graph} {ids : List ℕ} {p : Plan} {above : ℕ} {ws' : List ℕ} {r : Plan} where
-  pub plans_same : (s last : ℕ) {w : Opened} → w ≡ Same
-      → Plans bs ws g ids p above (λ gr sc env. build_value gr s sc env last) ws' r
-      → Plans bs ws g ids p above (λ gr sc env. operand_tree w gr s sc env last) ws' r
-  plans_same s last e h = plans_as h (λ gr sc env st maps. ap (λ (x : Opened). operand_tree x gr s sc env last) (sym e))
-
   pub plans_thunk : (s last : ℕ) {w : Opened} (b sc : ℕ) → w ≡ Thunk b → sc ≡ b
       → Plans bs ws g ids p above (λ gr x env. process_scope gr (build_value gr) s sc env last) ws' r
       → Plans bs ws g ids p above (λ gr x env. operand_tree w gr s x env last) ws' r
@@ -96,9 +74,6 @@ module _ {bs ws : List ℕ} {g : Graph} {ids : List ℕ} {p : Plan} {above : ℕ
   pub plans_copied : {map : List ℕ} {tree : model.Graph → ℕ → Env → Tree} → map ≡ ids
       → Plans bs ws g map p above tree ws' r → Plans bs ws g ids p above tree ws' r
   plans_copied e h = rw e at h
-
-pub opened_scope : {m : ℕ} {w : Opened} (b sc : ℕ) → w ≡ Thunk b → sc ≡ b → OpenLow m w → sc < m
-opened_scope {m} b sc e f h = subst (λ (y : ℕ). y < m) (sym f) (subst (OpenLow m) e h)
 
 -- ---- symbol s
 

@@ -5,17 +5,13 @@ use mathlib.Core.Path.{◌≡◌, ◌∙◌}
 use mathlib.Core.List.{List}
 use native.Mathlib.Omega.{arith}
 use lib.ListN.{length}
-use Rattle.regions.specs.Regions.{WORDS}
 use Rattle.planner.specs.declared.Plan.{Plan}
 use Rattle.planner.specs.Building.{Buildable}
 use Rattle.planner.specs.Planning.{Site}
 
 module _ {n s slack : ℕ} {ids : List ℕ} {last above : ℕ} {p : Plan} (at : Site n s slack ids last above p) where
   module _ {bs ws : List ℕ} {m : ℕ} (b : Buildable bs ws n m) where
-    -- what `put` asks, and an id that is read
-    pub put_fits : (WORDS ≤ length ws) × (p.rows ≤ 257) × (above < 4294967296)
-    put_fits = (omega (arith, b.arena.scoped.words), at.count, omega (arith, at.room))
-
+    -- an id that is read
     pub id_fits : s < length ids
     id_fits = omega (arith, at.low, at.long, b.arena.scoped.few)
 
