@@ -1,5 +1,5 @@
--- The functions of the cycle `building` of `materialize` meet their contracts. In order: what code has read; symbols;
--- scopes with ids of their own; a scope, and what it defines.
+-- The functions of the cycle `building` of `materialize` meet their contracts. In order: what the code has read; the
+-- functions, as they stand in the code.
 -- Assumes nothing.
 use Prim.Native.Nat.{ℕ, ◌+◌, ◌<◌, ◌≤◌}
 use mathlib.Core.Path.{◌≡◌, refl, sym, ap, ◌∙◌}
@@ -22,7 +22,7 @@ use Rattle.planner.proofs.Scoping.{plans_memberless, plans_result, plans_block}
 use Rattle.planner.proofs.Scoping.{defines_none, defines_one, defines_other, defines_more}
 use Rattle.materialize.proofs.+building.Goals as goal
 
--- ---- what code has read
+-- ---- what the code has read
 
 -- a lambda's number of arguments
 count_read : (bs : List ℕ) {s i a k : ℕ} → i ≡ s → a ≡ (row_at bs i).rec.aux → k ≡ a → k ≡ (row_at bs s).rec.aux
