@@ -2,7 +2,7 @@
 -- call's contract says.
 -- Assumes nothing.
 use Prim.Native.Nat.{ℕ}
-use mathlib.Core.Path.{◌≡◌, refl, sym, ap, ◌∙◌, subst}
+use mathlib.Core.Path.{◌≡◌, refl, sym, ap, ◌∙◌}
 use mathlib.Core.List.{List}
 use Rattle.model.specs.Answer as answer
 use Rattle.model.specs.Call.{Call, call_of, Written, Numbers, numbers_of, numbers, run, out_with, out_after, work_after}
@@ -32,8 +32,3 @@ module _ (bs out ws out' ws' : List ℕ) where
   told_gives a r e t g =
       gives (numbers_in r) (t.numbers ∙ ap numbers_of (sym e))
       (t.output ∙ ap (λ (b : answer.Answer Written). out_with b out) (sym e)) g
-
-  -- from the numbers of an answer that is known
-  pub stored_gives : (ns : Numbers) (r : Answer) → numbers_in r ≡ ns → Gives bs out ws (numbers_in r) out' ws' →
-      Gives bs out ws ns out' ws'
-  stored_gives ns r e h = subst (λ (m : Numbers). Gives bs out ws m out' ws') e h

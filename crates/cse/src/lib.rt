@@ -1,6 +1,8 @@
 // The main call (mod.rs): checks, interning, planning and writing, in their order; and the work memory cleared.
 // In order: the words cleared; a planned tree written; a tree planned; an accepted forest; any forest, which is the stage
 // that the call and the lister have in common; the call; the call as other programs make it.
+#![tactic(auto)]
+
 ghost use Rattle.std.specs.Prelude.{◌≡◌, ℕ, ◌≤◌, length};
 ghost use Rattle.model.specs.Answer.{good};
 ghost use Rattle.model.specs.Accept.{accept};
@@ -155,10 +157,9 @@ pub fn cse(forest: &[u8], out: &mut [u8], work: &mut [u32]) -> Answer
     r
 }
 
-// The call as other programs make it: the answer's numbers are stored one by one. It adds nothing to `cse`.
+// The call as C programs make it (crate cse_c exports it): the answer's numbers are stored one by one. It adds nothing to `cse`.
 // Rules out: a number left as it was; symbols and readings swapped.
-#[unsafe(no_mangle)]
-pub extern "C" fn cse_call(
+pub fn cse_call(
     forest: &[u8],
     out: &mut [u8],
     work: &mut [u32],
@@ -168,7 +169,7 @@ pub extern "C" fn cse_call(
     symbols: &mut u32,
     readings: &mut u32,
 )
-    ensures readings_after { five number.new place.new len.new symbols.new
+    ensures numbers_after { five number.new place.new len.new symbols.new
         readings.new
         ≡ numbers (call_of forest.now out.old work.old) }
     ensures out_after { out.new
