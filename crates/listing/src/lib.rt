@@ -1,4 +1,6 @@
 // The lister's text for a forest: its symbols, a line each, or its refusal.
+#![tactic(auto)]
+
 ghost use Rattle.std.specs.Prelude.{◌≡◌, ◌≤◌, length};
 ghost use Rattle.model.specs.Call.{call_of};
 ghost use Rattle.regions.specs.Regions.{WORDS};
