@@ -2,12 +2,15 @@
 // the work words, and the five numbers of the answer), then the forest and the written tree. Each call is lent output
 // and work words that are not zero, and everything that it may change is looked at afterwards. Printed is the number
 // of each row that differs, from 1, and how many rows there were. A row that the list ends in, or that asks for more
-// than 65,536 bytes or 16,400 words, differs.
+// than 65,536 bytes or 16,400 words, differs. A read or a write that fails ends the program with its error.
 // In order: the head of a row; what is lent; what is looked at; rows.
+#![tactic(auto)]
+
 ghost use Rattle.std.specs.Prelude.{◌<◌};
 
 use cse::Answer;
-use libc::{STDIN_FILENO, STDOUT_FILENO};
+use std::io;
+use std::io::{Print, Read};
 
 const BYTE: u8 = 165;
 
@@ -171,59 +174,68 @@ fn agrees(row: Row, forest: &[u8], tree: &[u8], out: &mut [u8], work: &mut [u32]
 
 // Reads the rest of a row, of whose head `got` bytes were there, and makes its call; false if it differs, or if the
 // list ends within it.
-fn call(
+fn call<R: Read>(
+    input: &mut R,
     head: &[u8; 32],
     got: usize,
     forest: &mut [u8],
     tree: &mut [u8],
     out: &mut [u8],
     work: &mut [u32],
-) -> bool {
+) -> io::Result<bool> {
     if got < 32 {
-        return false;
+        return Ok(false);
     }
     let row = row_of(head);
     let n = row.forest;
     let m = row.written as usize;
     if forest.len() < n {
-        return false;
+        return Ok(false);
     }
     if tree.len() < m {
-        return false;
+        return Ok(false);
     }
-    if io::read_full(STDIN_FILENO, &mut forest[..n]) < n {
-        return false;
+    if streams::read_full(input, &mut forest[..n])? < n {
+        return Ok(false);
     }
-    if io::read_full(STDIN_FILENO, &mut tree[..m]) < m {
-        return false;
+    if streams::read_full(input, &mut tree[..m])? < m {
+        return Ok(false);
     }
-    agrees(row, &forest[..n], &tree[..m], out, work)
+    Ok(agrees(row, &forest[..n], &tree[..m], out, work))
 }
 
-fn print_number(n: u64, text: &[u8]) {
-    io::print_decimal(STDOUT_FILENO, n);
-    io::write_all(STDOUT_FILENO, text);
+fn print_number<P: Print>(output: &P, n: u64, text: &str) -> io::Result<()> {
+    print!(output; "{n}{text}")
 }
 
-fn main() {
-    let mut forest = io::large_buffer();
-    let mut tree = io::large_buffer();
-    let mut out = io::large_buffer();
+fn main(rt: HostRuntime) -> io::Result<()> {
+    let mut input = rt.stdin();
+    let mut forest = [0u8; 65536];
+    let mut tree = [0u8; 65536];
+    let mut out = [0u8; 65536];
     let mut work = [0u32; 16400];
     let mut head = [0u8; 32];
     let mut rows: u64 = 0;
     let mut differ: u64 = 0;
     while rows < 1000000 {
-        let got = io::read_full(STDIN_FILENO, &mut head);
+        let got = streams::read_full(&mut input, &mut head)?;
         if got == 0 {
             break;
         }
         rows += 1;
-        if !call(&head, got, &mut forest, &mut tree, &mut out, &mut work) {
-            print_number(rows, b" differs\n");
+        if !call(
+            &mut input,
+            &head,
+            got,
+            &mut forest,
+            &mut tree,
+            &mut out,
+            &mut work,
+        )? {
+            print_number(&rt, rows, " differs\n")?;
             differ += 1;
         }
     }
-    print_number(rows, b" rows, ");
-    print_number(differ, b" differ\n");
+    print_number(&rt, rows, " rows, ")?;
+    print_number(&rt, differ, " differ\n")
 }

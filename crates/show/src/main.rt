@@ -1,12 +1,16 @@
 // Shows the forest on standard input as a sheet, a line a record (model's `Sheet` says what it is), or, where a check
 // from 2 to 10 refuses it, as the one line `refused N at P`. At most 65,536 bytes are read: one more than a forest may
-// have.
-ghost use Rattle.std.specs.Prelude.{◌≡◌, length};
+// have. A read or a write that fails ends the program with its error.
+#![tactic(auto)]
+
+ghost use Rattle.std.specs.Prelude.{◌≡◌, length, take, OnOk, IfSome};
+ghost use Rattle.std.specs.Io.KnownBytes.{Appends};
 ghost use Rattle.model.specs.Sheet as model;
 ghost use Rattle.sheet.specs.Clip.{Clipped};
 
 use codec::Verdict;
-use libc::{STDIN_FILENO, STDOUT_FILENO};
+use std::io;
+use std::io::{Read, Write};
 
 // More than any sheet takes: 131,070 hex digits of literals, and 256 lines with less than 400 bytes beside.
 fn room() -> [u8; 262144]
@@ -25,11 +29,20 @@ fn shown(forest: &[u8], work: &mut [u32; 3840], text: &mut [u8]) -> usize
     }
 }
 
-fn main() {
-    let mut forest = io::large_buffer();
+// The program, over any input and output.
+// Rules out: the sheet of another forest; a byte past the text; a forest over 65,535 bytes that is not refused.
+fn run<I: Read, O: Write>(input: &mut I, output: &mut O) -> io::Result<()>
+    ensures { OnOk result (IfSome (I.remaining input.old) (λ bs. Appends (O.contents output.old)
+        (O.contents output.new) (take 262144 (model.sheet (take 65536 bs))))) }
+{
+    let mut forest = [0u8; 65536];
     let mut work = [0u32; 3840];
     let mut text = room();
-    let n = io::read_full(STDIN_FILENO, &mut forest);
+    let n = streams::read_full(input, &mut forest)?;
     let k = shown(&forest[..n], &mut work, &mut text);
-    io::write_all(STDOUT_FILENO, &text[..k]);
+    output.write_all(&text[..k])
+}
+
+fn main(rt: HostRuntime) -> io::Result<()> {
+    run(&mut rt.stdin(), &mut rt.stdout())
 }

@@ -1,8 +1,12 @@
 // Reads a forest from standard input and prints one line of it: how many definitions its tree has and how many
 // parameters the forest, or a mark with two values, or the refusal. Of a forest over 65,535 bytes 65,536 are read: it is
-// refused for its length.
-// In order: the line of a mark with two values; that of a template; which of them; any forest.
-ghost use Rattle.std.specs.Prelude.{◌≡◌, ◌<◌, ◌≤◌, length};
+// refused for its length. A read or a write that fails ends the program with its error.
+// In order: the line of a mark with two values; that of a template; which of them; any forest; the program, over any
+// input and output.
+#![tactic(auto)]
+
+ghost use Rattle.std.specs.Prelude.{◌≡◌, ◌<◌, ◌≤◌, length, take, OnOk, IfSome};
+ghost use Rattle.std.specs.Io.KnownBytes.{Appends};
 ghost use Rattle.std.proofs.Math.Option.{none, some};
 ghost use Rattle.model.specs.Tree.{rows};
 ghost use Rattle.model.specs.Forest.{record_count, rows_in};
@@ -12,7 +16,8 @@ ghost use Rattle.record.specs.Record.{Laid};
 ghost use Rattle.output.specs.Output.{Wrote};
 
 use cse::Answer;
-use libc::{STDIN_FILENO, STDOUT_FILENO};
+use std::io;
+use std::io::{Read, Write};
 use walk::Place;
 
 // The line of a record whose parameter had another value earlier: its mark, and its place.
@@ -90,12 +95,22 @@ fn judged(forest: &[u8], out: &mut [u8], work: &mut [u32], line: &mut [u8]) -> u
     }
 }
 
-fn main() {
-    let mut forest = io::large_buffer();
-    let n = io::read_full(STDIN_FILENO, &mut forest);
+// The program, over any input and output. Where the line says that the forest is a template, the clause holds of every
+// filling. Rules out: the line of another forest; a byte past the line; a forest over 65,535 bytes that is not refused.
+fn run<I: Read, O: Write>(input: &mut I, output: &mut O) -> io::Result<()>
+    ensures line { OnOk result (IfSome (I.remaining input.old) (λ bs. Appends (O.contents output.old)
+        (O.contents output.new) (template_line (take 65536 bs)))) }
+    ensures says { OnOk result (IfSome (I.remaining input.old) (λ bs. LineSays (take 65536 bs))) }
+{
+    let mut forest = [0u8; 65536];
+    let n = streams::read_full(input, &mut forest)?;
     let mut out = [0u8; 65535];
     let mut work = [0u32; 16384];
     let mut line = [0u8; 80];
     let k = judged(&forest[..n], &mut out, &mut work, &mut line);
-    io::write_all(STDOUT_FILENO, &line[..k]);
+    output.write_all(&line[..k])
+}
+
+fn main(rt: HostRuntime) -> io::Result<()> {
+    run(&mut rt.stdin(), &mut rt.stdout())
 }

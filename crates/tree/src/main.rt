@@ -1,24 +1,55 @@
 // Reads a forest from standard input and writes the bytes of its tree to standard output. A refusal is a line on
 // standard error, and nothing is written. Of a forest over 65,535 bytes 65,536 are read: it is refused for its length.
-use cse::Answer;
-use libc::{STDERR_FILENO, STDIN_FILENO, STDOUT_FILENO};
+// A read or a write that fails ends the program with its error.
+// In order: the line of a refusal; what is written for a forest; the program, over any input and outputs.
+#![tactic(auto)]
 
-fn print_refusal(number: u32, place: u32) {
+ghost use Rattle.std.specs.Prelude.{take, OnOk, IfSome};
+ghost use Rattle.std.specs.Io.KnownBytes.{Appends};
+ghost use Rattle.model.specs.Lister.{refusal};
+ghost use Rattle.tree.specs.Written as written;
+
+use cse::Answer;
+use std::io;
+use std::io::{Read, Write};
+
+fn print_refusal<W: Write>(errors: &mut W, number: u32, place: u32) -> io::Result<()>
+    ensures { OnOk result (Appends (W.contents errors.old) (W.contents errors.new) (refusal number place)) }
+{
     let mut line = [0u8; text::LINE];
     let n = text::put_refusal(&mut line, number as u64, place as u64);
-    io::write_all(STDERR_FILENO, &line[..n]);
+    errors.write_all(&line[..n])
 }
 
-fn main() {
-    let mut forest = io::large_buffer();
-    let n = io::read_full(STDIN_FILENO, &mut forest);
+// What is written for a forest.
+// Rules out: the root's own bytes; a byte past the tree's; bytes of a forest that is refused.
+fn answer<O: Write, E: Write>(forest: &[u8], output: &mut O, errors: &mut E) -> io::Result<()>
+    ensures output { OnOk result (Appends (O.contents output.old) (O.contents output.new) (written.output forest.now)) }
+    ensures errors { OnOk result (Appends (E.contents errors.old) (E.contents errors.new) (written.errors forest.now)) }
+{
     let mut out = [0u8; 65535];
     let mut work = [0u32; 16384];
-    match cse::cse(&forest[..n], &mut out, &mut work) {
+    match cse::cse(forest, &mut out, &mut work) {
         Answer::Written(length, _, _) => {
             let k = length as usize;
-            io::write_all(STDOUT_FILENO, &out[..k]);
+            output.write_all(&out[..k])
         }
-        Answer::Refused(number, place) => print_refusal(number, place),
+        Answer::Refused(number, place) => print_refusal(errors, number, place),
     }
+}
+
+// The program. Rules out: a forest over 65,535 bytes cut to one that is not refused.
+fn run<I: Read, O: Write, E: Write>(input: &mut I, output: &mut O, errors: &mut E) -> io::Result<()>
+    ensures output { OnOk result (IfSome (I.remaining input.old) (λ bs. Appends (O.contents output.old)
+        (O.contents output.new) (written.output (take 65536 bs)))) }
+    ensures errors { OnOk result (IfSome (I.remaining input.old) (λ bs. Appends (E.contents errors.old)
+        (E.contents errors.new) (written.errors (take 65536 bs)))) }
+{
+    let mut forest = [0u8; 65536];
+    let n = streams::read_full(input, &mut forest)?;
+    answer(&forest[..n], output, errors)
+}
+
+fn main(rt: HostRuntime) -> io::Result<()> {
+    run(&mut rt.stdin(), &mut rt.stdout(), &mut rt.stderr())
 }

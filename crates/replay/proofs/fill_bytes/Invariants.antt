@@ -1,0 +1,6 @@
+-- `replay::fill_bytes` in its loop: what falls. Assumes nothing.
+use Rattle.std.proofs.Common.{length, ◌-◌}
+use Rattle.replay.proofs.fill_bytes.Given as goal
+
+abbrev pub decreases-loop-k : goal.decreases-loop-k
+decreases-loop-k l = length l.initial.out - l.k

@@ -1,0 +1,3 @@
+-- Lemmas. Assumes nothing.
+pub mod Taken
+pub mod Puts

@@ -1,0 +1,2 @@
+-- Lemmas. Assumes nothing.
+mod Told
