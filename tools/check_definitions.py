@@ -41,7 +41,7 @@ use {SPECS}.Sheet.{{sheet}}
 use {SPECS}.Template.{{Filling, fill_forest}}
 use {SPECS}.TemplateLine.{{template_line}}
 use {SPECS}.Failing.{{Semantics, eval}}
-use {SPECS}.Computing.{{computing}}
+use {SPECS}.Computing.{{computing, evaluating}}
 
 -- so many bytes of a number, the lowest first
 bytes : ℕ → ℕ → List ℕ
@@ -117,7 +117,7 @@ r{i} = refl
 """
 VALUE = """
 r{i} : (value_of {m} {forest} ≡ {root}) × (value_of {m} (written (run (ample {forest}))) ≡ {tree})
-unfolding weighted weight last_of quotient means numbered value_of written bytes computing
+unfolding weighted weight last_of quotient means numbered value_of written bytes computing evaluating
 r{i} = (refl, refl)
 """
 # the definition that makes a row's text, by the row's first word

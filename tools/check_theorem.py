@@ -93,7 +93,7 @@ use Rattle.model.specs.Unfold.{Unfolded, Unfoldeds, arg, lam, made, done, more, 
 use Rattle.model.specs.Call.{Written, ample, run}
 use Rattle.model.specs.Template.{Filling, fill_forest}
 use Rattle.model.specs.Failing.{Semantics, eval}
-use Rattle.model.specs.Computing.{computing}
+use Rattle.model.specs.Computing.{computing, evaluating}
 
 -- ---- equal unfoldings
 
@@ -257,11 +257,11 @@ unfolding commutes agree called sevens n p x computing
 """
 VALUES = """
 {name}_root : root_has ({value}) ≡ {found}
-unfolding root_has careful has z k p e computing
+unfolding root_has careful has z k p e computing evaluating
 {name}_root = refl
 
 {name}_value : tree_has (called ({value})) ≡ {kept}
-unfolding tree_has called careful has z k p e computing
+unfolding tree_has called careful has z k p e computing evaluating
 {name}_value = refl
 """
 

@@ -95,5 +95,5 @@ unfolding value_in skipped found_from applied eval_kind eval
 evaluating = tt
 
 unfoldable pub computing : Unit {0}
-unfolding bytes_and-trees acceptance unfolding_a_tree interning materializing calling listing showing filling evaluating
+unfolding bytes_and-trees acceptance unfolding_a_tree interning materializing calling listing showing filling
 computing = tt

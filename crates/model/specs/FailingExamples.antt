@@ -10,7 +10,7 @@ use Rattle.model.specs.Forest.{trees_of}
 use Rattle.model.specs.Opcodes.{Two, SelectField, SelectFieldOp, IfOp, AndOp, HeightOp}
 use Rattle.model.specs.Call.{ample, run}
 use Rattle.model.specs.Failing.{Semantics, eval}
-use Rattle.model.specs.Computing.{computing}
+use Rattle.model.specs.Computing.{computing, evaluating}
 use Rattle.model.specs.Examples.{z, h, k, p, if, s1, u, block1, one}
 
 -- ---- the letters: a division, ED and field 2, besides those of Examples
@@ -61,7 +61,7 @@ pub written_value : Trees → Option ℕ
 written_value ts = eval numbered (root (trees_of (wrote ts))) []
 
 computed : Unit {0}
-unfolding computing given_for quotient arithmetic numbered root_value wrote written_value
+unfolding computing evaluating given_for quotient arithmetic numbered root_value wrote written_value
 computed = tt
 
 -- ---- kept: the branch that is not taken would fail, and the definition stays in the other
