@@ -390,11 +390,11 @@ EDITS = [
           (INTERN, "Tree.{Rec, rec, same_rec,", "Tree.{Rec, rec, class, same_rec,")],
          [(KEYS, "same_rec z.rec (fill_rec f r) &&", UNMARKED.format("z.rec", "(fill_rec f r)") + " &&"),
           (KEYS, "Tree.{Rec, same_rec}", "Tree.{Rec, rec, class, same_rec}")],
-         "is_key-kept", filled="p (n (x 1 1)) (n (x 2 2))"),
+         "is_key_kept", filled="p (n (x 1 1)) (n (x 2 2))"),
     Edit("gate-bytes", "a constant is scalar by its literal's length",
          [("model/specs/Gate", "ltb (class s.rec.aux) 6", "ltb (class s.rec.aux) (length s.rec.lit)"),
           ("model/specs/Gate", "eqb, ltb}", "eqb, ltb, length}")], [],
-         "should_hoist-kept", filled="p (x 1 1) (x 1 1)"),
+         "should_hoist_kept", filled="p (x 1 1) (x 1 1)"),
     Edit("class", "a filling gives a parameter another class",
          [(TEMPLATE, "r.aux (elim (is_parameter r) [", AUX + " (elim (is_parameter r) ["),
           (TEMPLATE, "Tree.{Rec, rec,", "Tree.{Rec, rec, mark,"), (TEMPLATE, "ℕ, suc, ◌<◌", "ℕ, suc, ◌*◌, ◌<◌")],
@@ -425,13 +425,13 @@ EDITS = [
          [("theory/proofs/Failing/Values", "go (eqb op IfOp) (eqb op AndOp || eqb op OrOp)", "go (eqb op IfOp) (eqb op op || eqb op OrOp)")],
          "skipped-thunked", value="p (k 1) (p z z)", had="false", written="B 1 z (p (k 1) (p (u 1) (u 1)))"),
     Edit("environment", "a forest may have several trees",
-         [(FAILING, "tree_count forest ≡ 1", "tree_count forest ≡ tree_count forest")], [], "passed-kept", failing=True),
+         [(FAILING, "tree_count forest ≡ 1", "tree_count forest ≡ tree_count forest")], [], "passed_kept", failing=True),
     Edit("field", "a forest may have a SelectField",
-         [(FAILING, "(record_at forest p).rec.shape ≡ SelectField", "(record_at forest p).rec.shape ≡ FuncValue")], [], "passed-kept",
+         [(FAILING, "(record_at forest p).rec.shape ≡ SelectField", "(record_at forest p).rec.shape ≡ FuncValue")], [], "passed_kept",
          failing=True),
 ]
 GATE = Edit("gate", "symbols that are used once are defined, too", [(MEMBER, *ONCE)],
-            [(SCOPES, *ONCE), ("theory/proofs/Templates/Building", "should_hoist-kept f g s (usage g s)", "should_hoist-kept f g s (suc (usage g s))")])
+            [(SCOPES, *ONCE), ("theory/proofs/Templates/Building", "should_hoist_kept f g s (usage g s)", "should_hoist_kept f g s (suc (usage g s))")])
 
 
 def fail(why):

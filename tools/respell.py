@@ -86,7 +86,7 @@ def main(root):
                 fields.add(n)
             else:
                 items[n] += 1
-                if "/specs/" in p and marks.strip() not in ("", "pub") and "-" not in n:
+                if "/specs/" in p and marks.strip() not in ("", "pub") and "-" not in n and n != "kept":
                     defined.add(camel(n))
     # the words of each file that stand behind no dot: a part of a path, such as a function's module, is no name that another could meet
     inside = {

@@ -51,6 +51,6 @@ module _ (ws : List ℕ) where
   unfolding work_after
   after_enough h = all_cleared (ltb (length ws) WORDS) (le-ltb (length ws) WORDS h)
 
-  pub cleared-kept : (n : ℕ) (ws' : List ℕ) → drop n ws' ≡ drop n ws → cleared n ws' ≡ cleared n ws
+  pub cleared_kept : (n : ℕ) (ws' : List ℕ) → drop n ws' ≡ drop n ws → cleared n ws' ≡ cleared n ws
   unfolding cleared
-  cleared-kept n ws' e = ap (λ (l : List ℕ). replicate n 0 ++ l) e
+  cleared_kept n ws' e = ap (λ (l : List ℕ). replicate n 0 ++ l) e

@@ -128,8 +128,8 @@ module _ {bs ws : List ℕ} {t : Tables} {st : State} {i : ℕ} {at : Here} (h :
   -- ---- the arguments made
 
   module _ {ws₁ : List ℕ} {made : Step} {n : ℕ} (en : n ≡ aux) (b : Bindings bs ws st at.scope i n ws₁ made) where
-    first-kept : Kept at ws ws₁ st made.st
-    first-kept = leaves_kept at h.stands.rep.arena.scoped.few_scopes b.leaves
+    first_kept : Kept at ws ws₁ st made.st
+    first_kept = leaves_kept at h.stands.rep.arena.scoped.few_scopes b.leaves
 
     made-opened : Open t made.st.entries
     made-opened = open_later t st.entries h.stands.opened made.st.entries b.leaves.entries
@@ -142,7 +142,7 @@ module _ {bs ws : List ℕ} {t : Tables} {st : State} {i : ℕ} {at : Here} (h :
     enter_refused h = record {
       rep = b.rep;
       opened = made-opened;
-      kept = first-kept;
+      kept = first_kept;
       fails = λ z. sym made_is ∙ outs_refused bs ws₁ t n made h;
       opens = λ e. absurd (h e);
     }
@@ -165,7 +165,7 @@ module _ {bs ws : List ℕ} {t : Tables} {st : State} {i : ℕ} {at : Here} (h :
           omega (arith, e.0, scopes_count bs ws₁ t made.st)
 
       scope_word_lem : scope_word ws₁ at.scope ≡ scope_word ws at.scope
-      scope_word_lem = first-kept.words.scopes (SCOPES.first + at.scope) (omega arith) (omega (arith, h.stands.scope))
+      scope_word_lem = first_kept.words.scopes (SCOPES.first + at.scope) (omega arith) (omega (arith, h.stands.scope))
 
       scope_low : at.scope < made.st.scopes
       scope_low = omega (arith, h.stands.scope, b.leaves.scopes)
@@ -234,7 +234,7 @@ module _ {bs ws : List ℕ} {t : Tables} {st : State} {i : ℕ} {at : Here} (h :
           env₃ =
               bound.env
               ∙ ap (bind_args xs (range first aux))
-              (env_words ws₂ ws₁ at.top words₂.bound ∙ env_words ws₁ ws at.top first-kept.words.bound)
+              (env_words ws₂ ws₁ at.top words₂.bound ∙ env_words ws₁ ws at.top first_kept.words.bound)
 
           body : Body bs ws t st i at ws₃ e
           body = record {
@@ -271,8 +271,8 @@ module _ {bs ws : List ℕ} {t : Tables} {st : State} {i : ℕ} {at : Here} (h :
             kept = record {
               words =
                   words_then (omega arith) (omega arith) (omega arith)
-                  (words_then (omega arith) (omega arith) (omega arith) first-kept.words words₂) words₃;
-              scopes = omega (arith, first-kept.scopes);
+                  (words_then (omega arith) (omega arith) (omega arith) first_kept.words words₂) words₃;
+              scopes = omega (arith, first_kept.scopes);
             };
             fails = λ h. absurd (h refl);
             opens = λ z. body;

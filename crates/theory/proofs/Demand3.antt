@@ -37,7 +37,7 @@ use Rattle.model.specs.Intern.{State}
 use Rattle.model.specs.Call.{Call, tree_of, bytes_of, Written, written_of, run, numbers_of, numbers, out_with, out_after}
 use Rattle.laws.proofs.Checks.{Passes, checked_good}
 use Rattle.model.specs.Demand3.{Writes, Demand3}
-use Rattle.theory.proofs.Promise.Main.{meaning-kept, bytes_accepted, argument_never_met}
+use Rattle.theory.proofs.Promise.Main.{meaning_kept, bytes_accepted, argument_never_met}
 use Rattle.model.specs.Trace.{Interned}
 use Rattle.model.specs.Conditions.{NoneApplies, at_13, at_14}
 use Rattle.theory.proofs.Demand3.Trace.{interning}
@@ -83,7 +83,7 @@ module _ (c : Call) (none : NoneApplies c) (pass : Passes (checks c.forest)) (o 
     accepted = passes_accepted (bytes_of o) read_again.0;
     reads_back = read_again.1;
     no_zero_use = argument_never_met c.forest pass o is few;
-    keeps = ap (λ (ts : Trees). unfolded (root ts)) read_again.1 ∙ meaning-kept c.forest pass o is;
+    keeps = ap (λ (ts : Trees). unfolded (root ts)) read_again.1 ∙ meaning_kept c.forest pass o is;
   }
 
 -- for every call

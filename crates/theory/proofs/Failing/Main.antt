@@ -100,14 +100,14 @@ module _ {W : Type 0} (sem : Semantics W) (ts : Trees) (allowed : EachIn Allowed
 -- ---- the tree that document 01 defines
 
 module _ {W : Type 0} (sem : Semantics W) (forest : List ℕ) (simple : Simple forest) where
-  passed-kept : Passes (checks forest) → (o : ℕ × State) → intern_last (intern_forest (trees_of forest)) ≡ good o → (w : W) →
+  passed_kept : Passes (checks forest) → (o : ℕ × State) → intern_last (intern_forest (trees_of forest)) ≡ good o → (w : W) →
       eval sem (root (trees_of forest)) [] ≡ some w → eval sem (tree_of o) [] ≡ some w
-  passed-kept pass o is =
+  passed_kept pass o is =
       tree_value sem (trees_of forest) (forest_each Allowed forest (λ p. (simple.no_lambda p, simple.no_field p)))
       ((closed forest pass).0 ∙ simple.one_tree) (checked-trees forest pass) o is (root_ready forest pass o is)
 
   value_kept : KeepsValue sem forest
-  value_kept accepted o e = passed-kept (accepted_passes forest accepted) o ((interned_exactly forest o).1 e)
+  value_kept accepted o e = passed_kept (accepted_passes forest accepted) o ((interned_exactly forest o).1 e)
 
 -- ---- the call
 
@@ -116,7 +116,7 @@ unfolding root
 call_value_kept sem c simple out l zero v q =
     let w = (demand_3 c out l).writes zero in
     let i = w.interned in
-    let tree = passed-kept sem c.forest simple (call_passes c (zero_passes c zero)).0 i
+    let tree = passed_kept sem c.forest simple (call_passes c (zero_passes c zero)).0 i
     ((interned_exactly c.forest i).1 w.defined) v q in
     let written : take (numbers c).len (out_after c out) ≡ bytes_of i =
     rw (w.stands, ap (λ (z : Numbers). z.len) w.answers) (take-append_seam (bytes_of i) _) in

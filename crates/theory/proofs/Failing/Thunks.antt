@@ -71,8 +71,8 @@ module _ {W : Type 0} (sem : Semantics W) (F : Final) where
   module _ (cur : ℕ) (st : State) (env : Env) (e : Values W → Option W) where
     -- ---- in the parent's scope
 
-    plain-kept : (o : ℕ × State) → Owes st cur env e o → OwesIn false st cur env e o
-    plain-kept o k = record {
+    plain_kept : (o : ℕ × State) → Owes st cur env e o → OwesIn false st cur env e o
+    plain_kept o k = record {
       grows = k.grows;
       after = k.after;
       unread = λ t. absurd (clash false t refl);
@@ -197,7 +197,7 @@ module _ {W : Type 0} (sem : Semantics W) (F : Final) where
         Holds (OwesIn t st cur env e) (intern_scoped t cur child st)
     unfolding intern_scoped
     intern_scoped_keeps false child h =
-        holds_map (Owes st cur env e) (OwesIn false st cur env e) (child cur st) (h cur st) plain-kept
+        holds_map (Owes st cur env e) (OwesIn false st cur env e) (child cur st) (h cur st) plain_kept
     intern_scoped_keeps true child h =
         holds_bind (Owes (open_thunk cur st) (scope_count st) env e) (OwesIn true st cur env e)
         (child (scope_count st) (open_thunk cur st)) _ (h (scope_count st) (open_thunk cur st)) thunk_kept

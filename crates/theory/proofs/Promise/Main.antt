@@ -82,8 +82,8 @@ module _ (forest : List ℕ) (pass : Passes (checks forest)) (o : ℕ × State)
       subst (λ (a : Out). Holds (λ o. RootInterned o.1 o.0 (root (trees_of forest))) a) forest_interned
       (interned_ready forest (trees_of forest) forest_accepted)
 
-  pub meaning-kept : unfolded (tree_of o) ≡ unfolded (root (trees_of forest))
-  meaning-kept = tree_unfolds o (root (trees_of forest)) root_ready
+  pub meaning_kept : unfolded (tree_of o) ≡ unfolded (root (trees_of forest))
+  meaning_kept = tree_unfolds o (root (trees_of forest)) root_ready
 
   pub bytes_accepted : size (tree_of o) ≤ 256 → length (bytes_of o) ≤ 65535 → depth (tree_of o) ≤ 64 →
       accept (bytes_of o) ≡ good (cons (tree_of o) nil)

@@ -1,5 +1,5 @@
 -- Which parameter a value came from is kept (request A.5): model's `ParametersKept`, of every accepted forest.
--- In order: a constant's symbol; an accepted forest, `parameters-kept`; that every state of its interning leads to the
+-- In order: a constant's symbol; an accepted forest, `parameters_kept`; that every state of its interning leads to the
 -- last, `reading_leads`.
 -- Assumes nothing.
 use mathlib.Core.Path.{◌≡◌, ap, sym, ◌∙◌, subst}
@@ -95,9 +95,9 @@ module _ (forest : List ℕ) (o : ℕ × State) (ready : RootInterned o.1 o.0 (r
     same_path = λ path r. (λ c. rw same-meaning at c, λ c. rw same-meaning c);
   }
 
-pub parameters-kept : (forest : List ℕ) → accept forest ≡ good (trees_of forest) → (o : ℕ × State) →
+pub parameters_kept : (forest : List ℕ) → accept forest ≡ good (trees_of forest) → (o : ℕ × State) →
     interned forest ≡ good o → ParametersKept forest o
-parameters-kept forest e o is =
+parameters_kept forest e o is =
     kept forest o (subst (Holds (λ o. RootInterned o.1 o.0 (root (trees_of forest)))) is (interned_ready forest (trees_of forest) e))
 
 -- ---- every state leads to the last

@@ -20,8 +20,8 @@ use Rattle.laws.proofs.Down.{down_related}
 use Rattle.model.specs.Template.{is_parameter, Filling, fill_rec, fill_tree, fill_trees, fill_sym}
 use Rattle.theory.proofs.Templates.Records.{Other, other_stays, shape_other}
 use Rattle.theory.proofs.Templates.Keys.{at_related}
-use Rattle.theory.proofs.Templates.Orders.{fill_graph, reachable_fills, scope_kept, is_arg-kept, should_hoist-kept}
-use Rattle.theory.proofs.Templates.Orders.{schedule-kept}
+use Rattle.theory.proofs.Templates.Orders.{fill_graph, reachable_fills, scope_kept, is_arg_kept, should_hoist_kept}
+use Rattle.theory.proofs.Templates.Orders.{schedule_kept}
 
 module _ (f : Filling) where
   -- ---- lists of trees
@@ -41,11 +41,11 @@ module _ (f : Filling) where
 
   -- ---- blocks
 
-  renames-kept : (d : Tree) (ds : Trees) (r : Tree) → Other (top d) →
+  renames_kept : (d : Tree) (ds : Trees) (r : Tree) → Other (top d) →
       renames (fill_tree f d) (fill_trees f ds) (fill_tree f r) ≡ renames d ds r
   unfolding renames
-  renames-kept d nil r o = refl
-  renames-kept (node x xs) (cons (node v vs) ws) (node r ts) o =
+  renames_kept d nil r o = refl
+  renames_kept (node x xs) (cons (node v vs) ws) (node r ts) o =
       ap (λ (z : Rec). eqb v.shape ValUse && eqb r.shape ValUse && eqb (id_of (fill_rec f r)) (id_of z)) (other_stays f x o)
       ∙ go (eqb v.shape ValUse) (eqb r.shape ValUse) refl
     where
@@ -69,7 +69,7 @@ module _ (f : Filling) where
       ∙ ap (λ (b : Bool). elim b as (λ z. Tree) [
         | true ↦ only_of (fill_trees f xs) (fill_tree f r)
         | false ↦ node (rec BlockValue BlockValueOp 0 []) (cons (fill_tree f (node x xs)) (cons (fill_tree f r) nil))
-      ]) (sym (renames-kept (node x xs) xs r h.0))
+      ]) (sym (renames_kept (node x xs) xs r h.0))
     where
       go : (b : Bool) → ◌≡◌ {A = Tree}
           (fill_tree f (elim b [
@@ -88,12 +88,12 @@ module _ (f : Filling) where
   -- ---- scopes
 
   module _ (g : Graph) where
-    member-kept : (sc : ℕ) (env : Env) (s : ℕ) → member (fill_graph f g) sc env s ≡ member g sc env s
+    member_kept : (sc : ℕ) (env : Env) (s : ℕ) → member (fill_graph f g) sc env s ≡ member g sc env s
     unfolding member usage
-    member-kept sc env s =
+    member_kept sc env s =
         ap (λ (b : Bool). b && elim (id_given env s) as (λ z. Bool) [ none ↦ true | some i ↦ false ])
-        (ap₂ ◌&&◌ (ap₂ (λ (a : ℕ) (b : Bool). eqb a sc && not b) (scope_kept f g s) (is_arg-kept f g s))
-        (should_hoist-kept f g s (usage g s)))
+        (ap₂ ◌&&◌ (ap₂ (λ (a : ℕ) (b : Bool). eqb a sc && not b) (scope_kept f g s) (is_arg_kept f g s))
+        (should_hoist_kept f g s (usage g s)))
 
     module _ (build' build : Builder)
         (built : (s sc : ℕ) (env : Env) (last : ℕ) → build' s sc env last ≡ fill_tree f (build s sc env last)) where
@@ -102,7 +102,7 @@ module _ (f : Filling) where
       unfolding define val_def_of is_parameter
       define_fills sc [] env last = refl
       define_fills sc (s ∷ order) env last =
-          ap (by (fill_graph f g) build') (member-kept sc env s)
+          ap (by (fill_graph f g) build') (member_kept sc env s)
           ∙ go (member g sc env s)
           (ap₂ (λ (t : Tree) (d : Defined).
           record { defs = cons (val_def_of (suc last) t) d.defs; env = d.env; last = d.last })
@@ -147,7 +147,7 @@ module _ (f : Filling) where
       scope_fills root sc env last =
           let d = define g build sc (schedule g root sc) env last in
           ap (λ (order : List ℕ). wrapped build' (define (fill_graph f g) build' sc order env last))
-          (schedule-kept f g root sc)
+          (schedule_kept f g root sc)
           ∙ (ap (wrapped build') (define_fills sc (schedule g root sc) env last)
           ∙ (ap (wrap_block (fill_trees f d.defs)) (built root sc d.env d.last)
           ∙ sym (wrap_block_fills d.defs (build root sc d.env d.last)

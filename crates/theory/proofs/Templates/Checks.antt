@@ -36,17 +36,17 @@ use Rattle.theory.proofs.Templates.Records.{other_stays, shape_other, parameter_
 module _ (f : Filling) where
   -- ---- rows and trees
 
-  pub many-kept : (ts : Trees) → many (fill_trees f ts) ≡ many ts
+  pub many_kept : (ts : Trees) → many (fill_trees f ts) ≡ many ts
   unfolding many
-  many-kept nil = refl
-  many-kept (cons t ts) = ap suc (many-kept ts)
+  many_kept nil = refl
+  many_kept (cons t ts) = ap suc (many_kept ts)
 
   mutual
     unfolding rows
 
     pub rows_filled : (t : Tree) → rows (fill_tree f t) ≡ map (fill_row f) (rows t)
     rows_filled (node r ts) =
-        ap₂ (λ (n : ℕ) (rs : List Row). record { rec = fill_rec f r; kids = n } ∷ rs) (many-kept ts) (rows_of_filled ts)
+        ap₂ (λ (n : ℕ) (rs : List Row). record { rec = fill_rec f r; kids = n } ∷ rs) (many_kept ts) (rows_of_filled ts)
 
     pub rows_of_filled : (ts : Trees) → rows_of (fill_trees f ts) ≡ map (fill_row f) (rows_of ts)
     rows_of_filled nil = refl
@@ -83,11 +83,11 @@ module _ (f : Filling) where
     depths_kept nil = refl
     depths_kept (cons t ts) = ap₂ max (depth_kept t) (depths_kept ts)
 
-  pub definitions-kept : (rs : List Row) → definitions (map (fill_row f) rs) ≡ definitions rs
+  pub definitions_kept : (rs : List Row) → definitions (map (fill_row f) rs) ≡ definitions rs
   unfolding definitions
-  definitions-kept [] = refl
-  definitions-kept (r ∷ rs) =
-      ap (λ (n : ℕ). elim (eqb r.rec.shape ValDef) as (λ z. ℕ) [ true ↦ suc n | false ↦ n ]) (definitions-kept rs)
+  definitions_kept [] = refl
+  definitions_kept (r ∷ rs) =
+      ap (λ (n : ℕ). elim (eqb r.rec.shape ValDef) as (λ z. ℕ) [ true ↦ suc n | false ↦ n ]) (definitions_kept rs)
 
   -- what is read of a forest that is filled
   pub filled_rows : (bs : List ℕ) → rows_in (fill_forest f bs) ≡ map (fill_row f) (rows_in bs)
@@ -132,11 +132,11 @@ module _ (f : Filling) where
   fits_kept [] h = tt
   fits_kept (r ∷ rs) h = (ap not (record_fits r.rec r.kids (not-false _ h.0)), fits_kept rs h.1)
 
-  agrees-kept : (rs : List Row) →
+  agrees_kept : (rs : List Row) →
       map (λ r. not (agrees r.rec)) (map (fill_row f) rs) ≡ map (λ r. not (agrees r.rec)) rs
   unfolding agrees
-  agrees-kept [] = refl
-  agrees-kept (r ∷ rs) = ap (λ (bs : List Bool). not (agrees r.rec) ∷ bs) (agrees-kept rs)
+  agrees_kept [] = refl
+  agrees_kept (r ∷ rs) = ap (λ (bs : List Bool). not (agrees r.rec) ∷ bs) (agrees_kept rs)
 
   -- ---- 6
 
@@ -172,16 +172,16 @@ module _ (f : Filling) where
           (blind.later_kept t c)
           ∙ ap₂ ◌++◌ (faults_kept t (k.here c ts)) (faults_in_kept ts (k.later t c))
 
-  pub is_nil-kept : (ts : Trees) → is_nil (fill_trees f ts) ≡ is_nil ts
-  is_nil-kept nil = refl
-  is_nil-kept (cons t ts) = refl
+  pub is_nil_kept : (ts : Trees) → is_nil (fill_trees f ts) ≡ is_nil ts
+  is_nil_kept nil = refl
+  is_nil_kept (cons t ts) = refl
 
   constant_inside : (r : Rec) → r.shape ≡ 0 → inside r ≡ []
   unfolding inside kind
   constant_inside r e = rw e
 
-  inside-kept : (r : Rec) → inside (fill_rec f r) ≡ inside r
-  inside-kept r = go (is_parameter r) refl
+  inside_kept : (r : Rec) → inside (fill_rec f r) ≡ inside r
+  inside_kept r = go (is_parameter r) refl
     where
       go : (b : Bool) → is_parameter r ≡ b → inside (fill_rec f r) ≡ inside r
       go true e =
@@ -189,8 +189,8 @@ module _ (f : Filling) where
           constant_inside (fill_rec f r) z ∙ sym (constant_inside r z)
       go false e = ap inside (other_stays f r e)
 
-  defined-kept : (r : Rec) → defined (fill_rec f r) ≡ defined r
-  defined-kept r = go (eqb r.shape ValDef) refl
+  defined_kept : (r : Rec) → defined (fill_rec f r) ≡ defined r
+  defined_kept r = go (eqb r.shape ValDef) refl
     where
       go : (b : Bool) → eqb r.shape ValDef ≡ b → defined (fill_rec f r) ≡ defined r
       go true e = ap defined (other_stays f r (shape_other r 9 e))
@@ -198,7 +198,7 @@ module _ (f : Filling) where
 
   after_kept : (t : Tree) → after (fill_tree f t) ≡ after t
   unfolding after
-  after_kept (node r ts) = defined-kept r
+  after_kept (node r ts) = defined_kept r
 
   depth_blind : Blind depth_check
   depth_blind = record {
@@ -212,7 +212,7 @@ module _ (f : Filling) where
   place_blind = record {
     offends_kept = λ d r. refl;
     inner_kept = λ r b. refl;
-    here_kept = λ b ts. ap (λ (z : Bool). b && not z) (is_nil-kept ts);
+    here_kept = λ b ts. ap (λ (z : Bool). b && not z) (is_nil_kept ts);
     later_kept = λ t b. refl;
   }
 
@@ -220,17 +220,17 @@ module _ (f : Filling) where
       Blind (ids_check test)
   ids_blind test kept = record {
     offends_kept = kept;
-    inner_kept = λ r ids. ap (λ (own : List ℕ). own ++ ids) (inside-kept r);
+    inner_kept = λ r ids. ap (λ (own : List ℕ). own ++ ids) (inside_kept r);
     here_kept = λ ids ts. refl;
     later_kept = λ t ids. ap (λ (own : List ℕ). own ++ ids) (after_kept t);
   }
 
-  rebound-kept : (ids : List ℕ) (r : Rec) → rebound_at ids (fill_rec f r) ≡ rebound_at ids r
-  rebound-kept ids r =
-      ap (λ (xs : List ℕ). any_in xs ids || twice xs) (ap₂ ◌++◌ (defined-kept r) (inside-kept r))
+  rebound_kept : (ids : List ℕ) (r : Rec) → rebound_at ids (fill_rec f r) ≡ rebound_at ids r
+  rebound_kept ids r =
+      ap (λ (xs : List ℕ). any_in xs ids || twice xs) (ap₂ ◌++◌ (defined_kept r) (inside_kept r))
 
-  unbound-kept : (ids : List ℕ) (r : Rec) → unbound_at ids (fill_rec f r) ≡ unbound_at ids r
-  unbound-kept ids r = go (eqb r.shape ValUse) refl
+  unbound_kept : (ids : List ℕ) (r : Rec) → unbound_at ids (fill_rec f r) ≡ unbound_at ids r
+  unbound_kept ids r = go (eqb r.shape ValUse) refl
     where
       go : (b : Bool) → eqb r.shape ValUse ≡ b → unbound_at ids (fill_rec f r) ≡ unbound_at ids r
       go true e = ap (unbound_at ids) (other_stays f r (shape_other r 6 e))
@@ -251,15 +251,15 @@ module _ (f : Filling) where
         (omega (arith, h.records_least), omega (arith, h.records_most)) in
         let two = laid_passes_2 (tree_count bs) (map (fill_row f) rs) (h.trees_least, h.trees_most) n short in
         let three = laid_passes_3 (tree_count bs) (map (fill_row f) rs) (h.trees_least, h.trees_most) n short in
-        rw (filled_rows bs, filled_count bs, filled_trees bs, agrees-kept rs, closes_kept (tree_count bs) 0 rs)
+        rw (filled_rows bs, filled_count bs, filled_trees bs, agrees_kept rs, closes_kept (tree_count bs) 0 rs)
         (two also three also clear_first _ (fits_kept rs (first_clear _ pass.1.1.0))
         also pass.1.1.1.0
         also pass.1.1.1.1.0
         also ap first (faults_in_kept depth_check depth_blind (trees_of bs) 1) ∙ pass.1.1.1.1.1.0
         also ap first (faults_in_kept place_check place_blind (trees_of bs) false) ∙ pass.1.1.1.1.1.1.0
-        also ap first (faults_in_kept (ids_check rebound_at) (ids_blind rebound_at rebound-kept) (trees_of bs) [])
+        also ap first (faults_in_kept (ids_check rebound_at) (ids_blind rebound_at rebound_kept) (trees_of bs) [])
         ∙ pass.1.1.1.1.1.1.1.0
-        also ap first (faults_in_kept (ids_check unbound_at) (ids_blind unbound_at unbound-kept) (trees_of bs) [])
+        also ap first (faults_in_kept (ids_check unbound_at) (ids_blind unbound_at unbound_kept) (trees_of bs) [])
         ∙ pass.1.1.1.1.1.1.1.1.0
         also tt)
 

@@ -35,10 +35,10 @@ module _ (f : Filling) where
   at_filled (y ∷ ss) zero l = refl
   at_filled (y ∷ ss) (suc i) l = at_filled ss i (omega arith)
 
-  pub union_deps-kept : (ss : List Sym) (ks : List ℕ) → union_deps (map (fill_sym f) ss) ks ≡ union_deps ss ks
+  pub union_deps_kept : (ss : List Sym) (ks : List ℕ) → union_deps (map (fill_sym f) ss) ks ≡ union_deps ss ks
   unfolding union_deps
-  union_deps-kept ss [] = refl
-  union_deps-kept ss (k ∷ ks) = ap₂ union (at_kept (λ y. y.deps) (λ y. refl) ss k) (union_deps-kept ss ks)
+  union_deps_kept ss [] = refl
+  union_deps_kept ss (k ∷ ks) = ap₂ union (at_kept (λ y. y.deps) (λ y. refl) ss k) (union_deps_kept ss ks)
 
 -- ---- tables
 
@@ -87,24 +87,24 @@ module _ (f : Filling) (v : ℕ → List ℕ) where
   -- ---- searches
 
   module _ (ss : List Sym) (r : Rec) (valued : Valued v r) (ks : List ℕ) where
-    is_key-kept : (i : ℕ) → ValuedAt ss i → is_key (map (fill_sym f) ss) (fill_rec f r) ks i ≡ is_key ss r ks i
+    is_key_kept : (i : ℕ) → ValuedAt ss i → is_key (map (fill_sym f) ss) (fill_rec f r) ks i ≡ is_key ss r ks i
     unfolding is_key
-    is_key-kept i h =
+    is_key_kept i h =
         ap (λ (z : Sym). same_rec z.rec (fill_rec f r) && same z.kids ks) (at_filled f ss i h.low)
         ∙ ap (λ (b : Bool). b && same (sym_at ss i).kids ks)
         (same_kept f v (sym_at ss i).rec r h.valued valued)
 
-    lookup_in-kept : (t : List ℕ) → ValuedIn ss t → lookup_in (map (fill_sym f) ss) (fill_rec f r) ks t ≡ lookup_in ss r ks t
+    lookup_in_kept : (t : List ℕ) → ValuedIn ss t → lookup_in (map (fill_sym f) ss) (fill_rec f r) ks t ≡ lookup_in ss r ks t
     unfolding lookup_in
-    lookup_in-kept [] h = refl
-    lookup_in-kept (i ∷ t) h =
+    lookup_in_kept [] h = refl
+    lookup_in_kept (i ∷ t) h =
         ap₂ (λ (b : Bool) (o : Option ℕ). elim b as (λ z. Option ℕ) [ true ↦ some i | false ↦ o ])
-        (is_key-kept i h.0) (lookup_in-kept t h.1)
+        (is_key_kept i h.0) (lookup_in_kept t h.1)
 
-    pub lookup-kept : (ts : List (List ℕ)) → Sound ss ts →
+    pub lookup_kept : (ts : List (List ℕ)) → Sound ss ts →
         lookup (map (fill_sym f) ss) (fill_rec f r) ks ts ≡ lookup ss r ks ts
     unfolding lookup
-    lookup-kept [] h = refl
-    lookup-kept (t ∷ ts) h =
+    lookup_kept [] h = refl
+    lookup_kept (t ∷ ts) h =
         ap₂ (λ (o rest : Option ℕ). elim o as (λ z. Option ℕ) [ some i ↦ some i | none ↦ rest ])
-        (lookup_in-kept t h.0) (lookup-kept ts h.1)
+        (lookup_in_kept t h.0) (lookup_kept ts h.1)

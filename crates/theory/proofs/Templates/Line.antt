@@ -26,10 +26,10 @@ use Rattle.laws.proofs.Members.{clash, and_both, both_and, same_refl, same_true}
 use Rattle.theory.proofs.Demand3.Faulty.{Faulty, first_of, none_faulty}
 use Rattle.theory.proofs.Demand3.Order.{call_passes, passes_accepted}
 use Rattle.theory.proofs.Demand3.Exactly.{zero_passes}
-use Rattle.theory.proofs.Promise.Main.{meaning-kept}
+use Rattle.theory.proofs.Promise.Main.{meaning_kept}
 use Rattle.theory.proofs.Templates.Values.{stands_is, is_stands}
 use Rattle.theory.proofs.Templates.Values as values
-use Rattle.theory.proofs.Templates.Checks.{rows_filled, definitions-kept}
+use Rattle.theory.proofs.Templates.Checks.{rows_filled, definitions_kept}
 use Rattle.theory.proofs.Templates.Main.{every_filling}
 
 module _ (forest : List ℕ) where
@@ -157,7 +157,7 @@ module _ (forest : List ℕ) where
       let zero : (numbers (ample forest)).number ≡ 0 = ap (λ (a : Answer Written). (numbers_of a).number) e in
       let v = call_passes (ample forest) (zero_passes (ample forest) zero) in
       let tree : tree_of v.1.0 ≡ w.tree = ap (λ (z : Written). z.tree) (good_inj (sym v.1.2 ∙ e)) in
-      (passes_accepted forest v.0, ap unfolded (sym tree) ∙ meaning-kept forest v.0 v.1.0 v.1.1)
+      (passes_accepted forest v.0, ap unfolded (sym tree) ∙ meaning_kept forest v.0 v.1.0 v.1.1)
 
 the_clause : (forest : List ℕ) (w : Written) → run (ample forest) ≡ good w → two_values forest ≡ none → (f : Filling) →
     length (fill_forest f forest) ≤ 65535 → length (fill_forest f w.bytes) ≤ 65535 → Clause forest w f
@@ -167,7 +167,7 @@ the_clause forest w e none-two f short fits =
     (record { short = fits; fits_in = fits }) in
     record {
       address = written;
-      price = ap definitions (rows_filled f w.tree) ∙ definitions-kept f (rows w.tree);
+      price = ap definitions (rows_filled f w.tree) ∙ definitions_kept f (rows w.tree);
       terms = (good_means (fill_forest f forest) (fill_written f w) written).1 ∙ all.0.means;
     }
 

@@ -36,7 +36,7 @@ use Rattle.theory.proofs.Templates.Symbols.{fill_kids}
 use Rattle.theory.proofs.Templates.Walk.{size_kept, forest_fills}
 use Rattle.theory.proofs.Templates.Building.{materialize_fills}
 use Rattle.theory.proofs.Templates.Unfolding.{unfolded_fills}
-use Rattle.theory.proofs.Templates.Checks.{rows_filled, depth_kept, definitions-kept, filled_trees, forest_filled}
+use Rattle.theory.proofs.Templates.Checks.{rows_filled, depth_kept, definitions_kept, filled_trees, forest_filled}
 use Rattle.theory.proofs.Templates.Checks.{rows_of_filled, filled_accepted}
 use Rattle.theory.proofs.Templates.Values.{trees_valued}
 
@@ -280,7 +280,7 @@ module _ (f : Filling) where
           tree = tree_filled;
           records = λ o. ap rows (tree_filled o) ∙ rows_filled f (tree_of o);
           same_definitions = λ o. ap definitions (ap rows (tree_filled o) ∙ rows_filled f (tree_of o))
-              ∙ definitions-kept f (rows (tree_of o));
+              ∙ definitions_kept f (rows (tree_of o));
           bytes = bytes_filled;
         }
 

@@ -23,7 +23,7 @@ use Rattle.model.specs.Template.{is_parameter, Filling, fill_rec, fill_sym, fill
 use Rattle.theory.proofs.Templates.Answers.{Fills, fills-bind, fills-guard}
 use Rattle.theory.proofs.Templates.Records.{Other, other_stays, Valued, other_valued}
 use Rattle.theory.proofs.Templates.Records.{low_other, parameter_is}
-use Rattle.theory.proofs.Templates.Keys.{at_kept, union_deps-kept, Sound, sound_more, sound_enter, lookup-kept}
+use Rattle.theory.proofs.Templates.Keys.{at_kept, union_deps_kept, Sound, sound_more, sound_enter, lookup_kept}
 
 -- the symbols of some children, the scopes of the thunks among them, and the state, filled
 abbrev pub fill_kids : Filling → List ℕ × List ℕ × State → List ℕ × List ℕ × State
@@ -107,7 +107,7 @@ module _ (f : Filling) (v : ℕ → List ℕ) where
       subst₂ (λ (m : Option ℕ) (us : List ℕ).
       FillsOut (body (fill_rec f r) (fill_state f st) m us)
       (body r st (lookup st.syms r ks st.tables) (union_deps st.syms ks)))
-      (sym (lookup-kept f v st.syms r k ks st.tables h)) (sym (union_deps-kept f st.syms ks))
+      (sym (lookup_kept f v st.syms r k ks st.tables h)) (sym (union_deps_kept f st.syms ks))
       (go (lookup st.syms r ks st.tables))
     where
       body : Rec → State → Option ℕ → List ℕ → Out

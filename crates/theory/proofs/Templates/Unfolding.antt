@@ -18,7 +18,7 @@ use Rattle.theory.proofs.Acceptance.Checked.{checked_place}
 use Rattle.theory.proofs.Acceptance.Records.{kind_shape, def_child}
 use Rattle.theory.proofs.Interning.Walk.{is_block_is}
 use Rattle.model.specs.Template.{Filling, fill_rec, fill_tree, fill_trees, fill_unfolded, fill_unfoldeds}
-use Rattle.theory.proofs.Templates.Checks.{is_nil-kept}
+use Rattle.theory.proofs.Templates.Checks.{is_nil_kept}
 use Rattle.theory.proofs.Templates.Records.{Other, other_stays, shape_other, shape_is_other}
 
 -- ---- a block's children
@@ -137,7 +137,7 @@ module _ (f : Filling) where
     last_unfolds nil b ids c l ms d = refl
     last_unfolds (cons t ts) b ids c l ms d =
         ap (λ (z : Bool). unfold_item z (id_of (top (fill_tree f t))) (λ m e. unfold_at (fill_tree f t) m e)
-        (λ m e. unfold_last (fill_trees f ts) m e) (fill_meaning ms) d) (is_nil-kept f ts)
+        (λ m e. unfold_last (fill_trees f ts) m e) (fill_meaning ms) d) (is_nil_kept f ts)
         ∙ item_fills (is_nil ts) (id_of (top (fill_tree f t))) (id_of (top t)) (λ z. id_kept t (l.0 z))
         (λ m e. unfold_at (fill_tree f t) m e) (λ m e. unfold_at t m e) (λ m e. unfold_last (fill_trees f ts) m e)
         (λ m e. unfold_last ts m e)

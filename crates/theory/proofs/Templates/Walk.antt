@@ -31,9 +31,9 @@ module _ (f : Filling) where
     sizes_kept (cons t ts) = ap₂ ◌+◌ (size_kept t) (sizes_kept ts)
 
   -- a definition binds the same id
-  bind_def-kept : (t : Tree) (s : ℕ) (env : Env) → bind_def (fill_tree f t) s env ≡ bind_def t s env
+  bind_def_kept : (t : Tree) (s : ℕ) (env : Env) → bind_def (fill_tree f t) s env ≡ bind_def t s env
   unfolding bind_def
-  bind_def-kept (node r ts) s env = go (eqb r.shape ValDef) refl
+  bind_def_kept (node r ts) s env = go (eqb r.shape ValDef) refl
     where
       go : (b : Bool) → eqb r.shape ValDef ≡ b → ◌≡◌ {A = Env}
           (elim b [ true ↦ (id_of (fill_rec f r), s) ∷ env | false ↦ env ])
@@ -89,7 +89,7 @@ module _ (f : Filling) (v : ℕ → List ℕ) where
         (λ u s k. tree_fills t at u env s c.0 k) h) λ o s.
         outs_outs f v _ (intern_all ts op (suc j) (at + size t) cur (bind_def t o.0 env) o.1) _
         (λ os. good (o.0 ∷ os.0, branch (thunked op j) (length st.scopes) os.1, os.2))
-        (rw (size_kept f t, bind_def-kept f t o.0 env)
+        (rw (size_kept f t, bind_def_kept f t o.0 env)
         (trees_fill ts op (suc j) (at + size t) cur (bind_def t o.0 env) o.1 c.1 s))
         λ os k. (refl, k)
 
