@@ -50,11 +50,6 @@ module _ (bs out ws : List ℕ) (room : length out ≡ 65535) (words : length ws
   abbrev lent : Call
   lent = call_of bs out ws
 
-  -- what the call leaves in the output, it leaves as one that is lent as much as any needs
-  pub out_left : (out' : List ℕ) → out' ≡ out_after lent out → out' ≡ out_after (ample bs) out
-  out_left out' e =
-      e ∙ ap₂ (λ (r w : ℕ). out_after (record { forest = bs; room = r; words = w }) out) room words
-
   line_of_lem : (a : answer.Answer call.Written) → run lent ≡ a → template_line bs ≡ line_of bs a
   unfolding template_line
   line_of_lem a e =

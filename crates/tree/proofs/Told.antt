@@ -1,6 +1,6 @@
 -- What the program writes for a forest, from what the call tells, lent 65,535 bytes and 16,384 words that are 0.
 -- Assumes nothing.
-use Rattle.std.proofs.Common.{◌≡◌, ℕ, List, take, drop, replicate, length, [], arith, refl, sym, ap, ap₂, ◌∙◌}
+use Rattle.std.proofs.Common.{◌≡◌, ℕ, List, take, drop, replicate, length, [], refl, sym, ap, ap₂, ◌∙◌}
 use Rattle.std.proofs.Math.Seq.{take_at}
 use Rattle.std.proofs.lemmas.List.{length-replicate}
 use Rattle.model.specs.Answer.{refused, good}
