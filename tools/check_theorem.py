@@ -44,11 +44,11 @@ edit       the fact that fails, of the theorem on templates; its forest, filled,
 unmarked   is_key-kept: filling keeps which keys are equal. Else two parameters that are equal under one filling are one.
 gate-bytes should_hoist-kept: the gate sees no literal. Else a definition comes or goes with a value's length.
 class      same_kept: filling keeps which records are the same. Else a value of another class is filled in, as it must not be.
-one-value  record-valued: a parameter has one value in a template. Else two of its constants, apart there, are one when filled.
-no-byte    record-fits: a filled constant fits its shape. Else check 4 refuses the filled forest.
+one-value  record_valued: a parameter has one value in a template. Else two of its constants, apart there, are one when filled.
+no-byte    record_fits: a filled constant fits its shape. Else check 4 refuses the filled forest.
 
 edit       the fact that fails, of the theorem on failing operations; its forest has a value, and the written tree then has none
-thunk      in-thunk: a thunk's scope is no lambda's, so its symbols stay there. Else what is skipped is defined outside, and is
+thunk      in_thunk: a thunk's scope is no lambda's, so its symbols stay there. Else what is skipped is defined outside, and is
            then never skipped.
 skipped    member_is: the edit of hoist, with a forest for this theorem. Else what may be skipped is defined outside, and is then
            never skipped.
@@ -406,16 +406,16 @@ EDITS = [
          "same_kept", filled="p (x 1 1) (x 1 1)"),
     Edit("one-value", "a parameter may have two values in a template",
          [(TEMPLATE, "(record_at forest p).rec.lit ≡ (record_at forest q).rec.lit", "(record_at forest p).rec.lit ≡ (record_at forest p).rec.lit")],
-         [], "record-valued", templates=True),
+         [], "record_valued", templates=True),
     Edit("no-byte", "a filling may give an empty literal",
-         [(TEMPLATE, "1 ≤ length (literal a)", "0 ≤ length (literal a)")], [], "record-fits", templates=True),
+         [(TEMPLATE, "1 ≤ length (literal a)", "0 ≤ length (literal a)")], [], "record_fits", templates=True),
     Edit("thunk", "a thunk's symbols move out of it, as out of a lambda with no arguments",
          [(INTERN, "open_scope cur none ([] ∷ st.tables)", "open_scope cur (some []) ([] ∷ st.tables)")],
          [(f"theory/proofs/{f}", "cur none ([] ∷", "cur (some []) ([] ∷") for f in
           ("Interning/Operands", "Interning/Reread/Walk", "Failing/Thunks")]
          + [(f"theory/proofs/{f}", "args = none }", "args = some [] }") for f in ("Interning/Operands", "Failing/Thunks")]
          + [(f"theory/proofs/{f}", "Option.{none}", "Option.{none, some}") for f in ("Interning/Operands", "Interning/Reread/Walk")],
-         "in-thunk", value="e (k 1) (p z z)", written="B 1 z (e (k 1) (p (u 1) (u 1)))"),
+         "in_thunk", value="e (k 1) (p z z)", written="B 1 z (e (k 1) (p (u 1) (u 1)))"),
     Edit("skipped", "what stands in a scope that may be skipped is defined outside of it",
          [(MEMBER, "eqb (sym_of g s).scope sc", "eqb (sym_of g s).scope (sym_of g s).scope"), (MEMBER, *ONCE)],
          [(SCOPES, "eqb (sym_of g s).scope sc in", "eqb (sym_of g s).scope (sym_of g s).scope in"), (SCOPES, *ONCE)],
