@@ -6,7 +6,11 @@
 // In order: the head of a row; what is lent; what is looked at; rows.
 #![tactic(auto)]
 
-ghost use Rattle.std.specs.Prelude.{◌<◌};
+ghost use Rattle.std.specs.Prelude.{◌≡◌, ◌↔◌, ◌-◌, ◌<◌, ◌≤◌, ◌++◌, replicate, length, slice_index_or, IsTrue};
+ghost use Rattle.model.specs.Call.{numbers, out_after};
+ghost use Rattle.cse.specs.Call.{five};
+ghost use Rattle.cse.specs.Call as call;
+ghost use Rattle.replay.specs.Rows as rows;
 
 use cse::Answer;
 use std::io;
@@ -55,7 +59,9 @@ fn row_of(head: &[u8; 32]) -> Row {
 
 // ---- what is lent
 
-fn fill_bytes(out: &mut [u8]) {
+fn fill_bytes(out: &mut [u8])
+    ensures { out.new ≡ replicate (length out.old) BYTE }
+{
     let mut k = 0;
     while k < out.len() {
         out[k] = BYTE;
@@ -63,7 +69,9 @@ fn fill_bytes(out: &mut [u8]) {
     }
 }
 
-fn fill_words(work: &mut [u32]) {
+fn fill_words(work: &mut [u32])
+    ensures { work.new ≡ replicate (length work.old) WORD }
+{
     let mut k = 0;
     while k < work.len() {
         work[k] = WORD;
@@ -73,7 +81,9 @@ fn fill_words(work: &mut [u32]) {
 
 // ---- what is looked at
 
-fn is_answer(row: Row, number: u32, place: u32, written: u32, symbols: u32, readings: u32) -> bool {
+fn is_answer(row: Row, number: u32, place: u32, written: u32, symbols: u32, readings: u32) -> bool
+    ensures { IsTrue result ↔ (five number place written symbols readings ≡ rows.numbers_in row) }
+{
     if row.number != number {
         return false;
     }
@@ -89,7 +99,9 @@ fn is_answer(row: Row, number: u32, place: u32, written: u32, symbols: u32, read
     row.readings == readings
 }
 
-fn answered(row: Row, r: Answer) -> bool {
+fn answered(row: Row, r: Answer) -> bool
+    ensures { IsTrue result ↔ (call.numbers_in r ≡ rows.numbers_in row) }
+{
     match r {
         Answer::Written(length, symbols, readings) => is_answer(
             row, 0, 0, length, symbols, readings,
@@ -99,7 +111,9 @@ fn answered(row: Row, r: Answer) -> bool {
 }
 
 // Whether the output is the tree, and then the bytes that it was filled with.
-fn is_output(out: &[u8], tree: &[u8]) -> bool {
+fn is_output(out: &[u8], tree: &[u8]) -> bool
+    ensures { IsTrue result ↔ (out.now ≡ rows.before tree.now (length out.now) BYTE) }
+{
     if out.len() < tree.len() {
         return false;
     }
@@ -114,7 +128,9 @@ fn is_output(out: &[u8], tree: &[u8]) -> bool {
     true
 }
 
-fn byte_at(tree: &[u8], k: usize) -> u8 {
+fn byte_at(tree: &[u8], k: usize) -> u8
+    ensures { result ≡ slice_index_or tree.now k BYTE }
+{
     if k < tree.len() {
         return tree[k];
     }
@@ -122,7 +138,10 @@ fn byte_at(tree: &[u8], k: usize) -> u8 {
 }
 
 // Whether the first `cleared` words are 0, and the others those that they were filled with.
-fn is_work(work: &[u32], cleared: usize) -> bool {
+fn is_work(work: &[u32], cleared: usize) -> bool
+    ensures { cleared ≤ length work.now
+        → (IsTrue result ↔ (work.now ≡ rows.before (replicate cleared 0) (length work.now) WORD)) }
+{
     let mut k = 0;
     while k < work.len() {
         let wanted = word_at(k, cleared);
@@ -134,7 +153,9 @@ fn is_work(work: &[u32], cleared: usize) -> bool {
     true
 }
 
-fn word_at(k: usize, cleared: usize) -> u32 {
+fn word_at(k: usize, cleared: usize) -> u32
+    ensures { result ≡ slice_index_or (replicate cleared 0) k WORD }
+{
     if k < cleared {
         return 0;
     }
@@ -150,8 +171,13 @@ fn cleared(number: u32) -> usize {
 
 // ---- rows
 
-// One call, and all that it left.
-fn agrees(row: Row, forest: &[u8], tree: &[u8], out: &mut [u8], work: &mut [u32]) -> bool {
+// One call, and all that it left. A row that agrees has the numbers that the definitions give for its forest, and the
+// output that they leave is its tree, and then the bytes that it was filled with.
+fn agrees(row: Row, forest: &[u8], tree: &[u8], out: &mut [u8], work: &mut [u32]) -> bool
+    ensures numbers { IsTrue result → numbers (rows.call_in row forest.now) ≡ rows.numbers_in row }
+    ensures output { IsTrue result → out_after (rows.call_in row forest.now) (replicate row.room BYTE)
+        ++ replicate (length out.old - row.room) BYTE ≡ rows.before tree.now (length out.old) BYTE }
+{
     if out.len() < row.room {
         return false;
     }

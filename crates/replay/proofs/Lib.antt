@@ -1,0 +1,2 @@
+-- Lemmas. Assumes nothing.
+pub mod Before
