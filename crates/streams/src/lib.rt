@@ -13,7 +13,8 @@ use std::io::Read;
 // Rules out: fewer of an input that has more; a byte read that the buffer does not have.
 pub fn read_full<R: Read>(input: &mut R, buf: &mut [u8]) -> io::Result<usize>
     ensures in_bounds { ReadsAtMost result buf.new }
-    ensures read { IfOk result (λ n. IfSome (R.remaining input.old) (λ bs. take n buf.new ≡ take (length buf.new) bs)) }
+    ensures read { IfOk result (λ n. IfSome (R.remaining input.old)
+        (λ bs. take n buf.new ≡ take (length buf.new) bs)) }
     ensures rest { IfOk result (λ n. Consumes (R.remaining input.old) (R.remaining input.new) (take n buf.new)) }
 {
     let mut done = 0;

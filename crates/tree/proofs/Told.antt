@@ -5,7 +5,8 @@ use Rattle.std.proofs.Math.Seq.{take_at}
 use Rattle.std.proofs.lemmas.List.{length-replicate}
 use Rattle.model.specs.Answer.{refused, good}
 use Rattle.model.specs.Answer as answer
-use Rattle.model.specs.Call.{Call, call_of, ample, bytes_of, written_of, run, Numbers, numbers_of, numbers, out_with, out_after}
+use Rattle.model.specs.Call.{Call, call_of, ample, bytes_of, written_of, run, Numbers, numbers_of, numbers}
+use Rattle.model.specs.Call.{out_with, out_after}
 use Rattle.model.specs.Call as call
 use Rattle.model.specs.Lister.{refusal}
 use Rattle.cse.specs.declared.Answer.{Answer}

@@ -1,4 +1,5 @@
--- What the program writes for a forest: the tree's bytes to standard output, or the line of a refusal to standard error.
+-- What the program writes for a forest: the tree's bytes to standard output, or the line of a refusal to standard
+-- error.
 -- Assumes nothing.
 use Rattle.std.specs.Prelude.{ℕ, List, []}
 use Rattle.model.specs.Answer.{Answer, refused, good}

@@ -21,5 +21,6 @@ pub returns-in-Refused : goal.returns-in-Refused
 unfolding line_of
 returns-in-Refused g c =
     let told = ap (λ (v : Verdict). answer_of v (trees_of c.args.forest.now)) c.in-Refused.is in
-    puts_as c.print_refusal.result (g.W.Write.contents c.args.output.now) (g.W.Write.contents c.print_refusal.new.output)
+    puts_as c.print_refusal.result (g.W.Write.contents c.args.output.now)
+    (g.W.Write.contents c.print_refusal.new.output)
     (ap line_of (sym told ∙ c.check.ensures.is)) c.print_refusal.ensures

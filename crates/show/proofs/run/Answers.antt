@@ -16,7 +16,7 @@ pub returns : goal.returns
 returns g c =
     let held = g.O.Write.contents c.args.output.now in
     let holds = g.O.Write.contents c.write_all.new.self in
-    puts_read c.write_all.result held holds (λ bs. take 262144 (sheet bs)) (g.I.Read.remaining c.args.input.now) _ _ 65536
-    c.read_full.auto.buf c.in_ok-n.ensures.read
+    puts_read c.write_all.result held holds (λ bs. take 262144 (sheet bs))
+    (g.I.Read.remaining c.args.input.now) _ _ 65536 c.read_full.auto.buf c.in_ok-n.ensures.read
     (puts_as c.write_all.result held holds (shown_text 262144 _ c.room-text.ensures c.shown-k.ensures)
     c.write_all.ensures.bytes)

@@ -8,11 +8,12 @@ use borrow.Rule.Slice.PartMut.{put_mid, post_of}
 use Rattle.streams.proofs.read_full.Goals as goal
 
 -- what the first n bytes of ys add to the first a of xs
-take-put_mid_part : (a k n : ℕ) (xs ys : List ℕ) → a ≤ length xs → n ≤ length ys → take (a + n) (put_mid a k xs ys) ≡ take a xs ++ take n ys
-take-put_mid_part a k n xs ys within fits =
-    ap (λ m. take (m + n) (put_mid a k xs ys)) (sym (length-take-le a xs within))
-    ∙ take-append-add (take a xs) (ys ++ post_of a k xs) n
-    ∙ ap (λ l. take a xs ++ l) (take-append-le n ys (post_of a k xs) fits)
+put_part : (a k n : ℕ) (xs ys : List ℕ) → a ≤ length xs → n ≤ length ys →
+    take (a + n) (put_mid a k xs ys) ≡ take a xs ++ take n ys
+put_part a k n xs ys within fits =
+    ap (λ m. take (m + n) (put_mid a k xs ys)) (sym (length-take-le a xs within)) ∙
+    take-append-add (take a xs) (ys ++ post_of a k xs) n ∙
+    ap (λ l. take a xs ++ l) (take-append-le n ys (post_of a k xs) fits)
 
 pub loop-done-preserved : goal.loop-done-preserved
 loop-done-preserved g c =
@@ -21,6 +22,8 @@ loop-done-preserved g c =
     record {
       len = search rules;
       within = search rules;
-      bytes = subst (Consumes _ _) (sym (take-put_mid_part c.loop-done.done _ c.in_ok-n.n c.loop-done.buf c.read.new.buf w.within read.bound.0))
+      bytes =
+          subst (Consumes _ _)
+          (sym (put_part c.loop-done.done _ c.in_ok-n.n c.loop-done.buf c.read.new.buf w.within read.bound.0))
           (Consumes-trans _ _ _ _ _ w.bytes read.bytes.0);
     }

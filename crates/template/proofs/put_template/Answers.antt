@@ -9,5 +9,5 @@ use Rattle.template.proofs.put_template.Goals as goal
 pub returns : goal.returns
 unfolding text
 returns c w e =
-    wrote_as (template_line_lem c.args.forest.now w _ _ (c.definitions-d.ensures ∙ ap definitions e) c.parameters-p.ensures)
-    c.put_line.ensures
+    wrote_as (template_line_lem c.args.forest.now w _ _ (c.definitions-d.ensures ∙ ap definitions e)
+    c.parameters-p.ensures) c.put_line.ensures

@@ -26,6 +26,7 @@ returns-in-Refused-clause-output g c =
 pub returns-in-Refused-clause-errors : goal.returns-in-Refused-clause-errors
 returns-in-Refused-clause-errors g c =
     let w = c.in-Refused in
-    puts_as c.print_refusal.result (g.E.Write.contents c.args.errors.now) (g.E.Write.contents c.print_refusal.new.errors)
+    puts_as c.print_refusal.result (g.E.Write.contents c.args.errors.now)
+    (g.E.Write.contents c.print_refusal.new.errors)
     (refused_errors c.args.forest.now c.cse.result c.cse.ensures.result_value w.number w.place w.is)
     c.print_refusal.ensures
