@@ -41,8 +41,8 @@ own-value  force_loose: a definition is not in force in its own value (9, 10).
 past-block force_loose: nor past its block (9, 10).
 
 edit       the fact that fails, of the theorem on templates; its forest, filled, is then not written as the filled tree
-unmarked   is_key-kept: filling keeps which keys are equal. Else two parameters that are equal under one filling are one.
-gate-bytes should_hoist-kept: the gate sees no literal. Else a definition comes or goes with a value's length.
+unmarked   is_key_kept: filling keeps which keys are equal. Else two parameters that are equal under one filling are one.
+gate-bytes should_hoist_kept: the gate sees no literal. Else a definition comes or goes with a value's length.
 class      same_kept: filling keeps which records are the same. Else a value of another class is filled in, as it must not be.
 one-value  record_valued: a parameter has one value in a template. Else two of its constants, apart there, are one when filled.
 no-byte    record_fits: a filled constant fits its shape. Else check 4 refuses the filled forest.
@@ -53,8 +53,8 @@ thunk      in_thunk: a thunk's scope is no lambda's, so its symbols stay there. 
 skipped    member_is: the edit of hoist, with a forest for this theorem. Else what may be skipped is defined outside, and is then
            never skipped.
 any-right  skipped-thunked: what is skipped has a scope of its own. Else it is defined in the one around, and is found after all.
-environment passed-kept: the forest is one tree. Else another tree, which may fail, makes symbols in the same scope.
-field      passed-kept: it has no SelectField. Else one makes both fields of a pair, though one of them may fail.
+environment passed_kept: the forest is one tree. Else another tree, which may fail, makes symbols in the same scope.
+field      passed_kept: it has no SelectField. Else one makes both fields of a pair, though one of them may fail.
 
 For the limits there is no forest (it would take 1,001 readings), nor for an edit of a condition, of a template or of a filling.
 For environment and field crate model computes one, in FailingExamples.
