@@ -28,8 +28,7 @@ MODEL = os.path.join(TOP, "crates", "model")
 SPECS = "Rattle.model.specs"
 
 HEAD = f"""-- Rows from outside.
-use Rattle.std.specs.Prelude.{{ℕ, zero, suc, ◌+◌, ◌*◌, ◌/◌, ◌%◌, ◌≡◌, refl, Bool, true, false, ◌&&◌, List, [], ◌∷◌, eqb}}
-use Rattle.std.proofs.Math.Option.{{Option, none, some}}
+use Rattle.std.specs.Prelude.{{ℕ, zero, suc, ◌+◌, ◌*◌, ◌/◌, ◌%◌, ◌≡◌, refl, Bool, true, false, ◌&&◌, List, [], ◌∷◌, eqb, Option, None, Some}}
 use Rattle.std.proofs.Common.{{arith}}
 use {SPECS}.Lists.{{same}}
 use {SPECS}.Answer.{{Answer, refused, good}}
@@ -82,14 +81,14 @@ last_of v [] = v
 last_of v (w ∷ ws) = last_of w ws
 
 quotient : ℕ → ℕ → Option ℕ
-quotient a zero = none
-quotient a (suc b) = some ((a / suc b) % 7)
+quotient a zero = None
+quotient a (suc b) = Some ((a / suc b) % 7)
 
 means : ℕ → Rec → List ℕ → Option ℕ
-means m r [] = let w = weight m r in elim (eqb (w % 5) 0) [ true ↦ none | false ↦ some (w % 7) ]
+means m r [] = let w = weight m r in elim (eqb (w % 5) 0) [ true ↦ None | false ↦ Some (w % 7) ]
 means m r (v ∷ vs) =
     let sum = weight m r + weighted 2 (v ∷ vs) in
-    elim (eqb ((r.opcode + m) % 3) 0) [ true ↦ quotient sum (last_of v vs) | false ↦ some (sum % 7) ]
+    elim (eqb ((r.opcode + m) % 3) 0) [ true ↦ quotient sum (last_of v vs) | false ↦ Some (sum % 7) ]
 
 -- IF takes operand 1 where the condition is odd; ED skips where the left is even, EC where it is odd
 numbered : ℕ → Semantics ℕ
@@ -158,7 +157,7 @@ def option(text, line):
     """A value that may be missing."""
     if not re.fullmatch(r"-|[0-9]+", text):
         bad(line, "a value is a number, or '-'")
-    return "none" if text == "-" else f"some {text}"
+    return "None" if text == "-" else f"Some {text}"
 
 
 def declaration(i, line, fields):

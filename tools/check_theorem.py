@@ -80,8 +80,7 @@ TOP = os.path.dirname(os.path.dirname(os.path.abspath(__file__)))
 CRATES = ("model", "laws", "theory")
 
 COUNTER = """-- What becomes of a small forest: is the written tree accepted, and does it unfold to what the root unfolds to?
-use Rattle.std.specs.Prelude.{ℕ, zero, suc, ◌+◌, ◌*◌, ◌≡◌, refl, Bool, true, false, ◌&&◌, List, [], ◌∷◌, ◌++◌, eqb}
-use Rattle.std.proofs.Math.Option.{Option, none, some}
+use Rattle.std.specs.Prelude.{ℕ, zero, suc, ◌+◌, ◌*◌, ◌≡◌, refl, Bool, true, false, ◌&&◌, List, [], ◌∷◌, ◌++◌, eqb, Option, None, Some}
 use Rattle.std.proofs.Common.{arith}
 use Rattle.model.specs.Lists.{same}
 use Rattle.model.specs.Bytes.{put32}
@@ -168,14 +167,14 @@ commutes t = agree (called t) (run (ample (fill_forest sevens (serialise (cons t
 
 careful : Semantics ℕ
 careful = record {
-  apply = λ r vs. elim (eqb r.opcode 0xFE) [ true ↦ none | false ↦ some 0 ];
+  apply = λ r vs. elim (eqb r.opcode 0xFE) [ true ↦ None | false ↦ Some 0 ];
   takes = λ v. true;
   skips = λ op v. true;
 }
 
 has : Option ℕ → Bool
-has none = false
-has (some v) = true
+has None = false
+has (Some v) = true
 
 root_has : Tree → Bool
 root_has t = has (eval careful t [])
@@ -410,11 +409,11 @@ EDITS = [
     Edit("no-byte", "a filling may give an empty literal",
          [(TEMPLATE, "1 ≤ length (literal a)", "0 ≤ length (literal a)")], [], "record_fits", templates=True),
     Edit("thunk", "a thunk's symbols move out of it, as out of a lambda with no arguments",
-         [(INTERN, "open_scope cur none ([] ∷ st.tables)", "open_scope cur (some []) ([] ∷ st.tables)")],
-         [(f"theory/proofs/{f}", "cur none ([] ∷", "cur (some []) ([] ∷") for f in
+         [(INTERN, "open_scope cur None ([] ∷ st.tables)", "open_scope cur (Some []) ([] ∷ st.tables)")],
+         [(f"theory/proofs/{f}", "cur None ([] ∷", "cur (Some []) ([] ∷") for f in
           ("Interning/Operands", "Interning/Reread/Walk", "Failing/Thunks")]
-         + [(f"theory/proofs/{f}", "args = none }", "args = some [] }") for f in ("Interning/Operands", "Failing/Thunks")]
-         + [(f"theory/proofs/{f}", "Option.{none}", "Option.{none, some}") for f in ("Interning/Operands", "Interning/Reread/Walk")],
+         + [(f"theory/proofs/{f}", "args = None }", "args = Some [] }") for f in ("Interning/Operands", "Failing/Thunks")]
+         + [(f"theory/proofs/{f}", "Prelude.{None}", "Prelude.{None, Some}") for f in ("Interning/Operands", "Interning/Reread/Walk")],
          "in_thunk", value="e (k 1) (p z z)", written="B 1 z (e (k 1) (p (u 1) (u 1)))"),
     Edit("skipped", "what stands in a scope that may be skipped is defined outside of it",
          [(MEMBER, "eqb (sym_of g s).scope sc", "eqb (sym_of g s).scope (sym_of g s).scope"), (MEMBER, *ONCE)],

@@ -3,7 +3,7 @@
 -- Assumes nothing.
 use Prim.Native.Nat.{ℕ}
 use mathlib.Core.Path.{◌≡◌, sym, ap, ◌∙◌}
-use mathlib.Core.Option.{Option, none, some}
+use Rattle.std.specs.Prelude.{Option, None, Some}
 use mathlib.Core.List.{List}
 use Rattle.model.specs.Answer.{refused, good, unless, checked}
 use Rattle.model.specs.Lists.{first}
@@ -24,33 +24,33 @@ use Rattle.codec.specs.Codec.{Shaped}
 
 -- ---- a place, or none
 
-pub passed : (r : Place) (o : Option ℕ) → place_of r ≡ o → r ≡ Nowhere → o ≡ none
+pub passed : (r : Place) (o : Option ℕ) → place_of r ≡ o → r ≡ Nowhere → o ≡ None
 passed r o e f = sym e ∙ ap place_of f
 
-pub failed : (r : Place) (o : Option ℕ) (p : ℕ) → place_of r ≡ o → r ≡ At p → o ≡ some p
+pub failed : (r : Place) (o : Option ℕ) (p : ℕ) → place_of r ≡ o → r ≡ At p → o ≡ Some p
 failed r o p e f = sym e ∙ ap place_of f
 
 -- ---- 2 to 6
 
 module _ (bs : List ℕ) (p : ℕ) where
-  pub refused_2 : check2 bs ≡ some p → refused 2 p ≡ accept bs
+  pub refused_2 : check2 bs ≡ Some p → refused 2 p ≡ accept bs
   unfolding accept checks checked unless
   refused_2 e = rw e
 
-  pub refused_3 : check2 bs ≡ none → check3 bs ≡ some p → refused 3 p ≡ accept bs
+  pub refused_3 : check2 bs ≡ None → check3 bs ≡ Some p → refused 3 p ≡ accept bs
   unfolding accept checks checked unless
   refused_3 two e = rw (two, e)
 
   module _ (laid : Laid bs) where
-    pub refused_4 : check4 bs ≡ some p → refused 4 p ≡ accept bs
+    pub refused_4 : check4 bs ≡ Some p → refused 4 p ≡ accept bs
     unfolding accept checks checked unless
     refused_4 e = rw (laid.header, laid.directory, e)
 
-    pub refused_5 : check4 bs ≡ none → check5 bs ≡ some p → refused 5 p ≡ accept bs
+    pub refused_5 : check4 bs ≡ None → check5 bs ≡ Some p → refused 5 p ≡ accept bs
     unfolding accept checks checked unless
     refused_5 four e = rw (laid.header, laid.directory, four, e)
 
-    pub refused_6 : check4 bs ≡ none → check5 bs ≡ none → check6 bs ≡ some p → refused 6 p ≡ accept bs
+    pub refused_6 : check4 bs ≡ None → check5 bs ≡ None → check6 bs ≡ Some p → refused 6 p ≡ accept bs
     unfolding accept checks checked unless
     refused_6 four five e = rw (laid.header, laid.directory, four, five, e)
 
@@ -66,31 +66,31 @@ module _ (bs : List ℕ) (h : Shaped bs) where
   after_6 =
       rw (h.sound.laid.header, h.sound.laid.directory, h.sound.fit, h.agree, h.sound.closed)
 
-  pub refused_7 : (p : ℕ) → check7 bs ≡ some p → refused 7 p ≡ accept bs
+  pub refused_7 : (p : ℕ) → check7 bs ≡ Some p → refused 7 p ≡ accept bs
   unfolding unless
   refused_7 p e = sym (after_6 ∙ rw e)
 
-  module _ (seven : check7 bs ≡ none) where
-    pub refused_8 : (p : ℕ) → check8 (trees_of bs) ≡ some p → refused 8 p ≡ accept bs
+  module _ (seven : check7 bs ≡ None) where
+    pub refused_8 : (p : ℕ) → check8 (trees_of bs) ≡ Some p → refused 8 p ≡ accept bs
     unfolding unless
     refused_8 p e = sym (after_6 ∙ rw (seven, e))
 
-    module _ (eight : check8 (trees_of bs) ≡ none) where
-      pub refused_9 : (p : ℕ) → check9 (trees_of bs) ≡ some p → refused 9 p ≡ accept bs
+    module _ (eight : check8 (trees_of bs) ≡ None) where
+      pub refused_9 : (p : ℕ) → check9 (trees_of bs) ≡ Some p → refused 9 p ≡ accept bs
       unfolding unless
       refused_9 p e = sym (after_6 ∙ rw (seven, eight, e))
 
-      module _ (nine : check9 (trees_of bs) ≡ none) where
-        pub refused_10 : (p : ℕ) → check10 (trees_of bs) ≡ some p → refused 10 p ≡ accept bs
+      module _ (nine : check9 (trees_of bs) ≡ None) where
+        pub refused_10 : (p : ℕ) → check10 (trees_of bs) ≡ Some p → refused 10 p ≡ accept bs
         unfolding unless
         refused_10 p e = sym (after_6 ∙ rw (seven, eight, nine, e))
 
-        pub accepted : check10 (trees_of bs) ≡ none → good (trees_of bs) ≡ accept bs
+        pub accepted : check10 (trees_of bs) ≡ None → good (trees_of bs) ≡ accept bs
         unfolding unless
         accepted e = sym (after_6 ∙ rw (seven, eight, nine, e))
 
   -- one walk that tests all four finds nothing
-  pub all_passed : first (faults_in (check_by 0) (trees_of bs) start) ≡ none → good (trees_of bs) ≡ accept bs
+  pub all_passed : first (faults_in (check_by 0) (trees_of bs) start) ≡ None → good (trees_of bs) ≡ accept bs
   all_passed e =
       accepted (sym (check_7 bs) ∙ any_none 7 (trees_of bs) e) (sym (check_8 (trees_of bs)) ∙ any_none 8 (trees_of bs) e)
       (sym (check_9 (trees_of bs)) ∙ any_none 9 (trees_of bs) e)
@@ -100,10 +100,10 @@ module _ (bs : List ℕ) (h : Shaped bs) where
 
 pub record Passed (bs : List ℕ) (ts : Trees) : Type 0 where
   pub shaped : Shaped bs
-  pub shallow : check7 bs ≡ none
-  pub placed : check8 (trees_of bs) ≡ none
-  pub fresh : check9 (trees_of bs) ≡ none
-  pub bound : check10 (trees_of bs) ≡ none
+  pub shallow : check7 bs ≡ None
+  pub placed : check8 (trees_of bs) ≡ None
+  pub fresh : check9 (trees_of bs) ≡ None
+  pub bound : check10 (trees_of bs) ≡ None
   pub trees : trees_of bs ≡ ts
 
 pub accept-passed : (bs : List ℕ) (ts : Trees) → accept bs ≡ good ts → Passed bs ts

@@ -1,7 +1,7 @@
 -- Check 6, record by record: what is left gives the whole. Assumes nothing.
 use Prim.Native.Nat.{ℕ, zero, suc, ◌+◌, ◌-◌, ◌<◌, ◌≤◌}
 use mathlib.Core.Path.{◌≡◌, refl}
-use mathlib.Core.Option.{none, some}
+use Rattle.std.specs.Prelude.{None, Some}
 use mathlib.Core.List.{List, ◌∷◌}
 use native.Mathlib.Omega.{arith}
 use lib.ListN.{drop}
@@ -16,7 +16,7 @@ module _ (bs : List ℕ) where
   closing_start = refl
 
   -- no tree is to come, and a record is left
-  pub closing_over : (left i : ℕ) → i < record_count bs → left ≡ 0 → unclosed left i (drop i (rows_in bs)) ≡ some i
+  pub closing_over : (left i : ℕ) → i < record_count bs → left ≡ 0 → unclosed left i (drop i (rows_in bs)) ≡ Some i
   unfolding unclosed
   closing_over left i l e = rw (e, rows_at bs i l)
 
@@ -33,11 +33,11 @@ module _ (bs : List ℕ) where
           unclosed (left + r.kids) j rs ≡ unclosed (suc left) i (r ∷ rs)
       turn left i r rs j e = rw e
 
-  pub closing_none : (left i : ℕ) → record_count bs ≤ i → left ≡ 0 → unclosed left i (drop i (rows_in bs)) ≡ none
+  pub closing_none : (left i : ℕ) → record_count bs ≤ i → left ≡ 0 → unclosed left i (drop i (rows_in bs)) ≡ None
   unfolding unclosed
   closing_none left i l e = rw (e, rows_end bs i l)
 
-  pub closing_lack : (left i : ℕ) → record_count bs ≤ i → (left ≡ 0 → ⊥) → unclosed left i (drop i (rows_in bs)) ≡ some i
+  pub closing_lack : (left i : ℕ) → record_count bs ≤ i → (left ≡ 0 → ⊥) → unclosed left i (drop i (rows_in bs)) ≡ Some i
   unfolding unclosed
   closing_lack zero i l h = absurd (h refl)
   closing_lack (suc left) i l h = rw (rows_end bs i l)

@@ -3,7 +3,7 @@
 use Prim.Native.Nat.{ℕ, zero, suc, ◌+◌, ◌-◌, ◌*◌, ◌<◌, ◌≤◌}
 use mathlib.Core.Path.{◌≡◌, sym, ap, ◌∙◌}
 use mathlib.Core.Bool.{Bool, true, false, not}
-use mathlib.Core.Option.{Option, none, some}
+use Rattle.std.specs.Prelude.{Option, None, Some}
 use mathlib.Core.List.{List, ◌∷◌}
 use native.Mathlib.Omega.{arith}
 use native.Mathlib.Decide.{dec_lt}
@@ -70,7 +70,7 @@ abbrev pub pairs_left : List ℕ → ℕ → ℕ → ℕ → Option ℕ
 pairs_left bs n from i = shift i (first (bad_pairs (length bs) from (pairs_from bs n i)))
 
 module _ (bs : List ℕ) where
-  pub directory_short : length bs < body_start bs → some 0 ≡ check3 bs
+  pub directory_short : length bs < body_start bs → Some 0 ≡ check3 bs
   unfolding check3
   directory_short h = rw (check3, lt-ltb (length bs) (body_start bs) h)
 
@@ -80,7 +80,7 @@ module _ (bs : List ℕ) where
       let e : record_count bs - 0 ≡ record_count bs = omega arith in
       rw (check3, le-ltb (length bs) (body_start bs) h, e) (shift_zero _)
 
-  pub directory-end : (n from i : ℕ) → n ≤ i → pairs_left bs n from i ≡ none
+  pub directory-end : (n from i : ℕ) → n ≤ i → pairs_left bs n from i ≡ None
   unfolding pairs_at bad_pairs first
   directory-end n from i h = let e : n - i ≡ 0 = omega arith in rw e
 
@@ -95,7 +95,7 @@ module _ (bs : List ℕ) where
         rw e (pairs_first (length bs) from (n - (i + 1)) bs (4 + 4 * i) ∙ rw (last_is n i lt, f, g))
 
     pub directory_hit : (at size : ℕ) → at ≡ u16 (drop (4 + 4 * i) bs) → size ≡ u16 (drop (6 + 4 * i) bs) →
-        (b : Bool) → b ≡ bad_pair (length bs) from at size (eqb (i + 1) n) → b ≡ true → pairs_left bs n from i ≡ some i
+        (b : Bool) → b ≡ bad_pair (length bs) from at size (eqb (i + 1) n) → b ≡ true → pairs_left bs n from i ≡ Some i
     directory_hit at size a s b e h =
         ap (λ (z : List Bool). shift i (first z)) pairs_split ∙ shift_hit i _ _ (rw (← a, ← s) (sym e ∙ h))
 

@@ -4,7 +4,7 @@
 use Prim.Native.Nat.{ℕ, ◌+◌, ◌<◌, ◌≤◌}
 use mathlib.Core.Path.{◌≡◌, refl, sym, ap, ◌∙◌}
 use mathlib.Core.Bool.{Bool, true, false, not}
-use mathlib.Core.Option.{Option, none, some}
+use Rattle.std.specs.Prelude.{Option, None, Some}
 use mathlib.Core.List.{List, ◌∷◌, map}
 use native.Mathlib.Omega.{arith}
 use lib.ListN.{drop}
@@ -67,7 +67,7 @@ module _ {f : Row → Bool} {all : Option ℕ} {bs : List ℕ} {n i : ℕ} (h : 
       ∙ ap (λ (z : List Row). shift i (first (map f z))) (sym (rows_at bs i (omega (arith, h.count))))
       ∙ h.left
 
-  pub rows_hit : i < n → f (row_at bs i) ≡ true → some i ≡ all
+  pub rows_hit : i < n → f (row_at bs i) ≡ true → Some i ≡ all
   rows_hit l e = sym (shift_hit i true _ refl) ∙ rows_now l true e
 
   pub rows_miss : i < n → f (row_at bs i) ≡ false → Testing f all bs n (i + 1)
@@ -78,7 +78,7 @@ module _ {f : Row → Bool} {all : Option ℕ} {bs : List ℕ} {n i : ℕ} (h : 
     left = sym (shift_miss i false _ refl) ∙ rows_now l false e;
   }
 
-  pub rows_none : n ≤ i → none ≡ all
+  pub rows_none : n ≤ i → None ≡ all
   unfolding first
   rows_none l =
       ap (λ (z : List Row). shift i (first (map f z))) (sym (rows_end bs i (omega (arith, h.count)))) ∙ h.left

@@ -1,8 +1,7 @@
 -- What checks of a forest answer.
 -- In order: one pair of the directory; verdicts; what checks 2 to 6 leave, and say; all checks.
 -- Assumes nothing.
-use Rattle.std.specs.Prelude.{ℕ, ◌+◌, ◌≤◌, ◌≡◌, Bool, not, ◌&&◌, ◌||◌, List, eqb, ltb}
-use Rattle.std.proofs.Math.Option.{none}
+use Rattle.std.specs.Prelude.{ℕ, ◌+◌, ◌≤◌, ◌≡◌, Bool, not, ◌&&◌, ◌||◌, List, eqb, ltb, None}
 use Rattle.model.specs.Answer.{Answer, refused, good}
 use Rattle.model.specs.Tree.{Trees}
 use Rattle.model.specs.Forest.{trees_of, check5}
@@ -25,7 +24,7 @@ answer_of (Refused n p) ts = refused n p
 -- a forest that passes checks 2 to 6
 pub record Shaped (bs : List ℕ) : Type 0 where
   pub sound : WellFormed bs
-  pub agree : check5 bs ≡ none
+  pub agree : check5 bs ≡ None
 
 -- checks 2 to 6 pass, or one of them is the answer
 abbrev pub Layout : List ℕ → Verdict → Type 0

@@ -3,7 +3,6 @@
 #![tactic(auto)]
 
 ghost use Rattle.std.specs.Prelude.{◌≡◌, ◌+◌, ◌*◌, ◌<◌, ◌≤◌, length};
-ghost use Rattle.std.proofs.Math.Option.{none};
 ghost use Rattle.model.specs.Forest as model;
 ghost use Rattle.model.specs.Shape as table;
 ghost use Rattle.record.specs.Record.{Laid, row_at};
@@ -69,7 +68,7 @@ fn bad_pair(total: usize, from: usize, at: usize, size: usize, last: bool) -> bo
 // Check 3: the directory.
 // Rules out: nowhere where bytes stand after the last record; the record after the one that offends.
 fn check3(forest: &[u8]) -> Place
-    requires { model.check2 forest.now ≡ none }
+    requires { model.check2 forest.now ≡ None }
     ensures { place_of result ≡ model.check3 forest.now }
 {
     let total = forest.len();

@@ -5,7 +5,7 @@
 use Prim.Native.Nat.{ℕ, zero, suc, ◌+◌, ◌-◌, ◌<◌, ◌≤◌}
 use mathlib.Core.Path.{◌≡◌, refl, sym, ap, ◌∙◌, subst}
 use mathlib.Core.Logic.{inl, inr}
-use mathlib.Core.Option.{none}
+use Rattle.std.specs.Prelude.{None}
 use mathlib.Core.List.{List, [], ◌∷◌}
 use native.Mathlib.Omega.{arith}
 use lib.ListN.{length, take}
@@ -65,7 +65,7 @@ second_under m zero x y h l = absurd (omega arith)
 second_under m (suc zero) x y h l = absurd (omega arith)
 second_under m (suc (suc b)) x y h l = h y (inr (inl refl))
 
-module _ (bs : List ℕ) (fit : check4 bs ≡ none) (m s count : ℕ) (ks : List ℕ) where
+module _ (bs : List ℕ) (fit : check4 bs ≡ None) (m s count : ℕ) (ks : List ℕ) where
   opens_node : (nd : Node) → (parts_of nd).source < record_count bs → Sourced bs nd count →
       NodeSound Any s m (rec_of bs nd) ks (model_node bs nd) → Opens bs m s nd
   unfolding shapes

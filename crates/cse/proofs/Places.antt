@@ -5,7 +5,7 @@ use Prim.Native.Nat.{ℕ, suc, ◌≤◌, ◌<◌}
 use mathlib.Core.Path.{◌≡◌, refl, ap, ◌∙◌}
 use mathlib.Core.Logic.{inl, inr}
 use mathlib.Core.Bool.{Bool, true, false}
-use mathlib.Core.Option.{Option, none, some}
+use Rattle.std.specs.Prelude.{Option, None, Some}
 use mathlib.Core.List.{List, [], ◌∷◌}
 use native.Mathlib.Omega.{arith}
 use lib.ListN.{length, drop}
@@ -26,12 +26,12 @@ use Rattle.walk.proofs.Checks.{check_7, check_8, check_9, check_10}
 
 -- ---- the first true of a list
 
-next_low : (n p : ℕ) (o : Option ℕ) → ((i : ℕ) → o ≡ some i → i < n) →
-    ◌≡◌ {A = Option ℕ} (elim o [ none ↦ none | some i ↦ some (suc i) ]) (some p) → p < suc n
-next_low n p none h e = none_some e
-next_low n p (some i) h e = let z : suc i ≡ p = cc in omega (arith, h i refl)
+next_low : (n p : ℕ) (o : Option ℕ) → ((i : ℕ) → o ≡ Some i → i < n) →
+    ◌≡◌ {A = Option ℕ} (elim o [ None ↦ None | Some i ↦ Some (suc i) ]) (Some p) → p < suc n
+next_low n p None h e = none_some e
+next_low n p (Some i) h e = let z : suc i ≡ p = cc in omega (arith, h i refl)
 
-first_low : (bs : List Bool) (p : ℕ) → first bs ≡ some p → p < length bs
+first_low : (bs : List Bool) (p : ℕ) → first bs ≡ Some p → p < length bs
 unfolding first
 first_low [] p e = none_some e
 first_low (true ∷ bs) p e = let z : 0 ≡ p = cc in omega arith
@@ -49,8 +49,8 @@ module _ (bs : List ℕ) where
   at_6 l p (inr h) = omega (arith, h.0)
 
   -- a walk over the trees, which have a record each
-  at_walk : record_count bs ≤ 256 → check6 bs ≡ none → (n : ℕ) (o : Option ℕ) →
-      first (faults_in (check_by n) (trees_of bs) start) ≡ o → (p : ℕ) → o ≡ some p → p ≤ 256
+  at_walk : record_count bs ≤ 256 → check6 bs ≡ None → (n : ℕ) (o : Option ℕ) →
+      first (faults_in (check_by n) (trees_of bs) start) ≡ o → (p : ℕ) → o ≡ Some p → p ≤ 256
   at_walk l six n o is p e =
       omega (
         arith,
@@ -61,7 +61,7 @@ module _ (bs : List ℕ) where
         row_count bs,
       )
 
-  after_6 : record_count bs ≤ 256 → check6 bs ≡ none → Says (λ n p. p ≤ 256) (drop 5 (checks bs))
+  after_6 : record_count bs ≤ 256 → check6 bs ≡ None → Says (λ n p. p ≤ 256) (drop 5 (checks bs))
   unfolding checks
   after_6 l six =
       at_walk l six 7 _ (check_7 bs) next

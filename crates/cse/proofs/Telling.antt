@@ -4,7 +4,7 @@
 use Prim.Native.Nat.{ℕ, ◌+◌, ◌≤◌, ◌<◌}
 use mathlib.Core.Path.{◌≡◌, refl, sym, ap, ◌∙◌}
 use mathlib.Core.Bool.{Bool, true, false, ◌||◌}
-use mathlib.Core.Option.{some, none}
+use Rattle.std.specs.Prelude.{Some, None}
 use mathlib.Core.List.{List, ◌++◌, append-nil}
 use native.Mathlib.Omega.{arith}
 use borrow.Author.Tests.{lt-ltb, le-ltb, eq-eqb, ne_eqb}
@@ -53,14 +53,14 @@ module _ (a : answer.Answer call.Written) (out : List ℕ) where
 
 -- ---- a tree
 
-any_first : (a b c : Bool) → a ≡ true → at0 (a || b || c) ≡ some 0
+any_first : (a b c : Bool) → a ≡ true → at0 (a || b || c) ≡ Some 0
 any_first a b c e = rw e
 
-any_second : (a b c : Bool) → b ≡ true → at0 (a || b || c) ≡ some 0
+any_second : (a b c : Bool) → b ≡ true → at0 (a || b || c) ≡ Some 0
 any_second true b c e = refl
 any_second false b c e = rw e
 
-any_third : (a b c : Bool) → c ≡ true → at0 (a || b || c) ≡ some 0
+any_third : (a b c : Bool) → c ≡ true → at0 (a || b || c) ≡ Some 0
 any_third true b c e = refl
 any_third false true c e = refl
 any_third false false c e = rw e
@@ -75,7 +75,7 @@ module _ (room : ℕ) (o : ℕ × State) where
   abbrev past : Bool
   past = ltb room (length (bytes_of o))
 
-  at_13 : check13 room o ≡ some 0 → measured room o ≡ refused 13 0
+  at_13 : check13 room o ≡ Some 0 → measured room o ≡ refused 13 0
   unfolding measured tree_checks checked unless
   at_13 e = rw e
 
@@ -92,7 +92,7 @@ module _ (room : ℕ) (o : ℕ × State) where
   measured-over h = at_13 (any_third large long past (lt-ltb room (length (bytes_of o)) h))
 
   module _ (few : size (tree_of o) ≤ 256) (short : length (bytes_of o) ≤ 65535) (fits : length (bytes_of o) ≤ room) where
-    past_13 : check13 room o ≡ none
+    past_13 : check13 room o ≡ None
     unfolding check13
     past_13 = rw (
       le-ltb 256 (size (tree_of o)) few,

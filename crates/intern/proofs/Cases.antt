@@ -6,7 +6,7 @@ use Prim.Native.Nat.{ℕ, ◌+◌, ◌<◌, ◌≤◌}
 use mathlib.Core.Path.{◌≡◌, refl, sym, ap, ◌∙◌, subst}
 use mathlib.Core.Bool.{Bool, true, false}
 use mathlib.Core.Logic.{inl, inr}
-use mathlib.Core.Option.{some}
+use Rattle.std.specs.Prelude.{Some}
 use mathlib.Core.List.{List}
 use native.Mathlib.Omega.{arith}
 use borrow.Author.Tests.{eqb-true, eqb-false, ne_eqb, lt-ltb, le-ltb}
@@ -96,7 +96,7 @@ module _ (at cur : ℕ) (r : Rec) (env : Env) (kids : intern.Kids) (st : intern.
     abbrev body : Outs
     body =
         kids (length made.2.scopes) (bind_args xs made.0 env)
-        (open_scope cur (some made.0) made.2.tables made.2)
+        (open_scope cur (Some made.0) made.2.tables made.2)
 
     pub func_kids_refused : (n p : ℕ) → body ≡ refused n p → intern_func at cur r env kids st ≡ refused n p
     unfolding intern_func ◌>>=◌

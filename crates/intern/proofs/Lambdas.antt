@@ -3,7 +3,7 @@
 use Prim.Native.Nat.{ℕ, ◌+◌, ◌<◌}
 use mathlib.Core.Path.{◌≡◌, refl, sym, ap, ◌∙◌}
 use mathlib.Core.Bool.{false}
-use mathlib.Core.Option.{some}
+use Rattle.std.specs.Prelude.{Some}
 use mathlib.Core.List.{List, []}
 use native.Mathlib.Omega.{arith}
 use lib.ListN.{length}
@@ -73,7 +73,7 @@ module _ {bs ws : List ℕ} {t : Tables} {st : State} {i : ℕ} {at : Here} (h :
     inner = bind_args (args_of r.aux r.lit) own env
 
     abbrev opened : intern.State
-    opened = open_scope at.scope (some own) body.made.tables body.made
+    opened = open_scope at.scope (Some own) body.made.tables body.made
 
     below : Below bs ws₁ t e.st i e.at
     unfolding depth

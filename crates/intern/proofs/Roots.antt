@@ -4,7 +4,7 @@
 use Prim.Native.Nat.{ℕ, suc, ◌+◌, ◌<◌, ◌≤◌}
 use mathlib.Core.Path.{◌≡◌, refl, sym, ap, ◌∙◌}
 use mathlib.Core.Bool.{false}
-use mathlib.Core.Option.{none}
+use Rattle.std.specs.Prelude.{None}
 use mathlib.Core.List.{List, []}
 use native.Mathlib.Omega.{arith}
 use borrow.Author.Tests.{ltb-false}
@@ -67,7 +67,7 @@ mutual
         trees_flat ts d l (clear_right (deep t d) (deeps ts d) h),
       )
 
-forest_flat : (bs : List ℕ) → check7 bs ≡ none → depths (trees_of bs) ≤ 64
+forest_flat : (bs : List ℕ) → check7 bs ≡ None → depths (trees_of bs) ≤ 64
 unfolding check7
 forest_flat bs e = omega (arith, trees_flat (trees_of bs) 1 (omega arith) (first_clear (deeps (trees_of bs) 1) e))
 
@@ -178,7 +178,7 @@ module _ {bs ws ws₁ : List ℕ} {t : Tables} {st : State} {count : ℕ} (h : B
 
       root_low : last (pending_from ws₂ 0 count) < k.st.symbols
       root_low =
-          let some : 1 ≤ many (trees bs 0 count) = omega (
+          let one : 1 ≤ many (trees bs 0 count) = omega (
             arith,
             ap many whole,
             tree_count_lem bs (forest_sound bs h.accepted).closed,
@@ -186,7 +186,7 @@ module _ {bs ws ws₁ : List ℕ} {t : Tables} {st : State} {count : ℕ} (h : B
           ) in
           omega (
             arith,
-            (last_result operands₁.well 0 _ (sym v.is ∙ kids_good bs ws₂ new_tables 0 count k ok) some).low,
+            (last_result operands₁.well 0 _ (sym v.is ∙ kids_good bs ws₂ new_tables 0 count k ok) one).low,
             symbols-count bs ws₂ new_tables k.st,
           )
 

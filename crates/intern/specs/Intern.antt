@@ -2,8 +2,7 @@
 -- In order: where a record is read; answers; a record; a record whose children are read; a child in a thunk; operands;
 -- a lambda's body; a forest.
 -- Assumes nothing.
-use Rattle.std.specs.Prelude.{ℕ, suc, ◌+◌, ◌-◌, ◌*◌, ◌<◌, ◌≤◌, ◌≡◌, Bool, true, false, List, [], eqb, length}
-use Rattle.std.proofs.Math.Option.{some}
+use Rattle.std.specs.Prelude.{ℕ, suc, ◌+◌, ◌-◌, ◌*◌, ◌<◌, ◌≤◌, ◌≡◌, Bool, true, false, List, [], eqb, length, Some}
 use Rattle.regions.specs.Regions.{PENDING, end}
 use Rattle.model.specs.Answer.{refused, good}
 use Rattle.model.specs.Tree.{Rec, Tree, Trees, many, take_t, drop_t, size, sizes, depth, depths}
@@ -231,7 +230,7 @@ pub record Body (bs ws : List ℕ) (t : Tables) (st : State) (i : ℕ) (at : Her
   pub is : args_made bs i at.scope (abs_of bs ws t st) ≡ good (range e.first (rec_at bs i).aux, [], made)
   pub scope : e.at.scope ≡ length made.scopes
   pub abs : abs_of bs ws' t e.st
-      ≡ open_scope at.scope (some (range e.first (rec_at bs i).aux)) made.tables made
+      ≡ open_scope at.scope (Some (range e.first (rec_at bs i).aux)) made.tables made
   pub env : env_of ws' e.at.top
       ≡ bind_args (args_of (rec_at bs i).aux (rec_at bs i).lit) (range e.first (rec_at bs i).aux) (env_of ws at.top)
   pub body : BodyOf ws' e.st.scopes at.scope e.at.scope (range e.first (rec_at bs i).aux)

@@ -4,7 +4,7 @@
 use Prim.Native.Nat.{ℕ, zero, suc, ◌+◌, ◌-◌, ◌<◌, ◌≤◌}
 use mathlib.Core.Path.{◌≡◌, refl, sym, ap, ◌∙◌}
 use mathlib.Core.Bool.{Bool, false, ◌||◌, or-false}
-use mathlib.Core.Option.{some}
+use Rattle.std.specs.Prelude.{Some}
 use mathlib.Core.List.{List, [], ◌∷◌}
 use native.Mathlib.Omega.{arith}
 use native.Mathlib.Decide.{dec_lt}
@@ -131,7 +131,7 @@ module _ (bs ws : List ℕ) (st : State) (cur at levels : ℕ) (rep : Rep bs ws 
     scs = scopes_of ws st.scopes
 
     -- no scope around has the new argument
-    apart : (s : ℕ) → In s (outward scs cur) → (xs : List ℕ) → (scope_at scs s).args ≡ some xs →
+    apart : (s : ℕ) → In s (outward scs cur) → (xs : List ℕ) → (scope_at scs s).args ≡ Some xs →
         any_in xs (st.symbols ∷ []) ≡ false
     apart s around xs e =
         let nested = rep.arena.scoped.nested in

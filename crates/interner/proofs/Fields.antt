@@ -4,7 +4,7 @@
 use Prim.Native.Nat.{ℕ, ◌+◌, ◌<◌}
 use mathlib.Core.Path.{◌≡◌, refl, sym, ap, ◌∙◌, subst}
 use mathlib.Core.Bool.{Bool, true, false}
-use mathlib.Core.Option.{none, some}
+use Rattle.std.specs.Prelude.{None, Some}
 use mathlib.Core.List.{List, [], ◌∷◌}
 use native.Mathlib.Omega.{arith}
 use borrow.Author.Tests.{eq-eqb, ne_eqb}
@@ -189,7 +189,7 @@ module _ {bs ws : List ℕ} {t : Tables} {st : State} {cur at held : ℕ} (p : P
           is = sym (new_second i ∙ out_refused bs ws₂ t b n (last i));
         }
 
-        module _ (fine : b.number ≡ 0) (new : recall (memo_of ws st.memo) (pend held ws) ≡ none) where
+        module _ (fine : b.number ≡ 0) (new : recall (memo_of ws st.memo) (pend held ws) ≡ None) where
           pub unpaired : Unpaired ws₂ b.st (pend held ws) a.symbol b.symbol
           unpaired = record {
             low = omega (arith, p.low, h.leaves.more, g.leaves.more);
@@ -228,14 +228,14 @@ module _ {bs ws : List ℕ} {t : Tables} {st : State} {cur at held : ℕ} (p : P
   -- ---- what is remembered, or both made
 
   module _ (i : ℕ) where
-    pub recalled : (x y : ℕ) {r : Step} → Rep bs ws st → recall (memo_of ws st.memo) (pend held ws) ≡ some (x, y) →
+    pub recalled : (x y : ℕ) {r : Step} → Rep bs ws st → recall (memo_of ws st.memo) (pend held ws) ≡ Some (x, y) →
         r ≡ given st (pick i (x, y)) → Answers bs ws t st (pair_of bs ws t st cur at held i) ws r
     unfolding pair_projection
     recalled x y rep f e =
         let low = recall_low st.symbols (memo_of ws st.memo) (pend held ws) x y rep.memo.below f in
         answers_as (given_answers rep (pick_low i x y st.symbols low.0 low.1) e) (rw (f, pair_projection))
 
-    pub not_recalled : {ws' : List ℕ} {r : Step} → recall (memo_of ws st.memo) (pend held ws) ≡ none →
+    pub not_recalled : {ws' : List ℕ} {r : Step} → recall (memo_of ws st.memo) (pend held ws) ≡ None →
         Answers bs ws t st (new_of bs ws t st cur at held i) ws' r →
         Answers bs ws t st (pair_of bs ws t st cur at held i) ws' r
     unfolding pair_projection

@@ -3,7 +3,7 @@
 use Prim.Native.Nat.{ℕ, ◌+◌, ◌<◌, ◌≤◌}
 use mathlib.Core.Path.{◌≡◌, refl}
 use mathlib.Core.Bool.{Bool, true}
-use mathlib.Core.Option.{Option, none, some}
+use Rattle.std.specs.Prelude.{Option, None, Some}
 use mathlib.Core.List.{List, [], ◌∷◌}
 use native.Mathlib.Omega.{arith}
 use lib.Dec.{ltb}
@@ -60,6 +60,6 @@ finish_keeps at cur r ks own nd s = go (lookup s.syms r ks s.tables)
 
     go : (o : Option ℕ) →
         Holds {A = ℕ × intern.State} (Keeps s (length ks))
-        (elim o [ some i ↦ good (i, s) | none ↦ alloc at cur r ks deps true nd s ])
-    go (some i) = same i
-    go none = alloc_keeps at cur r ks deps true nd s
+        (elim o [ Some i ↦ good (i, s) | None ↦ alloc at cur r ks deps true nd s ])
+    go (Some i) = same i
+    go None = alloc_keeps at cur r ks deps true nd s

@@ -5,7 +5,7 @@ use Prim.Native.Nat.{ℕ, zero, suc, ◌+◌, ◌-◌, ◌<◌, ◌≤◌}
 use mathlib.Core.Path.{◌≡◌, refl, sym, ap, ◌∙◌}
 use mathlib.Core.Logic.{inl, inr}
 use mathlib.Core.Bool.{Bool, true, false}
-use mathlib.Core.Option.{Option, none, some}
+use Rattle.std.specs.Prelude.{Option, None, Some}
 use mathlib.Core.List.{List, [], ◌∷◌}
 use native.Mathlib.Omega.{arith}
 use lib.ListN.{length, get_or}
@@ -42,25 +42,25 @@ AllUnder n [] = Unit {0}
 AllUnder n (t ∷ ts) = Under n t × AllUnder n ts
 
 module _ (ss : List Sym) (r : Rec) (ks : List ℕ) (n : ℕ) where
-  in_low : (es : List ℕ) (i : ℕ) → Under n es → lookup_in ss r ks es ≡ some i → i < n
+  in_low : (es : List ℕ) (i : ℕ) → Under n es → lookup_in ss r ks es ≡ Some i → i < n
   unfolding lookup_in
   in_low [] i b e = none_some e
   in_low (x ∷ es) i b e = go (is_key ss r ks x) (in_low es i (λ a h. b a (inr h))) e
     where
-      go : (t : Bool) → (lookup_in ss r ks es ≡ some i → i < n) →
-          elim t [ true ↦ some x | false ↦ lookup_in ss r ks es ] ≡ some i → i < n
+      go : (t : Bool) → (lookup_in ss r ks es ≡ Some i → i < n) →
+          elim t [ true ↦ Some x | false ↦ lookup_in ss r ks es ] ≡ Some i → i < n
       go true rest e = let p : i ≡ x = cc in b i (inl p)
       go false rest e = rest e
 
-  lookup_low : (ts : List (List ℕ)) (i : ℕ) → AllUnder n ts → lookup ss r ks ts ≡ some i → i < n
+  lookup_low : (ts : List (List ℕ)) (i : ℕ) → AllUnder n ts → lookup ss r ks ts ≡ Some i → i < n
   unfolding lookup
   lookup_low [] i b e = none_some e
   lookup_low (t ∷ ts) i b e = go (lookup_in ss r ks t) refl (lookup_low ts i b.1) e
     where
-      go : (o : Option ℕ) → lookup_in ss r ks t ≡ o → (lookup ss r ks ts ≡ some i → i < n) →
-          elim o [ some j ↦ some j | none ↦ lookup ss r ks ts ] ≡ some i → i < n
-      go (some j) f rest e = in_low t i b.0 (f ∙ e)
-      go none f rest e = rest e
+      go : (o : Option ℕ) → lookup_in ss r ks t ≡ o → (lookup ss r ks ts ≡ Some i → i < n) →
+          elim o [ Some j ↦ Some j | None ↦ lookup ss r ks ts ] ≡ Some i → i < n
+      go (Some j) f rest e = in_low t i b.0 (f ∙ e)
+      go None f rest e = rest e
 
 module _ (ws : List ℕ) (top n : ℕ) (below : EntriesBelow ws top n) where
   entries_low : (start k : ℕ) → k ≤ top - start → Under n (entries ws start k)
@@ -81,12 +81,12 @@ module _ (ws : List ℕ) (top n : ℕ) (below : EntriesBelow ws top n) where
 -- ---- `finish`, by what is found
 
 finish_some : (at cur : ℕ) (r : Rec) (ks own : List ℕ) (nd : intern.Node) (s : intern.State) (i : ℕ) →
-    lookup s.syms r ks s.tables ≡ some i → finish at cur r ks own nd s ≡ good (i, s)
+    lookup s.syms r ks s.tables ≡ Some i → finish at cur r ks own nd s ≡ good (i, s)
 unfolding finish
 finish_some at cur r ks own nd s i e = rw (e, finish)
 
 finish_none : (at cur : ℕ) (r : Rec) (ks own : List ℕ) (nd : intern.Node) (s : intern.State) →
-    lookup s.syms r ks s.tables ≡ none →
+    lookup s.syms r ks s.tables ≡ None →
     finish at cur r ks own nd s ≡ alloc at cur r ks (without (union_deps s.syms ks) own) true nd s
 unfolding finish
 finish_none at cur r ks own nd s e = rw (e, finish)
@@ -97,7 +97,7 @@ module _ {bs ws : List ℕ} {t : Tables} {st : State} {cur : ℕ} {node : Node} 
   sought = lookup (syms_of bs ws st.symbols) (rec_of bs node) (pending_from ws held count)
       (tables_of ws t st.entries)
 
-  found_low : (s : ℕ) → some s ≡ sought → s < st.symbols
+  found_low : (s : ℕ) → Some s ≡ sought → s < st.symbols
   found_low s f =
       lookup_low (syms_of bs ws st.symbols) (rec_of bs node) (pending_from ws held count) st.symbols
       (tables_of ws t st.entries) s
@@ -105,7 +105,7 @@ module _ {bs ws : List ℕ} {t : Tables} {st : State} {cur : ℕ} {node : Node} 
       (omega arith))
       (sym f)
 
-  pub found_answers : (s : ℕ) → some s ≡ sought →
+  pub found_answers : (s : ℕ) → Some s ≡ sought →
       Answers bs ws t st (finish_of bs ws t st cur node held count) ws (step_to st node count s)
   found_answers s f =
       answers_as (given_answers rep (found_low s f) (step_found st node count s (found_low s f)))
@@ -122,7 +122,7 @@ module _ {bs ws : List ℕ} {t : Tables} {st : State} {cur : ℕ} {node : Node} 
   key_deps (Lambda f) k = refl
   key_deps (Op o) k = refl
 
-  pub made_answers : {ws' : List ℕ} {r : Step} → none ≡ sought →
+  pub made_answers : {ws' : List ℕ} {r : Step} → None ≡ sought →
       Answers bs ws t st (alloc_of bs ws t st cur node held count true) ws' r →
       Answers bs ws t st (finish_of bs ws t st cur node held count) ws' r
   made_answers f a =

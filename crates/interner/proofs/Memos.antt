@@ -2,7 +2,7 @@
 -- Assumes nothing.
 use Prim.Native.Nat.{ℕ, ◌+◌, ◌<◌, ◌≤◌}
 use mathlib.Core.Path.{◌≡◌, refl, sym, ap, ◌∙◌}
-use mathlib.Core.Option.{none}
+use Rattle.std.specs.Prelude.{None}
 use mathlib.Core.List.{List, ◌∷◌}
 use native.Mathlib.Omega.{arith}
 use lib.ListN.{length}
@@ -26,7 +26,7 @@ pub record Unpaired (ws : List ℕ) (st : State) (p a b : ℕ) : Type 0 where
   pub low : p < st.symbols
   pub first : a < st.symbols
   pub second : b < st.symbols
-  pub new : recall (memo_of ws st.memo) p ≡ none
+  pub new : recall (memo_of ws st.memo) p ≡ None
 
 module _ {bs ws : List ℕ} {st : State} {p a b : ℕ} (rep : Rep bs ws st) (h : Unpaired ws st p a b) where
   memo_room : st.memo < st.symbols

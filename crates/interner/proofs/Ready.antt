@@ -5,7 +5,7 @@ use Prim.Native.Nat.{ℕ, suc, ◌+◌, ◌<◌}
 use mathlib.Core.Path.{◌≡◌, sym, ap, ◌∙◌, subst}
 use mathlib.Core.Logic.{inl, inr}
 use mathlib.Core.Bool.{Bool, true, false, not, ◌&&◌}
-use mathlib.Core.Option.{some-injective}
+use Rattle.std.proofs.lemmas.Option.{same_Some}
 use mathlib.Core.List.{List, []}
 use native.Mathlib.Omega.{arith}
 use borrow.Author.Tests.{eq-eqb, ne_eqb}
@@ -109,7 +109,7 @@ module _ (bs ws : List ℕ) (st : State) (rep : Rep bs ws st) (held count : ℕ)
         at_body r e =
             let p = bound_args ws st.scopes rep.arena.scoped.nested b a body.low r in
             let d : r.args ≡ own =
-            some-injective r.args own
+            same_Some r.args own
             (sym p.1 ∙ (ap (λ (z : ℕ). args_in (scope_word ws z)) e ∙ body.args)) in
             subst (In a) d r.member
 

@@ -4,7 +4,8 @@ use Prim.Native.Nat.{ℕ, ◌+◌, ◌<◌, ◌≤◌}
 use mathlib.Core.Path.{◌≡◌, refl, sym, ap, ◌∙◌, subst}
 use mathlib.Core.Logic.{◌⊎◌, inl, inr}
 use mathlib.Core.Bool.{Bool, true, false, ◌||◌}
-use mathlib.Core.Option.{Option, none, some, some-injective}
+use Rattle.std.specs.Prelude.{Option, None, Some}
+use Rattle.std.proofs.lemmas.Option.{same_Some}
 use mathlib.Core.List.{List, [], ◌∷◌}
 use native.Mathlib.Omega.{arith}
 use native.Mathlib.Decide.{dec_lt}
@@ -52,7 +53,7 @@ module _ (ws : List ℕ) (m : ℕ) (h : Nested ws m) where
   -- ---- two lambdas of one level around a scope are the same
 
   abbrev pub IsLambda : ℕ → Type 0
-  IsLambda k = (xs : List ℕ) × (args_in (scope_word ws k) ≡ some xs)
+  IsLambda k = (xs : List ℕ) × (args_in (scope_word ws k) ≡ Some xs)
 
   pub deeper : (k : ℕ) → 0 < k → k < m → IsLambda k → level k ≡ 1 + level (parent_of (scope_word ws k))
   deeper k z q l =
@@ -84,7 +85,7 @@ module _ (ws : List ℕ) (m : ℕ) (h : Nested ws m) where
 
   -- what stands in the word of a scope around, in the list of scopes
   pub bound_args : (cur a : ℕ) → cur < m → (b : Bound (scopes_of ws m) cur a) →
-      (b.scope < m) × (args_in (scope_word ws b.scope) ≡ some b.args)
+      (b.scope < m) × (args_in (scope_word ws b.scope) ≡ Some b.args)
   bound_args cur a q b =
       let lt : b.scope < m = outward-below ws m h cur q b.scope b.around in
       (lt, sym (scope_args ws m m b.scope h lt lt) ∙ b.args_is)
@@ -98,7 +99,7 @@ module _ (ws : List ℕ) (m : ℕ) (h : Nested ws m) where
     module _ (levels : ℕ) (deps : List ℕ) (are : (j : ℕ) → has levels j ≡ any_has ws j deps)
         (forced : InForce (scopes_of ws m) cur deps) where
       -- of the lambda k, one of the scopes from `cur` outwards
-      tracks_one : (k : ℕ) → k < m → In k (out cur) → (xs : List ℕ) → args_in (scope_word ws k) ≡ some xs →
+      tracks_one : (k : ℕ) → k < m → In k (out cur) → (xs : List ℕ) → args_in (scope_word ws k) ≡ Some xs →
           has levels (level k) ≡ any_in xs deps
       tracks_one k q i xs e = are (level k) ∙ go (any_in xs deps) refl
         where
@@ -112,9 +113,9 @@ module _ (ws : List ℕ) (m : ℕ) (h : Nested ws m) where
               (subst (In a) (same b.scope b.args p.1 (level_once cur b.scope k current
               b.around i (b.args, p.1) (xs, e) (sym r))) b.member) d)
             where
-              same : (c : ℕ) (ys : List ℕ) → args_in (scope_word ws c) ≡ some ys → c ≡ k → ys ≡ xs
+              same : (c : ℕ) (ys : List ℕ) → args_in (scope_word ws c) ≡ Some ys → c ≡ k → ys ≡ xs
               same c ys g r =
-                  some-injective ys xs (sym g ∙ (ap (λ (z : ℕ). args_in (scope_word ws z)) r ∙ e))
+                  same_Some ys xs (sym g ∙ (ap (λ (z : ℕ). args_in (scope_word ws z)) r ∙ e))
 
           go : (b : Bool) → any_in xs deps ≡ b → any_has ws (level k) deps ≡ b
           go true f =
@@ -124,7 +125,7 @@ module _ (ws : List ℕ) (m : ℕ) (h : Nested ws m) where
           go false f = any_has_none ws (level k) deps (other f)
 
       tracks_here : (k : ℕ) → k < m → ((c : ℕ) → In c (out k) → In c (out cur)) → (xs : List ℕ) →
-          (scope_at (scopes_of ws m) k).args ≡ some xs → has levels (lambdas (scopes_of ws m) (out k)) ≡ any_in xs deps
+          (scope_at (scopes_of ws m) k).args ≡ Some xs → has levels (lambdas (scopes_of ws m) (out k)) ≡ any_in xs deps
       tracks_here k q sub xs e =
           ap (has levels) (sym (scope_level ws m m k h q q))
           ∙ tracks_one k q (sub k (inl refl)) xs (sym (scope_args ws m m k h q q) ∙ e)
@@ -163,6 +164,6 @@ climb_low scs deps (s ∷ out) m z h = go (scope_at scs s).args (climb_low scs d
     turn false r = r
 
     go : (o : Option (List ℕ)) → climb scs deps out < m →
-        elim o [ none ↦ s | some xs ↦ elim (any_in xs deps) [ true ↦ s | false ↦ climb scs deps out ] ] < m
-    go none r = h s (inl refl)
-    go (some xs) r = turn (any_in xs deps) r
+        elim o [ None ↦ s | Some xs ↦ elim (any_in xs deps) [ true ↦ s | false ↦ climb scs deps out ] ] < m
+    go None r = h s (inl refl)
+    go (Some xs) r = turn (any_in xs deps) r

@@ -5,8 +5,7 @@
 -- body. Any other symbol has the levels of its children, whose deps it has too; a lambda takes its own level out, and
 -- with it exactly its own arguments, since no other lambda around the body is at that level.
 -- Assumes nothing.
-use Rattle.std.specs.Prelude.{ℕ, suc, ◌<◌, ◌≡◌, Bool, false, ◌||◌, List, [], ◌∷◌, eqb}
-use Rattle.std.proofs.Math.Option.{some}
+use Rattle.std.specs.Prelude.{ℕ, suc, ◌<◌, ◌≡◌, Bool, false, ◌||◌, List, [], ◌∷◌, eqb, Some}
 use Rattle.model.specs.Intern.{Scope, scope_at, sym_at}
 use Rattle.laws.specs.Members.{In, Every}
 use Rattle.key.specs.Key.{symbol_at}
@@ -36,7 +35,7 @@ pub record AtLevel (ws : List ℕ) (n k x : ℕ) : Type 0 where
 -- the arguments of each of the first m scopes are at its level
 abbrev pub ArgLevels : List ℕ → ℕ → ℕ → Type 0
 ArgLevels ws n m =
-    (c : ℕ) → c < m → (xs : List ℕ) → args_in (scope_word ws c) ≡ some xs →
+    (c : ℕ) → c < m → (xs : List ℕ) → args_in (scope_word ws c) ≡ Some xs →
     Every (AtLevel ws n (level_of (scope_word ws c))) xs
 
 -- levels of n symbols and m scopes stand for what the symbols depend on
@@ -49,7 +48,7 @@ pub record Bound (scs : List Scope) (cur a : ℕ) : Type 0 where
   pub scope : ℕ
   pub around : In scope (outward scs cur)
   pub args : List ℕ
-  pub args_is : (scope_at scs scope).args ≡ some args
+  pub args_is : (scope_at scs scope).args ≡ Some args
   pub member : In a args
 
 abbrev pub InForce : List Scope → ℕ → List ℕ → Type 0

@@ -1,8 +1,7 @@
 -- What the functions ask and answer. In order: answers; a new symbol; the symbol of a key; a lambda's arguments;
 -- projections.
 -- Assumes nothing.
-use Rattle.std.specs.Prelude.{ℕ, suc, ◌+◌, ◌<◌, ◌≤◌, ◌≡◌, Bool, true, false, not, ◌&&◌, List, [], ◌∷◌, eqb, ltb, length, get_or}
-use Rattle.std.proofs.Math.Option.{some}
+use Rattle.std.specs.Prelude.{ℕ, suc, ◌+◌, ◌<◌, ◌≤◌, ◌≡◌, Bool, true, false, not, ◌&&◌, List, [], ◌∷◌, eqb, ltb, length, get_or, Some}
 use Rattle.regions.specs.Regions.{SYMBOLS, SLOTS, SCOPES, PENDING, end}
 use Rattle.model.specs.Answer.{refused, good}
 use Rattle.model.specs.Forest.{record_count}
@@ -161,7 +160,7 @@ pub record BodyOf (ws : List ℕ) (m cur b : ℕ) (own : List ℕ) : Type 0 wher
   pub inside : 0 < b
   pub low : b < m
   pub parent : parent_of (scope_word ws b) ≡ cur
-  pub args : args_in (scope_word ws b) ≡ some own
+  pub args : args_in (scope_word ws b) ≡ Some own
 
 -- a lambda's body is a scope in `cur`; an argument has no key
 abbrev pub Keyed : List ℕ → List ℕ → ℕ → ℕ → Node → Type 0

@@ -1,6 +1,5 @@
 // The projections of a symbol: one made or found, one picked of two, two remembered, and both made and remembered.
 ghost use Rattle.std.specs.Prelude.{◌≡◌, ◌+◌, ◌<◌, ◌≤◌, length, get_or};
-ghost use Rattle.std.proofs.Math.Option.{none};
 ghost use Rattle.regions.specs.Regions.{PENDING, WORDS};
 ghost use Rattle.model.specs.Intern.{recall, pick, new_projections};
 ghost use Rattle.record.specs.Record.{Laid, row_at};
@@ -92,7 +91,7 @@ pub fn new_projections(
     requires rep { Rep forest.now work.old st }
     requires fact { Open t st.entries }
     requires projects { Projects forest.now work.old st cur at held 2 }
-    requires held_value { recall (memo_of work.old st.memo) (get_or work.old (PENDING.first + held) 0) ≡ none }
+    requires held_value { recall (memo_of work.old st.memo) (get_or work.old (PENDING.first + held) 0) ≡ None }
     ensures { Answers forest.now work.old t st
         (new_projections at cur (row_at forest.now at).rec field (get_or work.old (PENDING.first + held) 0)
         (abs_of forest.now work.old t st)) work.new result }

@@ -2,21 +2,22 @@
 -- equal parts.
 --
 -- In order: options; answers; truth values. Where the goal is itself an equation, `cc` needs none of these.
--- Not here: equal options (`Option·some-injective`, mathlib.Core.Option).
+-- Not here: equal options (`same_Some`, Rattle.std.proofs.lemmas.Option).
 -- Assumes nothing.
 use mathlib.Core.Path.{◌≡◌, sym}
 use mathlib.Core.Bool.{true, false, true≢false}
-use mathlib.Core.Option.{none, some, none-ne-some}
+use Rattle.std.specs.Prelude.{None, Some}
+use Rattle.std.proofs.lemmas.Option.{none-some}
 use native.Mathlib.Omega.{arith}
 use Prim.Native.Nat.{ℕ}
 use Rattle.model.specs.Answer.{Answer, refused, good}
 
 module _ {A B : Type 0} where
-  pub none_some : {a : A} → none ≡ some a → B
-  none_some {a} e = absurd (none-ne-some a e)
+  pub none_some : {a : A} → None ≡ Some a → B
+  none_some {a} e = absurd (none-some a e)
 
-  pub some_none : {a : A} → some a ≡ none → B
-  some_none {a} e = absurd (none-ne-some a (sym e))
+  pub some_none : {a : A} → Some a ≡ None → B
+  some_none {a} e = absurd (none-some a (sym e))
 
   pub refused_good : {n p : ℕ} {a : A} → refused n p ≡ good a → B
   refused_good e = let z : ◌≡◌ {A = ℕ} 0 1 = cc in absurd (omega arith)

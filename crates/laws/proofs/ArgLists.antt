@@ -8,7 +8,7 @@
 -- Assumes nothing.
 use mathlib.Core.Path.{◌≡◌, refl, ap, sym, ◌∙◌}
 use mathlib.Core.Bool.{Bool, true, false, ◌&&◌}
-use mathlib.Core.Option.{Option, none, some}
+use Rattle.std.specs.Prelude.{Option, None, Some}
 use mathlib.Core.List.{List, [], ◌∷◌, ◌++◌}
 use Prim.Native.Nat.{ℕ, zero, suc, ◌+◌, ◌-◌, ◌≤◌}
 use native.Mathlib.Omega.{arith}
@@ -51,27 +51,27 @@ with_opts-length xs ss e = sym (length-map (with_opts xs ss) (λ x. x.0)) ∙ (a
 
 -- what a reader took off a list: a part that it reads as itself, whatever follows
 abbrev Taken : Reader → List ℕ → List ℕ → Type 0
-Taken f bs rest = (o : List ℕ) × (bs ≡ o ++ rest) × ((more : List ℕ) → f (o ++ more) ≡ some more)
+Taken f bs rest = (o : List ℕ) × (bs ≡ o ++ rest) × ((more : List ℕ) → f (o ++ more) ≡ Some more)
 
-type_split : (bs rest : List ℕ) → a_type bs ≡ some rest → Taken a_type bs rest
+type_split : (bs rest : List ℕ) → a_type bs ≡ Some rest → Taken a_type bs rest
 unfolding a_type
 type_split [] rest e = none_some e
 type_split (n ∷ bs) rest e = go (ltb 0 n && leb n (length bs)) refl e
   where
-    back : (ltb 0 n && leb n (length bs)) ≡ true → (more : List ℕ) → a_type ((n ∷ take n bs) ++ more) ≡ some more
+    back : (ltb 0 n && leb n (length bs)) ≡ true → (more : List ℕ) → a_type ((n ∷ take n bs) ++ more) ≡ Some more
     back t more =
         let w = and_both (ltb 0 n) (leb n (length bs)) t in
         let l : n ≤ length bs = leb-true n (length bs) w.1 in
         let k : length (take n bs) ≡ n = length-take n bs ∙ omega arith in
         rw (w.0, le-leb n (length (take n bs ++ more)) (simp length-append (omega arith)), a_type)
-        (ap (λ (z : List ℕ). some z) (drop_at (take n bs) more n k))
+        (ap (λ (z : List ℕ). Some z) (drop_at (take n bs) more n k))
 
     go : (b : Bool) → (ltb 0 n && leb n (length bs)) ≡ b →
-        elim b [ true ↦ some (drop n bs) | false ↦ none ] ≡ some rest → Taken a_type (n ∷ bs) rest
+        elim b [ true ↦ Some (drop n bs) | false ↦ None ] ≡ Some rest → Taken a_type (n ∷ bs) rest
     go true t e = let d : drop n bs ≡ rest = cc in (n ∷ take n bs, cc (take-append-drop n bs), back t)
     go false t e = none_some e
 
-opt_split : (bs rest : List ℕ) → a_opt bs ≡ some rest → Taken a_opt bs rest
+opt_split : (bs rest : List ℕ) → a_opt bs ≡ Some rest → Taken a_opt bs rest
 unfolding a_opt
 opt_split [] rest e = none_some e
 opt_split (zero ∷ bs) rest e = let d : bs ≡ rest = cc in (0 ∷ [], cc, λ more. refl)
@@ -105,22 +105,22 @@ args_opts (suc n) bs e = start (λ rest g. args_opts n rest g) (leb 4 (length bs
     Rest = (rest : List ℕ) → whole (times n (a_id then a_opt)) rest ≡ true → AllOpts (opts_in (args_of n rest))
 
     after : Option (List ℕ) → Bool
-    after o = elim (elim o as (λ z. Option (List ℕ)) [ none ↦ none | some rest ↦ times n (a_id then a_opt) rest ]) [
-      | none ↦ false
-      | some rest ↦ eqb (length rest) 0
+    after o = elim (elim o as (λ z. Option (List ℕ)) [ None ↦ None | Some rest ↦ times n (a_id then a_opt) rest ]) [
+      | None ↦ false
+      | Some rest ↦ eqb (length rest) 0
     ]
 
     cases : Rest → (o : Option (List ℕ)) → a_opt (drop 4 bs) ≡ o → after o ≡ true → AllOpts (opts_in (args_of (suc n) bs))
-    cases ih none f g = false_true g
-    cases ih (some rest) f g =
+    cases ih None f g = false_true g
+    cases ih (Some rest) f g =
         let w = opt_split (drop 4 bs) rest f in
         let v = next_arg_lem bs w.0 rest w.1 w.2 in
         (rw v.0 w.2, rw v.1 (ih rest g))
 
     opt : Option (List ℕ) → Option (List ℕ)
-    opt o = elim o [ none ↦ none | some rest ↦ a_opt rest ]
+    opt o = elim o [ None ↦ None | Some rest ↦ a_opt rest ]
 
-    start : Rest → (b : Bool) → after (opt (elim b [ true ↦ some (drop 4 bs) | false ↦ none ])) ≡ true →
+    start : Rest → (b : Bool) → after (opt (elim b [ true ↦ Some (drop 4 bs) | false ↦ None ])) ≡ true →
         AllOpts (opts_in (args_of (suc n) bs))
     start ih true g = cases ih (a_opt (drop 4 bs)) refl g
     start ih false g = false_true g

@@ -7,7 +7,7 @@
 use mathlib.Core.Path.{◌≡◌, refl, ap, ap₂, sym, ◌∙◌, subst}
 use mathlib.Core.Logic.{inl, inr}
 use mathlib.Core.Bool.{Bool, true, false, not, ◌&&◌}
-use mathlib.Core.Option.{Option, none, some}
+use Rattle.std.specs.Prelude.{Option, None, Some}
 use mathlib.Core.List.{List, [], ◌∷◌, ◌++◌}
 use Prim.Native.Nat.{ℕ, suc, ◌+◌, ◌<◌, max}
 use native.Mathlib.Omega.{arith}
@@ -162,16 +162,16 @@ module _ (g : Graph) (kids_low : (s : ℕ) → Under s (sym_of g s).kids) (s : �
 
       go : (o : Option ℕ) (nd : Node) → (sym_of g s).node ≡ nd →
           ◌≡◌ {A = Tree}
-          (elim o [ some i ↦ val_use_of i | none ↦ build_node g masked (sym_of g s) nd sc env last ])
-          (elim o [ some i ↦ val_use_of i | none ↦ build_node g (build_value g) (sym_of g s) nd sc env last ])
-      go (some i) nd e = refl
-      go none nd e = node_same nd e
+          (elim o [ Some i ↦ val_use_of i | None ↦ build_node g masked (sym_of g s) nd sc env last ])
+          (elim o [ Some i ↦ val_use_of i | None ↦ build_node g (build_value g) (sym_of g s) nd sc env last ])
+      go (Some i) nd e = refl
+      go None nd e = node_same nd e
 
-  pub build_use : (i : ℕ) → id_given env s ≡ some i → build_value g s sc env last ≡ val_use_of i
+  pub build_use : (i : ℕ) → id_given env s ≡ Some i → build_value g s sc env last ≡ val_use_of i
   unfolding build_step
   build_use i e = build_step_lem ∙ rw (e, build_step)
 
-  module _ (e : id_given env s ≡ none) where
+  module _ (e : id_given env s ≡ None) where
     by_node : (nd : Node) → (sym_of g s).node ≡ nd →
         build_value g s sc env last ≡ build_node g (build_value g) (sym_of g s) nd sc env last
     unfolding build_step
@@ -196,7 +196,7 @@ value_no_use g h sc s env last e =
     no_arg_lem = not (is_arg (sym_of g s).node)
 
     new : Option ℕ → Bool
-    new o = elim o [ none ↦ true | some i ↦ false ]
+    new o = elim o [ None ↦ true | Some i ↦ false ]
 
     w : ((here && no_arg_lem && should_hoist (sym_of g s) (usage g s)) ≡ true) × (new (id_given env s) ≡ true)
     w = and_both (here && no_arg_lem && should_hoist (sym_of g s) (usage g s)) (new (id_given env s)) e
@@ -217,11 +217,11 @@ value_no_use g h sc s env last e =
 
     go : (o : Option ℕ) → new o ≡ true →
         eqb (top (elim o as (λ z. Tree) [
-          | some i ↦ val_use_of i
-          | none ↦ build_node g f (sym_of g s) (sym_of g s).node sc env last
+          | Some i ↦ val_use_of i
+          | None ↦ build_node g f (sym_of g s) (sym_of g s).node sc env last
         ])).shape 7 ≡ false
-    go (some i) k = false_true k
-    go none k = by_node (sym_of g s).node refl is_no_arg
+    go (Some i) k = false_true k
+    go None k = by_node (sym_of g s).node refl is_no_arg
 
 -- those of a list of symbols suffice
 pub no_uses : (g : Graph) → ((s : ℕ) → s < length g.syms → is_arg (sym_of g s).node ≡ false →

@@ -7,7 +7,7 @@
 use mathlib.Core.Path.{◌≡◌, refl, sym, ◌∙◌, subst}
 use mathlib.Core.Logic.{◌⊎◌, inl, inr, ◌↔◌}
 use mathlib.Core.Bool.{false}
-use mathlib.Core.Option.{Option, none, some}
+use Rattle.std.specs.Prelude.{Option, None, Some}
 use mathlib.Core.List.{List, [], ◌∷◌, ◌++◌, map}
 use Prim.Native.Nat.{ℕ}
 use Rattle.model.specs.Lists.{is_in, twice}
@@ -31,12 +31,12 @@ Check = ℕ × Option ℕ
 -- every check passes
 abbrev pub Passes : List Check → Type 0
 Passes [] = Unit {0}
-Passes (c ∷ cs) = (c.1 ≡ none) × Passes cs
+Passes (c ∷ cs) = (c.1 ≡ None) × Passes cs
 
 -- the first check that fails is n, at place p
 abbrev pub FirstAt : ℕ → ℕ → List Check → Type 0
 FirstAt n p [] = ⊥
-FirstAt n p (c ∷ cs) = ((c.0 ≡ n) × (c.1 ≡ some p)) ⊎ ((c.1 ≡ none) × FirstAt n p cs)
+FirstAt n p (c ∷ cs) = ((c.0 ≡ n) × (c.1 ≡ Some p)) ⊎ ((c.1 ≡ None) × FirstAt n p cs)
 
 pub passes_or-first : (cs : List Check) → Passes cs ⊎ ((n : ℕ) × (p : ℕ) × FirstAt n p cs)
 passes_or-first [] = inl tt
@@ -44,9 +44,9 @@ passes_or-first (c ∷ cs) = go c.1 refl (passes_or-first cs)
   where
     go : (o : Option ℕ) → c.1 ≡ o → Passes cs ⊎ ((n : ℕ) × (p : ℕ) × FirstAt n p cs) →
         Passes (c ∷ cs) ⊎ ((n : ℕ) × (p : ℕ) × FirstAt n p (c ∷ cs))
-    go (some p) e rest = inr (c.0, p, inl (refl, e))
-    go none e (inl h) = inl (e, h)
-    go none e (inr f) = inr (f.0, f.1, inr (e, f.2))
+    go (Some p) e rest = inr (c.0, p, inl (refl, e))
+    go None e (inl h) = inl (e, h)
+    go None e (inr f) = inr (f.0, f.1, inr (e, f.2))
 
 pub passes_split : (cs ds : List Check) → Passes (cs ++ ds) → Passes cs × Passes ds
 passes_split [] ds h = (tt, h)
@@ -64,10 +64,10 @@ first_split n p (c ∷ cs) ds (inr h) = go (first_split n p cs ds h.1)
 
 module _ {A : Type 0} where
   -- a value behind a check
-  unless_good : (n : ℕ) (o : Option ℕ) (a : Answer A) (x : A) → unless n o a ≡ good x → (o ≡ none) × (a ≡ good x)
+  unless_good : (n : ℕ) (o : Option ℕ) (a : Answer A) (x : A) → unless n o a ≡ good x → (o ≡ None) × (a ≡ good x)
   unfolding unless
-  unless_good n none a x e = (refl, e)
-  unless_good n (some i) a x e = refused_good e
+  unless_good n None a x e = (refl, e)
+  unless_good n (Some i) a x e = refused_good e
 
   pub checked_good : (cs : List Check) (a x : A) → checked cs a ≡ good x → Passes cs × (a ≡ x)
   unfolding checked
@@ -104,7 +104,7 @@ module _ {A : Type 0} where
 -- P holds of the number and the place of each check that fails, once the checks before it pass
 abbrev pub Says : (ℕ → ℕ → Type 0) → List Check → Type 0
 Says P [] = Unit {0}
-Says P (c ∷ cs) = ((p : ℕ) → c.1 ≡ some p → P c.0 p) × (c.1 ≡ none → Says P cs)
+Says P (c ∷ cs) = ((p : ℕ) → c.1 ≡ Some p → P c.0 p) × (c.1 ≡ None → Says P cs)
 
 -- a check of which something is known whatever the checks before it find
 pub ◌next◌ : {A B C : Type 0} → A → B → A × (C → B)
@@ -125,7 +125,7 @@ numbering cs = map (λ c. c.0) cs
 -- each check fails at a place exactly where P holds of its number and the place, once the checks before it pass
 abbrev pub Exact : (ℕ → ℕ → Type 0) → List Check → Type 0
 Exact P [] = Unit {0}
-Exact P (c ∷ cs) = ((p : ℕ) → (c.1 ≡ some p) ↔ P c.0 p) × (c.1 ≡ none → Exact P cs)
+Exact P (c ∷ cs) = ((p : ℕ) → (c.1 ≡ Some p) ↔ P c.0 p) × (c.1 ≡ None → Exact P cs)
 
 pub first_in : (n p : ℕ) (cs : List Check) → FirstAt n p cs → In n (numbering cs)
 first_in n p [] f = absurd f

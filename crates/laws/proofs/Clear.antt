@@ -5,7 +5,7 @@
 -- Assumes nothing.
 use mathlib.Core.Path.{◌≡◌, refl, ap, ap₂, ◌∙◌}
 use mathlib.Core.Bool.{Bool, true, false}
-use mathlib.Core.Option.{Option, none, some}
+use Rattle.std.specs.Prelude.{Option, None, Some}
 use mathlib.Core.List.{List, [], ◌∷◌, ◌++◌}
 use Prim.Native.Nat.{ℕ, suc, ◌+◌}
 use lib.ListN.{length, length-append}
@@ -48,17 +48,17 @@ module _ {C : Type 0} (k : Check C) (t : Tree) (ts : Trees) (c : C) where
 -- ---- `first`
 
 -- a check that finds no place is one whose tests are all false
-pub first_clear : (bs : List Bool) → first bs ≡ none → Clear bs
+pub first_clear : (bs : List Bool) → first bs ≡ None → Clear bs
 unfolding first
 first_clear [] e = tt
 first_clear (true ∷ bs) e = some_none e
 first_clear (false ∷ bs) e = (refl, first_clear bs (go (first bs) e))
   where
-    go : (o : Option ℕ) → ◌≡◌ {A = Option ℕ} (elim o [ none ↦ none | some i ↦ some (suc i) ]) none → o ≡ none
-    go none e = refl
-    go (some i) e = some_none e
+    go : (o : Option ℕ) → ◌≡◌ {A = Option ℕ} (elim o [ None ↦ None | Some i ↦ Some (suc i) ]) None → o ≡ None
+    go None e = refl
+    go (Some i) e = some_none e
 
-pub clear_first : (bs : List Bool) → Clear bs → first bs ≡ none
+pub clear_first : (bs : List Bool) → Clear bs → first bs ≡ None
 unfolding first
 clear_first [] h = refl
 clear_first (true ∷ bs) h = cc

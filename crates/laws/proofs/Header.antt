@@ -4,7 +4,7 @@
 -- Assumes nothing.
 use mathlib.Core.Path.{◌≡◌, refl, ap, ◌∙◌}
 use mathlib.Core.Bool.{Bool, true, false, not, ◌&&◌, ◌||◌}
-use mathlib.Core.Option.{none}
+use Rattle.std.specs.Prelude.{None}
 use mathlib.Core.List.{List, [], ◌∷◌}
 use Prim.Native.Nat.{ℕ, zero, suc, ◌≤◌}
 use lib.Dec.{leb, ltb}
@@ -27,11 +27,11 @@ pub record Header (bs : List ℕ) : Type 0 where
   pub records_least : 1 ≤ record_count bs
   pub records_most : record_count bs ≤ 256
 
-pub at0_none : (b : Bool) → at0 b ≡ none → b ≡ false
+pub at0_none : (b : Bool) → at0 b ≡ None → b ≡ false
 at0_none false e = refl
 at0_none true e = some_none e
 
-pub header_of : (bs : List ℕ) → check2 bs ≡ none → Header bs
+pub header_of : (bs : List ℕ) → check2 bs ≡ None → Header bs
 unfolding check2
 header_of bs e =
     let k = tree_count bs in

@@ -5,7 +5,7 @@
 -- Assumes nothing.
 use mathlib.Core.Path.{◌≡◌, refl, ap, sym, ◌∙◌}
 use mathlib.Core.Bool.{Bool, true, false}
-use mathlib.Core.Option.{Option, some}
+use Rattle.std.specs.Prelude.{Option, Some}
 use mathlib.Core.List.{List, [], ◌∷◌, ◌++◌}
 use Prim.Native.Nat.{ℕ, suc, ◌+◌, ◌-◌, ◌≤◌, ◌<◌}
 use native.Mathlib.Omega.{arith}
@@ -22,7 +22,7 @@ use Rattle.laws.proofs.Ranges.{range_length}
 
 -- ---- an id given
 
-given-same : (s i t : ℕ) (env : Env) → s ≡ t → id_given ((s, i) ∷ env) t ≡ some i
+given-same : (s i t : ℕ) (env : Env) → s ≡ t → id_given ((s, i) ∷ env) t ≡ Some i
 unfolding id_given
 given-same s i t env e = rw (eq-eqb s t e, id_given)
 
@@ -51,7 +51,7 @@ module _ (s : ℕ) where
       ∙ given_other first (suc last) s env (λ e. n (omega arith) (omega arith))
 
   new : (xs : ArgList) (first last : ℕ) (env : Env) → first ≤ s → s < first + length xs →
-      id_given (arg_env last (with_opts xs (range first (length xs))) env) s ≡ some (last + 1 + (s - first))
+      id_given (arg_env last (with_opts xs (range first (length xs))) env) s ≡ Some (last + 1 + (s - first))
   unfolding range
   new [] first last env l h = absurd (omega arith)
   new (x ∷ xs) first last env l h =
@@ -60,18 +60,18 @@ module _ (s : ℕ) where
       rest : Option ℕ
       rest = id_given (arg_env (suc last) (with_opts xs (range (suc first) (length xs))) ((first, suc last) ∷ env)) s
 
-      go : (b : Bool) → eqb first s ≡ b → (suc first ≤ s → rest ≡ some (suc last + 1 + (s - suc first))) →
-          rest ≡ some (last + 1 + (s - first))
+      go : (b : Bool) → eqb first s ≡ b → (suc first ≤ s → rest ≡ Some (suc last + 1 + (s - suc first))) →
+          rest ≡ Some (last + 1 + (s - first))
       go true e k =
           let f = eqb-true first s e in
           let z : suc last ≡ last + 1 + (s - first) = omega arith in
           other xs (suc first) (suc last) ((first, suc last) ∷ env) (λ l h. omega arith)
-          ∙ (given-same first (suc last) s env f ∙ ap (λ (i : ℕ). some i) z)
+          ∙ (given-same first (suc last) s env f ∙ ap (λ (i : ℕ). Some i) z)
       go false e k =
           let f = eqb-false first s e in
           let a : suc first ≤ s = omega arith in
           let z : suc last + 1 + (s - suc first) ≡ last + 1 + (s - first) = omega arith in
-          k a ∙ ap (λ (i : ℕ). some i) z
+          k a ∙ ap (λ (i : ℕ). Some i) z
 
 -- ---- n arguments, their symbols from `first` on
 
@@ -85,7 +85,7 @@ module _ (first n : ℕ) (xs : ArgList) (count : length xs ≡ n) where
   module _ (env : Env) (last s : ℕ) where
     -- an argument's id
     pub given_new : first ≤ s → s < first + n →
-        id_given (arg_env last (with_opts xs (range first n)) env) s ≡ some (last + 1 + (s - first))
+        id_given (arg_env last (with_opts xs (range first n)) env) s ≡ Some (last + 1 + (s - first))
     given_new l h = rw (← count) (new s xs first last env l (omega arith))
 
     -- no other symbol gets one

@@ -7,7 +7,7 @@
 -- Assumes nothing.
 use mathlib.Core.Path.{◌≡◌, refl, ap, ap₂, sym, ◌∙◌}
 use mathlib.Core.List.{List, [], ◌∷◌, ◌++◌, append_assoc, append-nil}
-use mathlib.Core.Option.{none}
+use Rattle.std.specs.Prelude.{None}
 use Prim.Native.Nat.{ℕ, zero, suc, ◌+◌, ◌≤◌}
 use native.Mathlib.Omega.{arith}
 use native.Mathlib.Nat.{zero-add, suc-add, add_assoc}
@@ -125,7 +125,7 @@ rows_split (suc k) (cons t ts) =
     append_assoc (rows t) (rows_of (take_t k ts)) (rows_of (drop_t k ts))
     ∙ ap (λ (l : List Row). rows t ++ l) (rows_split k ts)
 
-closed_rows : (n at : ℕ) (rs : List Row) → unclosed n at rs ≡ none →
+closed_rows : (n at : ℕ) (rs : List Row) → unclosed n at rs ≡ None →
     (many (grow rs) ≡ n) × (rows_of (grow rs) ≡ rs)
 unfolding unclosed grow many rows_of
 closed_rows zero at [] e = (refl, refl)
@@ -139,7 +139,7 @@ closed_rows (suc n) at (r ∷ rs) e =
       ap₂ (λ (k : ℕ) (l : List Row). record { rec = r.rec; kids = k } ∷ l) kids_are rest-are,
     )
 
-pub closed_trees : (bs : List ℕ) → check6 bs ≡ none →
+pub closed_trees : (bs : List ℕ) → check6 bs ≡ None →
     (many (trees_of bs) ≡ tree_count bs) × (rows_of (trees_of bs) ≡ rows_in bs)
 unfolding check6 trees_of
 closed_trees bs e = closed_rows (tree_count bs) 0 (rows_in bs) e

@@ -1,7 +1,6 @@
 -- A lambda's arguments, in a literal an id and an opt each, in a node a symbol and an opt each. In order: the list and
 -- its parts; opts. Assumes nothing.
-use Rattle.std.specs.Prelude.{◌≡◌, List, [], ◌∷◌, ◌++◌, map, ℕ}
-use Rattle.std.proofs.Math.Option.{some}
+use Rattle.std.specs.Prelude.{◌≡◌, List, [], ◌∷◌, ◌++◌, map, ℕ, Some}
 use Rattle.model.specs.Tree.{Rec}
 use Rattle.model.specs.Shape.{a_opt}
 use Rattle.model.specs.Binding.{args_of}
@@ -22,7 +21,7 @@ bound_by r = args_of r.aux r.lit
 
 -- an opt reads as itself, whatever follows
 abbrev pub IsOpt : List ℕ → Type 0
-IsOpt o = (rest : List ℕ) → a_opt (o ++ rest) ≡ some rest
+IsOpt o = (rest : List ℕ) → a_opt (o ++ rest) ≡ Some rest
 
 abbrev pub AllOpts : List (List ℕ) → Type 0
 AllOpts [] = Unit {0}

@@ -5,7 +5,8 @@ use Prim.Native.Nat.{ℕ, zero, suc, ◌<◌, ◌≤◌}
 use mathlib.Core.Path.{◌≡◌, refl, sym, ap, ◌∙◌}
 use mathlib.Core.Logic.{inl, inr}
 use mathlib.Core.Bool.{Bool, true, false}
-use mathlib.Core.Option.{Option, none, some, some-injective}
+use Rattle.std.specs.Prelude.{Option, None, Some}
+use Rattle.std.proofs.lemmas.Option.{same_Some}
 use mathlib.Core.List.{List, [], ◌∷◌}
 use native.Mathlib.Omega.{arith}
 use borrow.Author.Tests.{eq-eqb}
@@ -28,32 +29,32 @@ memo_more n m (t ∷ ts) le b =
 -- ---- what is recalled are symbols
 
 abbrev or_rest : ℕ × ℕ × ℕ → List (ℕ × ℕ × ℕ) → ℕ → Bool → Option (ℕ × ℕ)
-or_rest m ms p b = elim b [ true ↦ some (m.1, m.2) | false ↦ recall ms p ]
+or_rest m ms p b = elim b [ true ↦ Some (m.1, m.2) | false ↦ recall ms p ]
 
-pub recall_low : (n : ℕ) (ms : List (ℕ × ℕ × ℕ)) (p a b : ℕ) → MemoBelow n ms → recall ms p ≡ some (a, b) →
+pub recall_low : (n : ℕ) (ms : List (ℕ × ℕ × ℕ)) (p a b : ℕ) → MemoBelow n ms → recall ms p ≡ Some (a, b) →
     (a < n) × (b < n)
 unfolding recall
 recall_low n [] p a b h e = none_some e
 recall_low n (m ∷ ms) p a b h e = go (eqb m.0 p) (recall_low n ms p a b h.1) e
   where
-    go : (t : Bool) → (recall ms p ≡ some (a, b) → (a < n) × (b < n)) → or_rest m ms p t ≡ some (a, b) →
+    go : (t : Bool) → (recall ms p ≡ Some (a, b) → (a < n) × (b < n)) → or_rest m ms p t ≡ Some (a, b) →
         (a < n) × (b < n)
     go true rest e =
-        let q : ◌≡◌ {A = ℕ × ℕ} (m.1, m.2) (a, b) = some-injective _ _ e in
+        let q : ◌≡◌ {A = ℕ × ℕ} (m.1, m.2) (a, b) = same_Some _ _ e in
         let d : m.1 ≡ a = ap (λ (x : ℕ × ℕ). x.0) q in
         let f : m.2 ≡ b = ap (λ (x : ℕ × ℕ). x.1) q in
         (omega (arith, h.0.1, d), omega (arith, h.0.2, f))
     go false rest e = rest e
 
 -- what is not recalled is not among the keys
-pub recall_new : (ms : List (ℕ × ℕ × ℕ)) (p : ℕ) → recall ms p ≡ none → In p (keys_in ms) → ⊥
+pub recall_new : (ms : List (ℕ × ℕ × ℕ)) (p : ℕ) → recall ms p ≡ None → In p (keys_in ms) → ⊥
 unfolding recall
 recall_new [] p e i = i
 recall_new (m ∷ ms) p e (inl d) =
     some_none (sym (ap (or_rest m ms p) (eq-eqb m.0 p (sym d))) ∙ e)
 recall_new (m ∷ ms) p e (inr i) = go (eqb m.0 p) (λ f. recall_new ms p f i) e
   where
-    go : (t : Bool) → (recall ms p ≡ none → ⊥) → or_rest m ms p t ≡ none → ⊥
+    go : (t : Bool) → (recall ms p ≡ None → ⊥) → or_rest m ms p t ≡ None → ⊥
     go true rest e = some_none e
     go false rest e = rest e
 
@@ -70,7 +71,7 @@ keys_length ws zero = refl
 keys_length ws (suc k) = ap suc (keys_length ws k)
 
 pub pairs_few : (ws : List ℕ) (k n p : ℕ) → MemoBelow n (memo_of ws k) → Once (keys_in (memo_of ws k)) →
-    recall (memo_of ws k) p ≡ none → p < n → k < n
+    recall (memo_of ws k) p ≡ None → p < n → k < n
 pairs_few ws k n p below once new low =
     omega (arith, once_short n (p ∷ keys_in ms) (recall_new ms p new, once) (λ x i. each x i), keys_length ws k)
   where

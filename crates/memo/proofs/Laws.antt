@@ -1,7 +1,7 @@
 -- Projections remembered in words. In order: the search; which words they hang on; one more pair. Assumes nothing.
 use Prim.Native.Nat.{ℕ, ◌+◌, ◌*◌, ◌/◌, ◌%◌, ◌<◌, ◌≤◌, ◌-◌}
 use mathlib.Core.Path.{◌≡◌, sym, ap, ◌∙◌}
-use mathlib.Core.Option.{Option, none, some}
+use Rattle.std.specs.Prelude.{Option, None, Some}
 use mathlib.Core.List.{List, ◌∷◌}
 use native.Mathlib.Omega.{arith}
 use native.Mathlib.Numerals.{add-one}
@@ -23,7 +23,7 @@ module _ (p : ℕ) where
   Is m = m.0 ≡ p
 
   abbrev fields : ℕ × ℕ × ℕ → Option (ℕ × ℕ)
-  fields m = some (m.1, m.2)
+  fields m = Some (m.1, m.2)
 
   here : (m : ℕ × ℕ × ℕ) (ms : List (ℕ × ℕ × ℕ)) → Is m → fields m ≡ recall (m ∷ ms) p
   unfolding recall
@@ -34,7 +34,7 @@ module _ (p : ℕ) where
   there m ms n = sym (rw (ne_eqb m.0 p n, recall))
 
   module _ (ws : List ℕ) (k : ℕ) where
-    pub recall_none : k ≤ 0 → none ≡ recall (memo_of ws k) p
+    pub recall_none : k ≤ 0 → None ≡ recall (memo_of ws k) p
     unfolding recall memo_of
     recall_none = search_none (triple_at ws) (λ ms. recall ms p) Is fields here there k
 

@@ -1,7 +1,6 @@
 -- Projections remembered in words, one to a pair, from MEMO on. In order: a pair; the pairs; one more; what is asked of
 -- them; answers. Assumes nothing.
-use Rattle.std.specs.Prelude.{ℕ, ◌+◌, ◌*◌, ◌/◌, ◌%◌, ◌<◌, List, [], ◌∷◌, get_or, set}
-use Rattle.std.proofs.Math.Option.{Option, none, some}
+use Rattle.std.specs.Prelude.{ℕ, ◌+◌, ◌*◌, ◌/◌, ◌%◌, ◌<◌, List, [], ◌∷◌, get_or, set, Option, None, Some}
 use Rattle.laws.specs.Stack.{stack_of}
 use Rattle.regions.specs.Regions.{MEMO}
 use Rattle.memo.specs.declared.Projections.{Projections}
@@ -32,5 +31,5 @@ MemoBelow n [] = Unit {0}
 MemoBelow n (t ∷ ts) = ((t.0 < n) × (t.1 < n) × (t.2 < n)) × MemoBelow n ts
 
 abbrev pub projections_of : Projections → Option (ℕ × ℕ)
-projections_of (Pair a b) = some (a, b)
-projections_of Nothing = none
+projections_of (Pair a b) = Some (a, b)
+projections_of Nothing = None

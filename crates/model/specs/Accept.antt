@@ -1,7 +1,6 @@
 -- "A forest is accepted when none of 2 to 10 applies."
 -- Assumes nothing.
-use Rattle.std.specs.Prelude.{ℕ, List, [], ◌∷◌}
-use Rattle.std.proofs.Math.Option.{Option}
+use Rattle.std.specs.Prelude.{ℕ, List, [], ◌∷◌, Option}
 use Rattle.model.specs.Answer.{Answer, checked}
 use Rattle.model.specs.Tree.{Trees}
 use Rattle.model.specs.Forest.{trees_of, check2, check3, check4, check5, check6, check7}

@@ -1,8 +1,7 @@
 -- Answers: a refusal, with the number and the place that document 01 gives it, or a value; and how answers follow one
 -- another.
 -- Assumes nothing.
-use Rattle.std.specs.Prelude.{ℕ, Bool, true, false, List, [], ◌∷◌}
-use Rattle.std.proofs.Math.Option.{Option, none, some}
+use Rattle.std.specs.Prelude.{ℕ, Bool, true, false, List, [], ◌∷◌, Option, None, Some}
 
 pub data Answer (A : Type 0) : Type 0 where
   refused : ℕ → ℕ → Answer A
@@ -16,8 +15,8 @@ unfoldable pub ◌>>=◌ : {A B : Type 0} → Answer A → (A → Answer B) → 
 infixl 10 ◌>>=◌
 -- number n at the place where its check fails, if there is one; else the answer that follows
 unfoldable pub unless : {A : Type 0} → ℕ → Option ℕ → Answer A → Answer A
-unless n none a = a
-unless n (some at) a = refused n at
+unless n None a = a
+unless n (Some at) a = refused n at
 
 -- number n at place p if the limit is reached; else the answer that follows
 unfoldable pub guard : {A : Type 0} → Bool → ℕ → ℕ → Answer A → Answer A
@@ -31,5 +30,5 @@ checked (c ∷ cs) a = unless c.0 c.1 (checked cs a)
 
 -- a check that has no place of its own fails at 0
 abbrev pub at0 : Bool → Option ℕ
-at0 true = some 0
-at0 false = none
+at0 true = Some 0
+at0 false = None

@@ -1,9 +1,8 @@
 -- Binding: the ids and opts in a literal, what a record binds and where, and checks 8 to 10 over trees.
 -- In order: kinds of record; ids, opts and arguments; what is bound; 8; the ids in force; 9; 10.
 -- Assumes nothing.
-use Rattle.std.specs.Prelude.{ℕ, zero, suc, ◌+◌, ◌-◌, Bool, true, false, not, ◌&&◌, ◌||◌, List, [], ◌∷◌, ◌++◌, map, eqb, length, drop, take}
+use Rattle.std.specs.Prelude.{ℕ, zero, suc, ◌+◌, ◌-◌, Bool, true, false, not, ◌&&◌, ◌||◌, List, [], ◌∷◌, ◌++◌, map, eqb, length, drop, take, Option, None, Some}
 use Rattle.std.specs.Bool.{beq}
-use Rattle.std.proofs.Math.Option.{Option, none, some}
 use Rattle.model.specs.Lists.{is_in, any_in, twice, first}
 use Rattle.model.specs.Bytes.{u32}
 use Rattle.model.specs.Tree.{Rec, Tree, Trees, is_nil, top}
@@ -50,7 +49,7 @@ id_of r = u32 r.lit
 
 -- the bytes of the opt at the start of a list
 unfoldable pub opt_of : List ℕ → List ℕ
-opt_of bs = elim (a_opt bs) [ none ↦ [] | some rest ↦ take (length bs - length rest) bs ]
+opt_of bs = elim (a_opt bs) [ None ↦ [] | Some rest ↦ take (length bs - length rest) bs ]
 
 -- n arguments: id and opt of each
 unfoldable pub args_of : ℕ → List ℕ → List (ℕ × List ℕ)

@@ -1,8 +1,7 @@
 -- The main call, whole: its five numbers, and what the output and the work memory hold afterwards, refused calls too.
 -- In order: what a call is given; its checks before and after interning; its answer; its numbers, output and words.
 -- Assumes nothing.
-use Rattle.std.specs.Prelude.{ℕ, true, false, ◌||◌, List, [], ◌∷◌, ◌++◌, map, ltb, length, drop, replicate}
-use Rattle.std.proofs.Math.Option.{Option}
+use Rattle.std.specs.Prelude.{ℕ, true, false, ◌||◌, List, [], ◌∷◌, ◌++◌, map, ltb, length, drop, replicate, Option}
 use Rattle.model.specs.Answer.{Answer, refused, good, ◌>>=◌, checked, at0}
 use Rattle.model.specs.Tree.{Tree, nil, cons, size, depth, serialise}
 use Rattle.model.specs.Accept.{accept}

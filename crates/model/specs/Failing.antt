@@ -8,8 +8,7 @@
 -- value of a tree; the forests of the request; the statement, of the tree that document 01 defines, of the call, and of
 -- every forest and every call.
 -- Assumes nothing.
-use Rattle.std.specs.Prelude.{◌≡◌, Bool, true, false, not, ◌&&◌, ◌||◌, List, [], ◌∷◌, ℕ, suc, eqb, length, get_or, take}
-use Rattle.std.proofs.Math.Option.{Option, none, some}
+use Rattle.std.specs.Prelude.{◌≡◌, Bool, true, false, not, ◌&&◌, ◌||◌, List, [], ◌∷◌, ℕ, suc, eqb, length, get_or, take, Option, None, Some}
 use Rattle.model.specs.Tree.{Rec, Tree, Trees, node, nil, cons, top, root}
 use Rattle.model.specs.Opcodes.{FuncValue, SelectField, IfOp, AndOp, OrOp}
 use Rattle.model.specs.Forest.{tree_count, trees_of}
@@ -24,8 +23,8 @@ use Rattle.model.specs.Conditions.{Accepted}
 
 -- go on with a value, if there is one
 abbrev pub ◌>>=◌ : {A B : Type 0} → Option A → (A → Option B) → Option B
-◌>>=◌ none f = none
-◌>>=◌ (some a) f = f a
+◌>>=◌ None f = None
+◌>>=◌ (Some a) f = f a
 
 infixl 10 ◌>>=◌
 -- ---- what operations mean, with values of any type
@@ -46,8 +45,8 @@ Values W = List (ℕ × W)
 
 -- the value of a use, by its id; an id not in force is never met in an accepted forest
 unfoldable pub value_in : {W : Type 0} → Values W → ℕ → Option W
-value_in [] i = none
-value_in (m ∷ ms) i = elim (eqb m.0 i) [ true ↦ some m.1 | false ↦ value_in ms i ]
+value_in [] i = None
+value_in (m ∷ ms) i = elim (eqb m.0 i) [ true ↦ Some m.1 | false ↦ value_in ms i ]
 
 module _ {W : Type 0} (s : Semantics W) where
   -- ---- operands: "all operands first, save that IF takes one branch and ED, EC may skip the right"
@@ -55,27 +54,27 @@ module _ {W : Type 0} (s : Semantics W) where
   -- operand j, from 0, of an opcode is skipped, where operand 0 gave this: "Skipping depends only on the value of the
   -- condition or left operand"
   unfoldable pub skipped : ℕ → ℕ → Option W → Bool
-  skipped op j none = false
-  skipped op j (some v) =
+  skipped op j None = false
+  skipped op j (Some v) =
       (eqb op IfOp && ((eqb j 1 && not (s.takes v)) || (eqb j 2 && s.takes v)))
       || ((eqb op AndOp || eqb op OrOp) && (eqb j 1 && s.skips op v))
 
   -- the values of the operands from j on that are not skipped; each of these must have one
   unfoldable pub found_from : ℕ → ℕ → Option W → List (Option W) → Option (List W)
-  found_from op j c [] = some []
+  found_from op j c [] = Some []
   found_from op j c (o ∷ os) =
       elim (skipped op j c) [
         | true ↦ found_from op (suc j) c os
         | false ↦ do
           v ← o
           vs ← found_from op (suc j) c os
-          some (v ∷ vs)
+          Some (v ∷ vs)
       ]
 
   -- an operation or a leaf, by what its operands give
   unfoldable pub applied : Rec → List (Option W) → Option W
   applied r os = do
-    vs ← found_from r.opcode 0 (get_or os 0 none) os
+    vs ← found_from r.opcode 0 (get_or os 0 None) os
     s.apply r vs
 
   -- ---- the value of a tree: "Values are found eagerly: a definition before what follows it"
@@ -87,7 +86,7 @@ module _ {W : Type 0} (s : Semantics W) where
   eval_kind val_use r ms os o = value_in ms (id_of r)
   eval_kind val_def r ms os o = o
   eval_kind block r ms os o = o
-  eval_kind lambda r ms os o = none
+  eval_kind lambda r ms os o = None
   eval_kind field r ms os o = applied r os
   eval_kind other r ms os o = applied r os
 
@@ -101,7 +100,7 @@ module _ {W : Type 0} (s : Semantics W) where
 
     -- what a block of these children gives; a definition's one child gives its value
     pub eval_last : Trees → Values W → Option W
-    eval_last nil ms = none
+    eval_last nil ms = None
     eval_last (cons t nil) ms = eval t ms
     eval_last (cons t (cons u us)) ms = do
       v ← eval t ms
@@ -120,14 +119,14 @@ pub record Simple (forest : List ℕ) : Type 0 where
 abbrev pub KeepsValue : {W : Type 0} → Semantics W → List ℕ → Type 0
 KeepsValue {W} s forest =
     Accepted forest → (o : ℕ × State) → Interned forest o → (v : W) →
-    eval s (root (trees_of forest)) [] ≡ some v → eval s (tree_of o) [] ≡ some v
+    eval s (root (trees_of forest)) [] ≡ Some v → eval s (tree_of o) [] ≡ Some v
 
 -- of a call, with any output of its length: after number 0, the tree read back from the written bytes has the root's value
 abbrev pub CallKeepsValue : {W : Type 0} → Semantics W → Call → Type 0
 CallKeepsValue {W} s c =
     (out : List ℕ) → length out ≡ c.room → (numbers c).number ≡ 0 → (v : W) →
-    eval s (root (trees_of c.forest)) [] ≡ some v →
-    eval s (root (trees_of (take (numbers c).len (out_after c out)))) [] ≡ some v
+    eval s (root (trees_of c.forest)) [] ≡ Some v →
+    eval s (root (trees_of (take (numbers c).len (out_after c out)))) [] ≡ Some v
 
 -- with values of any type, whatever operations mean
 abbrev pub ValuesKept : Type 1

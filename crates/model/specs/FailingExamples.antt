@@ -2,8 +2,7 @@
 -- dropped; and one with an environment tree and one with a SelectField, whose value is lost.
 -- In order: the letters; what they mean; the root's value and the written tree's; the four forests.
 -- Assumes nothing.
-use Rattle.std.specs.Prelude.{ℕ, zero, suc, ◌+◌, ◌/◌, ◌≡◌, refl, true, false, not, List, [], ◌∷◌, eqb}
-use Rattle.std.proofs.Math.Option.{Option, none, some}
+use Rattle.std.specs.Prelude.{ℕ, zero, suc, ◌+◌, ◌/◌, ◌≡◌, refl, true, false, not, List, [], ◌∷◌, eqb, Option, None, Some}
 use Rattle.model.specs.Answer.{refused, good}
 use Rattle.model.specs.Tree.{Rec, rec, Tree, Trees, node, nil, cons, root, serialise}
 use Rattle.model.specs.Forest.{trees_of}
@@ -28,22 +27,22 @@ s2 a = node (rec SelectField SelectFieldOp 0 (2 ∷ [])) (cons a nil)
 
 -- what a list gives for a number; none, if it has nothing for it
 pub given_for : List (ℕ × Option ℕ) → ℕ → Option ℕ
-given_for [] i = none
+given_for [] i = None
 given_for (e ∷ es) i = elim (eqb e.0 i) [ true ↦ e.1 | false ↦ given_for es i ]
 
 pub quotient : ℕ → ℕ → Option ℕ
-quotient a zero = none
-quotient a (suc b) = some (a / suc b)
+quotient a zero = None
+quotient a (suc b) = Some (a / suc b)
 
 -- HEIGHT is 5 and k is 0; z fails, like a register that is not there. Field 1 is 0, and field 2 fails. p adds, a division
 -- fails at 0, IF gives the branch taken, and ED the last value that it finds
 pub arithmetic : Rec → List ℕ → Option ℕ
-arithmetic r [] = given_for ((HeightOp, some 5) ∷ (0, some 0) ∷ []) r.opcode
+arithmetic r [] = given_for ((HeightOp, Some 5) ∷ (0, Some 0) ∷ []) r.opcode
 arithmetic r (a ∷ []) =
-    elim r.lit [ [] ↦ given_for ((AndOp, some a) ∷ []) r.opcode | i ∷ bs ↦ given_for ((1, some 0) ∷ []) i ]
+    elim r.lit [ [] ↦ given_for ((AndOp, Some a) ∷ []) r.opcode | i ∷ bs ↦ given_for ((1, Some 0) ∷ []) i ]
 arithmetic r (a ∷ b ∷ []) =
-    given_for ((0x9A, some (a + b)) ∷ (0x9D, quotient a b) ∷ (IfOp, some b) ∷ (AndOp, some b) ∷ []) r.opcode
-arithmetic r (a ∷ b ∷ c ∷ vs) = none
+    given_for ((0x9A, Some (a + b)) ∷ (0x9D, quotient a b) ∷ (IfOp, Some b) ∷ (AndOp, Some b) ∷ []) r.opcode
+arithmetic r (a ∷ b ∷ c ∷ vs) = None
 
 -- 0 is false: IF takes its second branch, and ED skips the right
 pub numbered : Semantics ℕ
@@ -73,7 +72,7 @@ pub kept-written : wrote kept ≡ serialise (one (if h (block1 1 (div h h) (p (u
 unfolding computed
 kept-written = refl
 
-pub kept_values : (root_value kept ≡ some 2) × (written_value kept ≡ some 2)
+pub kept_values : (root_value kept ≡ Some 2) × (written_value kept ≡ Some 2)
 unfolding computed
 kept_values = (refl, refl)
 
@@ -86,7 +85,7 @@ pub unused-written : wrote unused ≡ serialise (one h)
 unfolding computed
 unused-written = refl
 
-pub unused_values : (root_value unused ≡ none) × (written_value unused ≡ some 5)
+pub unused_values : (root_value unused ≡ None) × (written_value unused ≡ Some 5)
 unfolding computed
 unused_values = (refl, refl)
 
@@ -99,7 +98,7 @@ pub environment-written : wrote environment ≡ serialise (one (block1 1 z (and 
 unfolding computed
 environment-written = refl
 
-pub environment_values : (root_value environment ≡ some 0) × (written_value environment ≡ none)
+pub environment_values : (root_value environment ≡ Some 0) × (written_value environment ≡ None)
 unfolding computed
 environment_values = (refl, refl)
 
@@ -112,6 +111,6 @@ pub fields-written : wrote fields ≡ serialise (one (block1 1 (s2 h) (and (s1 h
 unfolding computed
 fields-written = refl
 
-pub fields_values : (root_value fields ≡ some 0) × (written_value fields ≡ none)
+pub fields_values : (root_value fields ≡ Some 0) × (written_value fields ≡ None)
 unfolding computed
 fields_values = (refl, refl)

@@ -1,8 +1,7 @@
 -- From bytes to trees, and checks 2 to 7: each gives the place where it fails, or none.
 -- A check is said of any bytes; what it says counts only where the checks before it found nothing.
 -- Assumes nothing.
-use Rattle.std.specs.Prelude.{ℕ, zero, suc, ◌+◌, ◌*◌, Bool, true, false, not, ◌&&◌, ◌||◌, List, [], ◌∷◌, map, eqb, leb, ltb, length, get_or, drop, take}
-use Rattle.std.proofs.Math.Option.{Option, none, some}
+use Rattle.std.specs.Prelude.{ℕ, zero, suc, ◌+◌, ◌*◌, Bool, true, false, not, ◌&&◌, ◌||◌, List, [], ◌∷◌, map, eqb, leb, ltb, length, get_or, drop, take, Option, None, Some}
 use Rattle.model.specs.Lists.{first}
 use Rattle.model.specs.Bytes.{u16}
 use Rattle.model.specs.Answer.{at0}
@@ -72,7 +71,7 @@ bad_pairs total from (p ∷ ps) =
 unfoldable pub check3 : List ℕ → Option ℕ
 check3 bs =
     elim (ltb (length bs) (body_start bs)) [
-      | true ↦ some 0
+      | true ↦ Some 0
       | false ↦ first (bad_pairs (length bs) (body_start bs) (pairs_of bs))
     ]
 
@@ -88,9 +87,9 @@ check5 bs = first (map (λ r. not (agrees r.rec)) (rows_in bs))
 
 -- so many trees are still to come at record `at`: "the first record left over, or the record count if records lack"
 unfoldable pub unclosed : ℕ → ℕ → List Row → Option ℕ
-unclosed zero at [] = none
-unclosed (suc n) at [] = some at
-unclosed zero at (r ∷ rs) = some at
+unclosed zero at [] = None
+unclosed (suc n) at [] = Some at
+unclosed zero at (r ∷ rs) = Some at
 unclosed (suc n) at (r ∷ rs) = unclosed (n + r.kids) (suc at) rs
 
 unfoldable pub check6 : List ℕ → Option ℕ

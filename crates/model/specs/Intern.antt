@@ -2,8 +2,7 @@
 -- In order: symbols, scopes and the state; keys; placement; new symbols; bindings; scopes and thunks; projections;
 -- records.
 -- Assumes nothing.
-use Rattle.std.specs.Prelude.{ℕ, suc, ◌+◌, Bool, true, false, ◌&&◌, ◌||◌, List, [], ◌∷◌, ◌++◌, eqb, ltb, length, get_or}
-use Rattle.std.proofs.Math.Option.{Option, none, some}
+use Rattle.std.specs.Prelude.{ℕ, suc, ◌+◌, Bool, true, false, ◌&&◌, ◌||◌, List, [], ◌∷◌, ◌++◌, eqb, ltb, length, get_or, Option, None, Some}
 use Rattle.model.specs.Lists.{any_in, union, without, same, last}
 use Rattle.model.specs.Answer.{Answer, good, ◌>>=◌, guard}
 use Rattle.model.specs.Tree.{Rec, rec, same_rec, Tree, Trees, node, nil, cons, top, size}
@@ -49,7 +48,7 @@ abbrev pub sym_at : List Sym → ℕ → Sym
 sym_at ss i = get_or ss i no_sym
 
 abbrev pub root_scope : Scope
-root_scope = record { around = []; args = none }
+root_scope = record { around = []; args = None }
 
 abbrev pub scope_at : List Scope → ℕ → Scope
 scope_at scs i = get_or scs i root_scope
@@ -72,13 +71,13 @@ unfoldable pub is_key : List Sym → Rec → List ℕ → ℕ → Bool
 is_key ss r ks i = same_rec (sym_at ss i).rec r && same (sym_at ss i).kids ks
 
 unfoldable pub lookup_in : List Sym → Rec → List ℕ → List ℕ → Option ℕ
-lookup_in ss r ks [] = none
-lookup_in ss r ks (i ∷ is) = elim (is_key ss r ks i) [ true ↦ some i | false ↦ lookup_in ss r ks is ]
+lookup_in ss r ks [] = None
+lookup_in ss r ks (i ∷ is) = elim (is_key ss r ks i) [ true ↦ Some i | false ↦ lookup_in ss r ks is ]
 
 -- "The key is sought in the newest open table first"
 unfoldable pub lookup : List Sym → Rec → List ℕ → List (List ℕ) → Option ℕ
-lookup ss r ks [] = none
-lookup ss r ks (t ∷ ts) = elim (lookup_in ss r ks t) [ some i ↦ some i | none ↦ lookup ss r ks ts ]
+lookup ss r ks [] = None
+lookup ss r ks (t ∷ ts) = elim (lookup_in ss r ks t) [ Some i ↦ Some i | None ↦ lookup ss r ks ts ]
 
 -- ---- placement: "moving out of each lambda none of whose arguments it depends on, never out of a thunk"
 
@@ -86,7 +85,7 @@ lookup ss r ks (t ∷ ts) = elim (lookup_in ss r ks t) [ some i ↦ some i | non
 unfoldable pub climb : List Scope → List ℕ → List ℕ → ℕ
 climb scs deps [] = 0
 climb scs deps (s ∷ out) =
-    elim (scope_at scs s).args [ none ↦ s | some xs ↦ elim (any_in xs deps) [ true ↦ s | false ↦ climb scs deps out ] ]
+    elim (scope_at scs s).args [ None ↦ s | Some xs ↦ elim (any_in xs deps) [ true ↦ s | false ↦ climb scs deps out ] ]
 
 unfoldable pub placement : State → ℕ → List ℕ → ℕ
 placement st cur deps = climb st.scopes deps (cur ∷ (scope_at st.scopes cur).around)
@@ -122,8 +121,8 @@ alloc at cur r ks deps shared nd st =
 unfoldable pub finish : ℕ → ℕ → Rec → List ℕ → List ℕ → Node → State → Out
 finish at cur r ks own nd st =
     elim (lookup st.syms r ks st.tables) [
-      | some i ↦ good (i, st)
-      | none ↦ alloc at cur r ks (without (union_deps st.syms ks) own) true nd st
+      | Some i ↦ good (i, st)
+      | None ↦ alloc at cur r ks (without (union_deps st.syms ks) own) true nd st
     ]
 
 -- "each argument is a fresh, unshared symbol, made before that scope opens"
@@ -172,7 +171,7 @@ open_scope cur args tables st = record {
 
 -- a thunk is a scope "with its own table, dropped at its end"; a lambda "opens a scope but no table"
 abbrev pub open_thunk : ℕ → State → State
-open_thunk cur st = open_scope cur none ([] ∷ st.tables) st
+open_thunk cur st = open_scope cur None ([] ∷ st.tables) st
 
 abbrev pub drop_first : List (List ℕ) → List (List ℕ)
 drop_first [] = []
@@ -207,8 +206,8 @@ branch false sc brs = brs
 -- "Field 1 or 2 of a symbol that is no Tuple makes or finds both projections, remembered across thunks"
 
 unfoldable pub recall : List (ℕ × ℕ × ℕ) → ℕ → Option (ℕ × ℕ)
-recall [] p = none
-recall (m ∷ ms) p = elim (eqb m.0 p) [ true ↦ some (m.1, m.2) | false ↦ recall ms p ]
+recall [] p = None
+recall (m ∷ ms) p = elim (eqb m.0 p) [ true ↦ Some (m.1, m.2) | false ↦ recall ms p ]
 
 abbrev pub remember : ℕ → ℕ → ℕ → State → State
 remember p a b st = record {
@@ -231,7 +230,7 @@ new_projections at cur r i p st = do
 -- field i of symbol p
 unfoldable pub pair_projection : ℕ → ℕ → Rec → ℕ → ℕ → State → Out
 pair_projection at cur r i p st =
-    elim (recall st.memo p) [ some ab ↦ good (pick i ab, st) | none ↦ new_projections at cur r i p st ]
+    elim (recall st.memo p) [ Some ab ↦ good (pick i ab, st) | None ↦ new_projections at cur r i p st ]
 
 -- ---- records. `kids` reads the record's children, in a scope with ids bound
 
@@ -274,7 +273,7 @@ intern_func at cur r env kids st = do
   let xs = args_of r.aux r.lit
   made ← alloc_args at cur r xs st
   let sc = length made.2.scopes
-  os ← kids sc (bind_args xs made.0 env) (open_scope cur (some made.0) made.2.tables made.2)
+  os ← kids sc (bind_args xs made.0 env) (open_scope cur (Some made.0) made.2.tables made.2)
   finish at cur r os.0 made.0 (func (with_opts xs made.0) sc) os.2
 
 -- a record, by its kind

@@ -1,8 +1,7 @@
 -- Functions on lists of numbers that several chapters share: membership, lists used as sets, the first place.
 -- Not here: `length`, `get_or`, `take`, `drop` (lib.ListN); `◌++◌`, `map` (mathlib.Core.List).
 -- Assumes nothing.
-use Rattle.std.specs.Prelude.{ℕ, suc, Bool, true, false, ◌&&◌, ◌||◌, List, [], ◌∷◌, ◌++◌, eqb}
-use Rattle.std.proofs.Math.Option.{Option, none, some}
+use Rattle.std.specs.Prelude.{ℕ, suc, Bool, true, false, ◌&&◌, ◌||◌, List, [], ◌∷◌, ◌++◌, eqb, Option, None, Some}
 
 -- ---- membership
 
@@ -56,6 +55,6 @@ last (x ∷ y ∷ ys) = last (y ∷ ys)
 
 -- the place of the first true, counted from 0
 unfoldable pub first : List Bool → Option ℕ
-first [] = none
-first (true ∷ bs) = some 0
-first (false ∷ bs) = elim (first bs) [ none ↦ none | some i ↦ some (suc i) ]
+first [] = None
+first (true ∷ bs) = Some 0
+first (false ∷ bs) = elim (first bs) [ None ↦ None | Some i ↦ Some (suc i) ]

@@ -1,7 +1,6 @@
 -- The written tree (materialize.rs: `process_scope`, `build_value`, `build_func`, `build_op`, `wrap_block`).
 -- Assumes nothing.
-use Rattle.std.specs.Prelude.{ℕ, suc, ◌+◌, Bool, true, false, not, ◌&&◌, List, [], ◌∷◌, ◌++◌, eqb, length, get_or}
-use Rattle.std.proofs.Math.Option.{Option, none, some}
+use Rattle.std.specs.Prelude.{ℕ, suc, ◌+◌, Bool, true, false, not, ◌&&◌, List, [], ◌∷◌, ◌++◌, eqb, length, get_or, Option, None, Some}
 use Rattle.model.specs.Bytes.{put32}
 use Rattle.model.specs.Down.{down}
 use Rattle.model.specs.Tree.{rec, Tree, Trees, node, nil, cons, top, below, snoc}
@@ -46,14 +45,14 @@ abbrev pub Builder : Type 0
 Builder = ℕ → ℕ → Env → ℕ → Tree
 
 unfoldable pub id_given : Env → ℕ → Option ℕ
-id_given [] s = none
-id_given (b ∷ bs) s = elim (eqb b.0 s) [ true ↦ some b.1 | false ↦ id_given bs s ]
+id_given [] s = None
+id_given (b ∷ bs) s = elim (eqb b.0 s) [ true ↦ Some b.1 | false ↦ id_given bs s ]
 
 -- the symbol gets a definition in scope sc
 unfoldable pub member : Graph → ℕ → Env → ℕ → Bool
 member g sc env s =
     eqb (sym_of g s).scope sc && not (is_arg (sym_of g s).node) && should_hoist (sym_of g s) (usage g s) &&
-    elim (id_given env s) [ none ↦ true | some i ↦ false ]
+    elim (id_given env s) [ None ↦ true | Some i ↦ false ]
 
 -- definitions, the ids of symbols after them, and the last of these
 pub record Defined : Type 0 where
@@ -116,7 +115,7 @@ build_node g build y (operation brs) sc env last =
 
 unfoldable pub build_step : Graph → Builder → Builder
 build_step g build s sc env last =
-    elim (id_given env s) [ some i ↦ val_use_of i | none ↦ build_node g build (sym_of g s) (sym_of g s).node sc env last ]
+    elim (id_given env s) [ Some i ↦ val_use_of i | None ↦ build_node g build (sym_of g s) (sym_of g s).node sc env last ]
 
 unfoldable pub build_value : Graph → Builder
 build_value g = down (λ sc env last. val_use_of 0) (build_step g)

@@ -4,8 +4,7 @@
 -- those of the state after it (`there`), and these are the first of those at the end (`Leads`).
 -- In order: paths in an unfolding; the constants of a tree; a constant's symbol; the statement.
 -- Assumes nothing.
-use Rattle.std.specs.Prelude.{◌≡◌, ◌↔◌, List, [], ◌∷◌, ℕ, zero, suc, ◌<◌, length}
-use Rattle.std.proofs.Math.Option.{Option, none, some}
+use Rattle.std.specs.Prelude.{◌≡◌, ◌↔◌, List, [], ◌∷◌, ℕ, zero, suc, ◌<◌, length, Option, None, Some}
 use Rattle.model.specs.Answer.{good}
 use Rattle.model.specs.Tree.{Rec, mark, Tree, Trees, node, nil, cons, root}
 use Rattle.model.specs.Opcodes.{Const}
@@ -18,23 +17,23 @@ use Rattle.model.specs.Call.{tree_of}
 
 -- operand j, from 0; a lambda's one operand is its body
 unfoldable pub operand_in : Unfoldeds → ℕ → Option Unfolded
-operand_in done j = none
-operand_in (more u us) zero = some u
+operand_in done j = None
+operand_in (more u us) zero = Some u
 operand_in (more u us) (suc j) = operand_in us j
 
 unfoldable pub operand : Unfolded → ℕ → Option Unfolded
-operand (arg e p) j = none
+operand (arg e p) j = None
 operand (lam s o a opts us) j = operand_in us j
 operand (made r us) j = operand_in us j
 
 -- what a path leads to: the numbers of the operands on the way down
 unfoldable pub part_at : List ℕ → Unfolded → Option Unfolded
-part_at [] u = some u
-part_at (j ∷ path) u = elim (operand u j) [ none ↦ none | some v ↦ part_at path v ]
+part_at [] u = Some u
+part_at (j ∷ path) u = elim (operand u j) [ None ↦ None | Some v ↦ part_at path v ]
 
 -- the constant r, with its class, mark and literal
 abbrev pub ConstantAt : List ℕ → Unfolded → Rec → Type 0
-ConstantAt path u r = part_at path u ≡ some (made r done)
+ConstantAt path u r = part_at path u ≡ Some (made r done)
 
 -- ---- the constants of a tree
 

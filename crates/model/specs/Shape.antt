@@ -2,9 +2,8 @@
 -- shape (check 5).
 -- In order: reading a literal part by part; the table; `fits`; `agrees`.
 -- Assumes nothing.
-use Rattle.std.specs.Prelude.{ℕ, zero, suc, Bool, true, false, not, ◌&&◌, List, [], ◌∷◌, map, eqb, leb, ltb, length, get_or, drop}
+use Rattle.std.specs.Prelude.{ℕ, zero, suc, Bool, true, false, not, ◌&&◌, List, [], ◌∷◌, map, eqb, leb, ltb, length, get_or, drop, Option, None, Some}
 use Rattle.std.specs.Bool.{beq}
-use Rattle.std.proofs.Math.Option.{Option, none, some}
 use Rattle.model.specs.Lists.{is_in}
 use Rattle.model.specs.Tree.{Rec, Row}
 use Rattle.model.specs.Opcodes.{Zero, Two, Three, ValUse, ValDef, BlockValue, FuncValue, Tuple, SelectField}
@@ -18,30 +17,30 @@ abbrev pub Reader : Type 0
 Reader = List ℕ → Option (List ℕ)
 
 abbrev pub a_end : Reader
-a_end bs = some bs
+a_end bs = Some bs
 
 unfoldable pub a_byte : Reader
-a_byte [] = none
-a_byte (b ∷ bs) = some bs
+a_byte [] = None
+a_byte (b ∷ bs) = Some bs
 
 -- "Ids are 4 bytes"
 unfoldable pub a_id : Reader
-a_id bs = elim (leb 4 (length bs)) [ true ↦ some (drop 4 bs) | false ↦ none ]
+a_id bs = elim (leb 4 (length bs)) [ true ↦ Some (drop 4 bs) | false ↦ None ]
 
 -- "A type is a byte 1 to 255 and so many bytes, not looked into"
 unfoldable pub a_type : Reader
-a_type [] = none
-a_type (n ∷ bs) = elim (ltb 0 n && leb n (length bs)) [ true ↦ some (drop n bs) | false ↦ none ]
+a_type [] = None
+a_type (n ∷ bs) = elim (ltb 0 n && leb n (length bs)) [ true ↦ Some (drop n bs) | false ↦ None ]
 
 -- "Opt is 0, or 1 and a type"
 unfoldable pub a_opt : Reader
-a_opt [] = none
-a_opt (zero ∷ bs) = some bs
+a_opt [] = None
+a_opt (zero ∷ bs) = Some bs
 a_opt (suc zero ∷ bs) = a_type bs
-a_opt (suc (suc n) ∷ bs) = none
+a_opt (suc (suc n) ∷ bs) = None
 
 unfoldable pub ◌then◌ : Reader → Reader → Reader
-◌then◌ f g bs = elim (f bs) [ none ↦ none | some rest ↦ g rest ]
+◌then◌ f g bs = elim (f bs) [ None ↦ None | Some rest ↦ g rest ]
 
 infixr 50 ◌then◌
 -- an argument, a definition's or a tagged variable's literal: "id, opt"
@@ -54,12 +53,12 @@ times (suc n) f = f then times n f
 
 -- a count byte and so many parts
 unfoldable pub a_counted : Reader → Reader
-a_counted f [] = none
+a_counted f [] = None
 a_counted f (n ∷ bs) = times n f bs
 
 -- a part that is the whole literal
 unfoldable pub whole : Reader → List ℕ → Bool
-whole f bs = elim (f bs) [ none ↦ false | some rest ↦ eqb (length rest) 0 ]
+whole f bs = elim (f bs) [ None ↦ false | Some rest ↦ eqb (length rest) 0 ]
 
 unfoldable pub bits : List ℕ → Bool
 bits [] = true
@@ -143,8 +142,8 @@ abbrev pub Pairs : Type 0
 Pairs = List (ℕ × ℕ)
 
 unfoldable pub shape_of : Pairs → ℕ → Option ℕ
-shape_of [] o = none
-shape_of (p ∷ ps) o = elim (eqb p.0 o) [ true ↦ some p.1 | false ↦ shape_of ps o ]
+shape_of [] o = None
+shape_of (p ∷ ps) o = elim (eqb p.0 o) [ true ↦ Some p.1 | false ↦ shape_of ps o ]
 
 -- "Only together, both ways"
 unfoldable pub both_ways : Pairs
@@ -163,7 +162,7 @@ unfoldable pub agrees : Rec → Bool
 agrees r =
     beq (eqb r.opcode 0) (leb r.shape 1) &&
     elim (shape_of both_ways r.opcode) [
-      | none ↦ not (is_in r.shape (map (λ p. p.1) both_ways))
-      | some s ↦ eqb s r.shape
+      | None ↦ not (is_in r.shape (map (λ p. p.1) both_ways))
+      | Some s ↦ eqb s r.shape
     ] &&
-    elim (shape_of one_way r.opcode) [ none ↦ true | some s ↦ eqb s r.shape ]
+    elim (shape_of one_way r.opcode) [ None ↦ true | Some s ↦ eqb s r.shape ]

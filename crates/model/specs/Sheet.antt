@@ -12,7 +12,7 @@ use Rattle.std.specs.Prelude.{ℕ, zero, suc, ◌+◌, ◌-◌, ◌*◌, true, f
 use Rattle.model.specs.Answer.{Answer, refused, good}
 use Rattle.model.specs.Tree.{Rec, class, mark, Tree, Trees, node, nil, cons, size}
 use Rattle.model.specs.Opcodes.{Const}
-use Rattle.model.specs.Binding.{Kind, val_use, val_def, block, lambda, field, other, kind, id_of, arg_ids}
+use Rattle.model.specs.Binding.{val_use, val_def, block, lambda, field, other, kind, id_of, arg_ids}
 use Rattle.model.specs.Accept.{accept}
 use Rattle.model.specs.Text.{text}
 use Rattle.model.specs.Lister.{numeral, hex_byte, refusal}

@@ -5,8 +5,7 @@
 -- In order: a parameter's value; the first record that has another; how many parameters; the line; what it says, which
 -- `theory` (Templates/Line) proves.
 -- Assumes nothing.
-use Rattle.std.specs.Prelude.{◌≡◌, ◌↔◌, ◌≢◌, Bool, true, false, not, ◌&&◌, List, [], ◌∷◌, ◌++◌, map, ℕ, zero, suc, ◌<◌, ◌≤◌, eqb, length, get_or}
-use Rattle.std.proofs.Math.Option.{Option, none, some}
+use Rattle.std.specs.Prelude.{◌≡◌, ◌↔◌, ◌≢◌, Bool, not, ◌&&◌, List, [], ◌++◌, map, ℕ, zero, suc, ◌<◌, ◌≤◌, eqb, length, get_or, Option, None, Some}
 use Rattle.model.specs.Lists.{same, first}
 use Rattle.model.specs.Answer.{Answer, refused, good}
 use Rattle.model.specs.Tree.{Rec, mark, Row, rows}
@@ -29,7 +28,7 @@ stands_at a rs = first (map (is_of a) rs)
 
 -- its literal there
 unfoldable pub value_of : ℕ → List Row → List ℕ
-value_of a rs = elim (stands_at a rs) [ none ↦ [] | some p ↦ (get_or rs p no_record).rec.lit ]
+value_of a rs = elim (stands_at a rs) [ None ↦ [] | Some p ↦ (get_or rs p no_record).rec.lit ]
 
 -- ---- the first record whose aux over 6 had another literal earlier
 
@@ -51,7 +50,7 @@ two_values bs = first (map (λ r. has_another (rows_in bs) r.rec) (rows_in bs))
 -- how many of them are below n
 unfoldable pub parameters_below : ℕ → List Row → ℕ
 parameters_below zero rs = 0
-parameters_below (suc a) rs = elim (stands_at a rs) [ some p ↦ suc (parameters_below a rs) | none ↦ parameters_below a rs ]
+parameters_below (suc a) rs = elim (stands_at a rs) [ Some p ↦ suc (parameters_below a rs) | None ↦ parameters_below a rs ]
 
 -- an aux is a byte
 unfoldable pub parameters : List Row → ℕ
@@ -60,10 +59,10 @@ parameters rs = parameters_below 256 rs
 -- ---- the line
 
 unfoldable pub verdict : List ℕ → Written → Option ℕ → List ℕ
-verdict bs w none =
+verdict bs w None =
     text "template: " ++ numeral (definitions (rows w.tree)) ++ text " definitions, " ++
     numeral (parameters (rows_in bs)) ++ text " parameters\n"
-verdict bs w (some p) =
+verdict bs w (Some p) =
     text "two values of mark " ++ numeral (mark (record_at bs p).rec.aux) ++ text " at " ++ numeral p ++ text "\n"
 
 -- the call is lent 65,535 output bytes; its refusal comes first
@@ -79,9 +78,9 @@ template_line bs = line_of bs (run (ample bs))
 -- of every forest
 pub record LineSays (forest : List ℕ) : Type 0 where
   -- the place is that of the condition
-  pub two_values_lem : (p : ℕ) → (two_values forest ≡ some p) ↔ First (HadAnother forest) p
+  pub two_values_lem : (p : ℕ) → (two_values forest ≡ Some p) ↔ First (HadAnother forest) p
   -- an accepted forest with no such place is a template
-  pub template : Accepted forest → (two_values forest ≡ none) ↔ Template forest
+  pub template : Accepted forest → (two_values forest ≡ None) ↔ Template forest
   -- so where the line begins with `template:`, the clause holds of every filling whose bytes fit
-  pub clause : (w : Written) → run (ample forest) ≡ good w → two_values forest ≡ none → (f : Filling) →
+  pub clause : (w : Written) → run (ample forest) ≡ good w → two_values forest ≡ None → (f : Filling) →
       length (fill_forest f forest) ≤ 65535 → length (fill_forest f w.bytes) ≤ 65535 → Clause forest w f

@@ -6,8 +6,7 @@
 -- makes no event (keys, placement, bindings, scopes) is Intern's own. `theory` proves that with the limits put on the log
 -- it is Intern (Demand3/Trace), so one of the two is enough to be read.
 -- Assumes nothing.
-use Rattle.std.specs.Prelude.{◌≡◌, ℕ, suc, ◌+◌, ◌≤◌, Bool, true, false, ◌||◌, List, [], ◌∷◌, ◌++◌, eqb, length, get_or}
-use Rattle.std.proofs.Math.Option.{none, some}
+use Rattle.std.specs.Prelude.{◌≡◌, ℕ, suc, ◌+◌, ◌≤◌, Bool, true, false, ◌||◌, List, [], ◌∷◌, ◌++◌, eqb, length, get_or, None, Some}
 use Rattle.model.specs.Lists.{without, last}
 use Rattle.model.specs.Tree.{Rec, rec, Tree, Trees, node, nil, cons, size}
 use Rattle.model.specs.Forest.{trees_of}
@@ -71,8 +70,8 @@ alloc' at cur r ks deps shared nd st =
 unfoldable pub finish' : ℕ → ℕ → Rec → List ℕ → List ℕ → Node → State → Out'
 finish' at cur r ks own nd st =
     elim (lookup st.syms r ks st.tables) [
-      | some i ↦ pure (i, st)
-      | none ↦ alloc' at cur r ks (without (union_deps st.syms ks) own) true nd st
+      | Some i ↦ pure (i, st)
+      | None ↦ alloc' at cur r ks (without (union_deps st.syms ks) own) true nd st
     ]
 
 unfoldable pub alloc_args' : ℕ → ℕ → Rec → List (ℕ × List ℕ) → State → Outs'
@@ -96,7 +95,7 @@ new_projections' at cur r i p st = do
 
 unfoldable pub pair_projection' : ℕ → ℕ → Rec → ℕ → ℕ → State → Out'
 pair_projection' at cur r i p st =
-    elim (recall st.memo p) [ some ab ↦ pure (pick i ab, st) | none ↦ new_projections' at cur r i p st ]
+    elim (recall st.memo p) [ Some ab ↦ pure (pick i ab, st) | None ↦ new_projections' at cur r i p st ]
 
 unfoldable pub intern_last' : Outs' → Out'
 intern_last' m = do
@@ -124,7 +123,7 @@ intern_func' at cur r env kids st = do
   let xs = args_of r.aux r.lit
   made ← alloc_args' at cur r xs st
   let sc = length made.2.scopes
-  os ← kids sc (bind_args xs made.0 env) (open_scope cur (some made.0) made.2.tables made.2)
+  os ← kids sc (bind_args xs made.0 env) (open_scope cur (Some made.0) made.2.tables made.2)
   finish' at cur r os.0 made.0 (func (with_opts xs made.0) sc) os.2
 
 unfoldable pub intern_kind' : Kind → ℕ → ℕ → Rec → Env → Kids' → State → Out'

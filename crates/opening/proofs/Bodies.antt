@@ -2,7 +2,8 @@
 -- Assumes nothing.
 use Prim.Native.Nat.{ℕ, ◌+◌, ◌<◌, ◌≤◌}
 use mathlib.Core.Path.{◌≡◌, sym, ap, ◌∙◌, subst}
-use mathlib.Core.Option.{some, some-injective}
+use Rattle.std.specs.Prelude.{Some}
+use Rattle.std.proofs.lemmas.Option.{same_Some}
 use mathlib.Core.List.{List}
 use native.Mathlib.Omega.{arith}
 use native.Mathlib.Numerals.{add-one}
@@ -39,10 +40,10 @@ module _ {bs ws : List ℕ} {st : State} {cur first count : ℕ} (rep : Rep bs w
   word_level : level_of word ≡ level_of (scope_word ws cur) + 1
   word_level = packed_level cur first (count + 1) (level_of (scope_word ws cur) + 1) (omega arith) low (omega arith)
 
-  code_args : args_from first (count + 1) ≡ some (range first count)
+  code_args : args_from first (count + 1) ≡ Some (range first count)
   code_args = rw (add-one count)
 
-  word_args : args_in word ≡ some (range first count)
+  word_args : args_in word ≡ Some (range first count)
   word_args =
       packed_args cur first (count + 1) (level_of (scope_word ws cur) + 1) (omega arith) low (omega arith) ∙ code_args
 
@@ -63,9 +64,9 @@ module _ {bs ws : List ℕ} {st : State} {cur first count : ℕ} (rep : Rep bs w
   -- ---- what the state stands for
 
   pub body_abs : (t : Tables) → Open t st.entries → abs_of bs ws₁ t (with_scope st)
-      ≡ open_scope cur (some (range first count)) (abs_of bs ws t st).tables (abs_of bs ws t st)
+      ≡ open_scope cur (Some (range first count)) (abs_of bs ws t st).tables (abs_of bs ws t st)
   body_abs t is =
-      scope_abs rep few word t t is cur (some (range first count)) (abs_of bs ws t st).tables
+      scope_abs rep few word t t is cur (Some (range first count)) (abs_of bs ws t st).tables
       (tables_agree ws ws₁ t st.entries is (scope_same rep few word).entries)
       (scopes_lambda ws st.scopes cur (omega (arith, rep.arena.scoped.words)) current (omega arith) first count low
       (omega arith))
@@ -79,5 +80,5 @@ module _ {bs ws : List ℕ} {st : State} {cur first count : ℕ} (rep : Rep bs w
       (nested_lambda ws st.scopes cur (omega (arith, rep.arena.scoped.words)) current (omega arith) first count low (omega arith)
       rep.arena.scoped.nested)
       (λ xs e. subst (Every (AtLevel ws st.symbols (level_of word)))
-      (some-injective _ _ (sym word_args ∙ e))
+      (same_Some _ _ (sym word_args ∙ e))
       (rw word_level own))

@@ -4,7 +4,7 @@
 use Prim.Native.Nat.{ℕ, ◌+◌, ◌≤◌}
 use mathlib.Core.Path.{◌≡◌, refl, sym, ap, ◌∙◌}
 use mathlib.Core.Logic.{⊎_elim}
-use mathlib.Core.Option.{Option, some}
+use Rattle.std.specs.Prelude.{Option, Some}
 use mathlib.Core.List.{List, [], ◌∷◌, ◌++◌}
 use native.Mathlib.Omega.{arith}
 use native.Mathlib.Nat.{eq-or-lt_of_le}
@@ -74,11 +74,11 @@ module _ {bs ws : List ℕ} {st : State} (rep : Rep bs ws st) (few : st.scopes �
   -- ---- what holds of it
 
   module _ (nested : Nested ws₁ (st.scopes + 1))
-      (own : (xs : List ℕ) → args_in w ≡ some xs → Every (AtLevel ws st.symbols (level_of w)) xs) where
+      (own : (xs : List ℕ) → args_in w ≡ Some xs → Every (AtLevel ws st.symbols (level_of w)) xs) where
     old : Rep bs ws₁ st
     old = rep_same bs ws ws₁ st rep scope_same
 
-    args_new : (xs : List ℕ) → args_in (scope_word ws₁ st.scopes) ≡ some xs →
+    args_new : (xs : List ℕ) → args_in (scope_word ws₁ st.scopes) ≡ Some xs →
         Every (AtLevel ws₁ st.symbols (level_of (scope_word ws₁ st.scopes))) xs
     args_new xs e x i =
         let h = own xs (ap args_in (sym scope_new) ∙ e) x i in

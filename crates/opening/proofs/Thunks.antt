@@ -2,7 +2,7 @@
 -- Assumes nothing.
 use Prim.Native.Nat.{ℕ, ◌<◌, ◌≤◌}
 use mathlib.Core.Path.{◌≡◌, sym, ap, ◌∙◌}
-use mathlib.Core.Option.{none}
+use Rattle.std.specs.Prelude.{None}
 use mathlib.Core.List.{List, [], ◌∷◌}
 use native.Mathlib.Omega.{arith}
 use Rattle.model.specs.Intern.{open_thunk, close_thunk}
@@ -28,7 +28,7 @@ module _ {bs ws : List ℕ} {st : State} {cur : ℕ} (rep : Rep bs ws st) (few :
   word_level : level_of (thunk_word ws cur) ≡ level_of (scope_word ws cur)
   word_level = packed_level cur 0 0 (level_of (scope_word ws cur)) (omega arith) (omega arith) (omega arith)
 
-  word_args : args_in (thunk_word ws cur) ≡ none
+  word_args : args_in (thunk_word ws cur) ≡ None
   word_args = packed_args cur 0 0 (level_of (scope_word ws cur)) (omega arith) (omega arith) (omega arith)
 
   pub thunk_level : level_of (scope_word ws₁ st.scopes) ≡ level_of (scope_word ws cur)
@@ -43,7 +43,7 @@ module _ {bs ws : List ℕ} {st : State} {cur : ℕ} (rep : Rep bs ws st) (few :
   module _ (t : Tables) (is : Open t st.entries) (room : t.depth < 64) where
     pub thunk_abs : abs_of bs ws₁ (opened t st.entries) (with_scope st) ≡ open_thunk cur (abs_of bs ws t st)
     thunk_abs =
-        scope_abs rep few (thunk_word ws cur) t (opened t st.entries) is cur none
+        scope_abs rep few (thunk_word ws cur) t (opened t st.entries) is cur None
         ([] ∷ tables_of ws t st.entries)
         (opened-tables t st.entries is room ws₁
         ∙ ap (λ (ts : List (List ℕ)). [] ∷ ts)

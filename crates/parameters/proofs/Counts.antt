@@ -3,7 +3,7 @@
 use Prim.Native.Nat.{ℕ, suc, ◌+◌, ◌<◌, ◌≤◌}
 use mathlib.Core.Path.{◌≡◌, refl, sym, ap, ◌∙◌}
 use mathlib.Core.Bool.{Bool, true, false}
-use mathlib.Core.Option.{none, some}
+use Rattle.std.specs.Prelude.{None, Some}
 use mathlib.Core.List.{List}
 use native.Mathlib.Omega.{arith}
 use native.Mathlib.Numerals.{add-one}
@@ -29,11 +29,11 @@ unfolding parameters
 below_all rs a n l m e = let f : a ≡ 256 = omega arith in e ∙ ap (λ (z : ℕ). parameters_below z rs) f
 
 module _ (rs : List Row) (a n : ℕ) (e : n ≡ parameters_below a rs) where
-  pub below_one : (p : ℕ) → some p ≡ stands_at a rs → n + 1 ≡ parameters_below (a + 1) rs
+  pub below_one : (p : ℕ) → Some p ≡ stands_at a rs → n + 1 ≡ parameters_below (a + 1) rs
   unfolding parameters_below
   below_one p f = rw (add-one a, add-one n, sym f, parameters_below) (ap suc e)
 
-  pub below-same : none ≡ stands_at a rs → n ≡ parameters_below (a + 1) rs
+  pub below-same : None ≡ stands_at a rs → n ≡ parameters_below (a + 1) rs
   unfolding parameters_below
   below-same f = rw (add-one a, sym f, parameters_below) e
 

@@ -4,7 +4,8 @@
 use Prim.Native.Nat.{ℕ, suc, ◌<◌}
 use mathlib.Core.Path.{◌≡◌, refl, sym, ap, ap₂, ◌∙◌, subst}
 use mathlib.Core.Bool.{Bool, true, false, not, ◌&&◌}
-use mathlib.Core.Option.{Option, none, some, some-injective}
+use Rattle.std.specs.Prelude.{Option, None, Some}
+use Rattle.std.proofs.lemmas.Option.{same_Some}
 use mathlib.Core.List.{List, [], ◌∷◌, map}
 use native.Mathlib.Omega.{arith}
 use borrow.Author.Tests.{eq-eqb, ne_eqb}
@@ -52,31 +53,31 @@ module _ (r : Row) (a : ℕ) where
 -- ---- where a parameter stands
 
 -- the place of the first row that a test says true of is one of theirs
-first_low : (bs : List Bool) (p : ℕ) → first bs ≡ some p → p < length bs
+first_low : (bs : List Bool) (p : ℕ) → first bs ≡ Some p → p < length bs
 unfolding first
 first_low [] p e = none_some e
-first_low (true ∷ bs) p e = subst (λ (z : ℕ). z < length (true ∷ bs)) (some-injective _ _ e) (omega arith)
+first_low (true ∷ bs) p e = subst (λ (z : ℕ). z < length (true ∷ bs)) (same_Some _ _ e) (omega arith)
 first_low (false ∷ bs) p e = go (first bs) refl e (λ q f. first_low bs q f)
   where
-    go : (o : Option ℕ) → first bs ≡ o → elim o [ none ↦ none | some i ↦ some (suc i) ] ≡ some p →
-        ((q : ℕ) → first bs ≡ some q → q < length bs) → p < length (false ∷ bs)
-    go none f e rest = none_some e
-    go (some q) f e rest =
-        subst (λ (z : ℕ). z < length (false ∷ bs)) (some-injective _ _ e) (omega (arith, rest q f))
+    go : (o : Option ℕ) → first bs ≡ o → elim o [ None ↦ None | Some i ↦ Some (suc i) ] ≡ Some p →
+        ((q : ℕ) → first bs ≡ Some q → q < length bs) → p < length (false ∷ bs)
+    go None f e rest = none_some e
+    go (Some q) f e rest =
+        subst (λ (z : ℕ). z < length (false ∷ bs)) (same_Some _ _ e) (omega (arith, rest q f))
 
-rows_low : (bs : List ℕ) (f : Row → Bool) (p : ℕ) → first (map f (rows_in bs)) ≡ some p → p < record_count bs
+rows_low : (bs : List ℕ) (f : Row → Bool) (p : ℕ) → first (map f (rows_in bs)) ≡ Some p → p < record_count bs
 rows_low bs f p e = omega (arith, first_low (map f (rows_in bs)) p e, length-map (rows_in bs) f, row_count bs)
 
-pub stands_low : (bs : List ℕ) (a p : ℕ) → stands_at a (rows_in bs) ≡ some p → p < record_count bs
+pub stands_low : (bs : List ℕ) (a p : ℕ) → stands_at a (rows_in bs) ≡ Some p → p < record_count bs
 unfolding stands_at
 stands_low bs a = rows_low bs (is_of a)
 
-pub two_low : (bs : List ℕ) (p : ℕ) → two_values bs ≡ some p → p < record_count bs
+pub two_low : (bs : List ℕ) (p : ℕ) → two_values bs ≡ Some p → p < record_count bs
 unfolding two_values
 two_low bs = rows_low bs (λ r. has_another (rows_in bs) r.rec)
 
 -- the literal there is the value
-stands_value : (a : ℕ) (rs : List Row) (p : ℕ) → stands_at a rs ≡ some p → value_of a rs ≡ (get_or rs p no_row).rec.lit
+stands_value : (a : ℕ) (rs : List Row) (p : ℕ) → stands_at a rs ≡ Some p → value_of a rs ≡ (get_or rs p no_row).rec.lit
 unfolding value_of
 stands_value a rs p e = rw (e, value_of)
 
@@ -91,7 +92,7 @@ module _ (bs : List ℕ) (i : ℕ) where
   another_none = fails (is_parameter own) _
 
   module _ (a : ℕ) (h : is_parameter own ≡ true) (e : a ≡ own.aux) where
-    pub another_at : (p : ℕ) → stands_at a (rows_in bs) ≡ some p → (b : Bool) (l m : List ℕ) → b ≡ same l m →
+    pub another_at : (p : ℕ) → stands_at a (rows_in bs) ≡ Some p → (b : Bool) (l m : List ℕ) → b ≡ same l m →
         l ≡ own.lit → m ≡ (row_at bs p).rec.lit → not b ≡ has_another (rows_in bs) own
     unfolding has_another row_at
     another_at p f b l m is x y =
@@ -100,7 +101,7 @@ module _ (bs : List ℕ) (i : ℕ) where
         ap not (is ∙ ap₂ same x value) ∙ passes (is_parameter own) _ h
 
     -- it stands somewhere, at record i at least
-    pub stands_somewhere : i < record_count bs → stands_at a (rows_in bs) ≡ none → ⊥
+    pub stands_somewhere : i < record_count bs → stands_at a (rows_in bs) ≡ None → ⊥
     unfolding stands_at row_at
     stands_somewhere l f =
         let m : i < length (rows_in bs) = omega (arith, row_count bs) in

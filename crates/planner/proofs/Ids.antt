@@ -4,7 +4,7 @@
 use Prim.Native.Nat.{ℕ, zero, suc, ◌+◌, ◌-◌, ◌≤◌, ◌<◌}
 use mathlib.Core.Path.{◌≡◌, refl, sym, ap, ◌∙◌}
 use mathlib.Core.Bool.{Bool, true, false}
-use mathlib.Core.Option.{some}
+use Rattle.std.specs.Prelude.{Some}
 use mathlib.Core.List.{List, [], ◌∷◌, ◌++◌}
 use native.Mathlib.Omega.{arith}
 use native.Mathlib.Numerals.{add-one}
@@ -61,7 +61,7 @@ unfolding id_given
 maps_more ids env s last h l = record { is = λ t few. go t few (eqb s t) refl }
   where
     go : (t : ℕ) → t < 512 → (b : Bool) → eqb s t ≡ b
-        → elim b [ true ↦ some (suc last) | false ↦ id_given env t ] ≡ id_in (get_or (set ids s (last + 1)) t 0)
+        → elim b [ true ↦ Some (suc last) | false ↦ id_given env t ] ≡ id_in (get_or (set ids s (last + 1)) t 0)
     go t few true e =
         let f = eqb-true s t e in
         rw (← f, get_or-set_same ids s (last + 1) 0 l, add-one last)
@@ -95,7 +95,7 @@ maps_args ids env first n last xs count h fit =
         ap (λ (k : ℕ). get_or (sets ids first r) k 0) (sym e)
         ∙ (sets_run r ids first (s - first) (omega (arith, len)) (omega (arith, len))
         ∙ (range_at (last + 1) n (s - first) (omega arith) ∙ omega arith)) in
-        given_new first n xs count env last s lo hi ∙ rw v (ap some (omega arith))
+        given_new first n xs count env last s lo hi ∙ rw v (ap Some (omega arith))
     go s few false false p q =
         let hi = ltb-false s (first + n) q in
         given-after first n xs count env last s hi

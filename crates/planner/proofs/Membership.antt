@@ -4,7 +4,7 @@
 use Prim.Native.Nat.{ℕ, zero, suc, ◌+◌, ◌<◌, ◌≤◌}
 use mathlib.Core.Path.{◌≡◌, refl, sym, ap, ap₂, ◌∙◌}
 use mathlib.Core.Bool.{Bool, true, false, not, ◌&&◌, and-true, and-false}
-use mathlib.Core.Option.{Option, none, some}
+use Rattle.std.specs.Prelude.{Option, None, Some}
 use mathlib.Core.Logic.{inl, inr}
 use mathlib.Core.List.{List, [], ◌∷◌}
 use native.Mathlib.Omega.{arith}
@@ -71,7 +71,7 @@ module _ {bs ws : List ℕ} {n m : ℕ} {gr : Graph} (st : GraphIn bs ws n m gr)
 
 -- without an id
 is_new : Option ℕ → Bool
-is_new o = elim o [ none ↦ true | some i ↦ false ]
+is_new o = elim o [ None ↦ true | Some i ↦ false ]
 
 given_old : (i : ℕ) → (i ≡ 0 → ⊥) → is_new (id_in i) ≡ false
 unfolding is_new
@@ -111,7 +111,7 @@ module _ (gr : Graph) (sc : ℕ) (ids : List ℕ) (env : Env) (s : ℕ) (few : s
       → should_hoist (sym_of gr s) (usage gr s) ≡ member gr sc env s
   unfolding member
   member_hoisted z e f =
-      let id : id_given env s ≡ none = maps.is s few ∙ ap id_in z in
+      let id : id_given env s ≡ None = maps.is s few ∙ ap id_in z in
       rw (eq-eqb (sym_of gr s).scope sc e, f, id, member) (sym (and-true (should_hoist (sym_of gr s) (usage gr s))))
 
 -- ---- one symbol more

@@ -2,7 +2,7 @@
 -- Assumes nothing.
 use Prim.Native.Nat.{ℕ, zero, suc, ◌+◌, ◌<◌, ◌≤◌}
 use mathlib.Core.Path.{◌≡◌, refl, sym, ap, ◌∙◌, subst}
-use mathlib.Core.Option.{none, some}
+use Rattle.std.specs.Prelude.{None, Some}
 use mathlib.Core.List.{List, [], ◌∷◌}
 use native.Mathlib.Omega.{arith}
 use lib.ListN.{get_or}
@@ -81,7 +81,7 @@ use_row : (bs : List ℕ) (i : ℕ) → rows (val_use_of i) ≡ row_for bs (ValU
 unfolding row_for
 use_row bs i = use_rows i
 
-given_some : (i : ℕ) → (i ≡ 0 → ⊥) → id_in i ≡ some i
+given_some : (i : ℕ) → (i ≡ 0 → ⊥) → id_in i ≡ Some i
 given_some zero n = absurd (n refl)
 given_some (suc i) n = refl
 
@@ -107,7 +107,7 @@ module _ {bs ws : List ℕ} {g : Graph} {ids : List ℕ} {p : Plan} {above : ℕ
   unfolding build_step
   plans_new z h =
       plans_as h (λ gr sc env st maps.
-      let e : id_given env s ≡ none = maps.is s (omega (arith, b.arena.scoped.few)) ∙ ap id_in z in
+      let e : id_given env s ≡ None = maps.is s (omega (arith, b.arena.scoped.few)) ∙ ap id_in z in
       sym (build_step_lem gr (kids_low b st) s (body_lower b st s lt) sc env last ∙ rw (e, build_step)))
 
   pub plans_const : (l : Leaf) → (symbol_at ws s).node ≡ Const l

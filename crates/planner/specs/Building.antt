@@ -1,8 +1,7 @@
 -- What is asked of the words, and how they stand for what is built. In order: symbols that a tree can be built from;
 -- the graph in the words; the ids of symbols; an operation's row and the scopes of its thunks; members of a scope.
 -- Assumes nothing.
-use Rattle.std.specs.Prelude.{ℕ, zero, suc, ◌+◌, ◌<◌, ◌≤◌, ◌≡◌, Bool, true, false, List, [], ◌∷◌, eqb, ltb, get_or, take, drop}
-use Rattle.std.proofs.Math.Option.{Option, none, some}
+use Rattle.std.specs.Prelude.{ℕ, zero, suc, ◌+◌, ◌<◌, ◌≤◌, ◌≡◌, Bool, true, false, List, [], ◌∷◌, eqb, ltb, get_or, take, drop, Option, None, Some}
 use Rattle.model.specs.Opcodes.{ValUse}
 use Rattle.model.specs.Shape.{a_id, a_opt, ◌then◌, times, whole}
 use Rattle.model.specs.Intern.{Env, thunked}
@@ -78,8 +77,8 @@ pub record GraphIn (bs ws : List ℕ) (n m : ℕ) (gr : model.Graph) : Type 0 wh
 
 -- the id that a word holds
 abbrev pub id_in : ℕ → Option ℕ
-id_in zero = none
-id_in (suc i) = some (suc i)
+id_in zero = None
+id_in (suc i) = Some (suc i)
 
 -- the words have the ids of env, 0 for none
 pub record Maps (ids : List ℕ) (env : Env) : Type 0 where

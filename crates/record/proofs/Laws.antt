@@ -4,7 +4,7 @@
 use Prim.Native.Nat.{ℕ, zero, suc, ◌+◌, ◌*◌, ◌-◌, ◌<◌, ◌≤◌}
 use mathlib.Core.Path.{◌≡◌, refl, sym, ap, ◌∙◌, subst}
 use mathlib.Core.Bool.{Bool, true, false, not, ◌||◌}
-use mathlib.Core.Option.{Option, none, some}
+use Rattle.std.specs.Prelude.{Option, None, Some}
 use mathlib.Core.List.{List, [], ◌∷◌}
 use native.Mathlib.Omega.{arith}
 use lib.Dec.{eqb, ltb}
@@ -79,14 +79,14 @@ module _ (total : ℕ) where
 
 -- ---- a laid forest's records lie in it
 
-fits-directory : (bs : List ℕ) → check3 bs ≡ none
+fits-directory : (bs : List ℕ) → check3 bs ≡ None
     → (body_start bs ≤ length bs) × Clear (bad_pairs (length bs) (body_start bs) (pairs_of bs))
 unfolding check3
 fits-directory bs e = go (ltb (length bs) (body_start bs)) refl e
   where
     go : (b : Bool) → ltb (length bs) (body_start bs) ≡ b →
         ◌≡◌ {A = Option ℕ}
-        (elim b [ true ↦ some 0 | false ↦ first (bad_pairs (length bs) (body_start bs) (pairs_of bs)) ]) none →
+        (elim b [ true ↦ Some 0 | false ↦ first (bad_pairs (length bs) (body_start bs) (pairs_of bs)) ]) None →
         (body_start bs ≤ length bs) × Clear (bad_pairs (length bs) (body_start bs) (pairs_of bs))
     go true f g = some_none g
     go false f g = (ltb-false (length bs) (body_start bs) f, first_clear _ g)

@@ -1,15 +1,14 @@
 -- Records by number: where a record lies in the forest, and the row that stands there.
 -- Assumes nothing.
-use Rattle.std.specs.Prelude.{ℕ, ◌+◌, ◌*◌, ◌≤◌, ◌≡◌, List, [], length, get_or, take, drop}
-use Rattle.std.proofs.Math.Option.{none}
+use Rattle.std.specs.Prelude.{ℕ, ◌+◌, ◌*◌, ◌≤◌, ◌≡◌, List, [], length, get_or, take, drop, None}
 use Rattle.model.specs.Bytes.{u16}
 use Rattle.model.specs.Tree.{rec, Row}
 use Rattle.model.specs.Forest.{row_of, rows_in, check2, check3}
 
 -- header and directory stand: neither check 2 nor check 3 fails
 pub record Laid (bs : List ℕ) : Type 0 where
-  pub header : check2 bs ≡ none
-  pub directory : check3 bs ≡ none
+  pub header : check2 bs ≡ None
+  pub directory : check3 bs ≡ None
 
 -- record i's pair: where the record starts, and how long it is
 unfoldable pub start_of : List ℕ → ℕ → ℕ

@@ -4,7 +4,7 @@ use Prim.Native.Nat.{ℕ, zero, suc, ◌-◌, ◌<◌, ◌≤◌}
 use mathlib.Core.Path.{◌≡◌, refl, sym, ap, ◌∙◌, subst}
 use mathlib.Core.Bool.{Bool, true, false, not, ◌&&◌}
 use mathlib.Core.Logic.{inl, inr}
-use mathlib.Core.Option.{Option, none, some}
+use Rattle.std.specs.Prelude.{Option, None, Some}
 use mathlib.Core.List.{List, [], ◌∷◌}
 use native.Mathlib.Omega.{arith}
 use borrow.Author.Tests.{eq-eqb, ne_eqb}
@@ -36,13 +36,13 @@ module _ (levels w : ℕ) where
   unfolding left_by
   left_past n e = rw (ne_eqb (code_of w) 0 n, e)
 
-stays : (f c : ℕ) (h : Bool) → (not (eqb c 0) && not h) ≡ false → (xs : List ℕ) → args_from f c ≡ some xs → h ≡ true
+stays : (f c : ℕ) (h : Bool) → (not (eqb c 0) && not h) ≡ false → (xs : List ℕ) → args_from f c ≡ Some xs → h ≡ true
 stays f zero h e xs a = some_none (sym a)
 stays f (suc c) true e xs a = refl
 stays f (suc c) false e xs a = true_false (rw eqb-suc-zero at e)
 
 leaves : (f c : ℕ) (h : Bool) → (not (eqb c 0) && not h) ≡ true
-    → (h ≡ false) × (args_from f c ≡ some (range f (c - 1))) × (0 < c)
+    → (h ≡ false) × (args_from f c ≡ Some (range f (c - 1))) × (0 < c)
 leaves f zero h e = true_false (sym e)
 leaves f (suc c) true e = true_false (sym (rw eqb-suc-zero at e))
 leaves f (suc c) false e = let s : suc c - 1 ≡ c = omega arith in (refl, rw s, omega arith)
@@ -50,18 +50,18 @@ leaves f (suc c) false e = let s : suc c - 1 ≡ c = omega arith in (refl, rw s,
 -- ---- placement
 
 climb_none : (scs : List Scope) (deps : List ℕ) (k : ℕ) (out : List ℕ)
-    → (scope_at scs k).args ≡ none → climb scs deps (k ∷ out) ≡ k
+    → (scope_at scs k).args ≡ None → climb scs deps (k ∷ out) ≡ k
 unfolding climb
 climb_none scs deps k out e = rw (e, climb)
 
 climb_some : (scs : List Scope) (deps : List ℕ) (k : ℕ) (out xs : List ℕ) (b : Bool)
-    → (scope_at scs k).args ≡ some xs → any_in xs deps ≡ b
+    → (scope_at scs k).args ≡ Some xs → any_in xs deps ≡ b
     → climb scs deps (k ∷ out) ≡ elim b [ true ↦ k | false ↦ climb scs deps out ]
 unfolding climb
 climb_some scs deps k out xs b e i = rw (e, climb) (rw i)
 
 module _ (ws : List ℕ) (n k : ℕ) (h : Nested ws n) (p : k < n) (levels : ℕ) where
-  stay_has : left_by levels (scope_word ws k) ≡ false → (xs : List ℕ) → args_in (scope_word ws k) ≡ some xs
+  stay_has : left_by levels (scope_word ws k) ≡ false → (xs : List ℕ) → args_in (scope_word ws k) ≡ Some xs
       → has levels (level_of (scope_word ws k)) ≡ true
   unfolding left_by
   stay_has e = stays (first_of (scope_word ws k)) (code_of (scope_word ws k)) (has levels (level_of (scope_word ws k))) e
@@ -71,7 +71,7 @@ module _ (ws : List ℕ) (n k : ℕ) (h : Nested ws n) (p : k < n) (levels : ℕ
   passed_args = range (first_of (scope_word ws k)) (code_of (scope_word ws k) - 1)
 
   left_says : left_by levels (scope_word ws k) ≡ true
-      → (has levels (level_of (scope_word ws k)) ≡ false) × (args_in (scope_word ws k) ≡ some passed_args)
+      → (has levels (level_of (scope_word ws k)) ≡ false) × (args_in (scope_word ws k) ≡ Some passed_args)
       × (0 < code_of (scope_word ws k))
   unfolding left_by
   left_says e = leaves (first_of (scope_word ws k)) (code_of (scope_word ws k)) (has levels (level_of (scope_word ws k))) e
@@ -86,7 +86,7 @@ module _ (ws : List ℕ) (n k : ℕ) (h : Nested ws n) (p : k < n) (levels : ℕ
 
   module _ (m : ℕ) (q : k < m) (deps : List ℕ)
       (t : Tracks (scopes_of ws m) levels deps (outward (scopes_of ws m) k)) where
-    tracked : (xs : List ℕ) → args_in (scope_word ws k) ≡ some xs → has levels (level_of (scope_word ws k)) ≡ any_in xs deps
+    tracked : (xs : List ℕ) → args_in (scope_word ws k) ≡ Some xs → has levels (level_of (scope_word ws k)) ≡ any_in xs deps
     tracked xs a = ap (has levels) (scope_level ws m n k h p q) ∙ t.0 xs (scope_args ws m n k h p q ∙ a)
 
     pub climb_stays : left_by levels (scope_word ws k) ≡ false
@@ -95,8 +95,8 @@ module _ (ws : List ℕ) (n k : ℕ) (h : Nested ws n) (p : k < n) (levels : ℕ
       where
         go : (o : Option (List ℕ)) → args_in (scope_word ws k) ≡ o
             → k ≡ climb (scopes_of ws m) deps (outward (scopes_of ws m) k)
-        go none a = sym (climb_none (scopes_of ws m) deps k _ (scope_args ws m n k h p q ∙ a))
-        go (some xs) a =
+        go None a = sym (climb_none (scopes_of ws m) deps k _ (scope_args ws m n k h p q ∙ a))
+        go (Some xs) a =
             sym
             (climb_some (scopes_of ws m) deps k _ xs true (scope_args ws m n k h p q ∙ a)
             (sym (tracked xs a) ∙ stay_has e xs a))
@@ -121,7 +121,7 @@ module _ (ws : List ℕ) (n k : ℕ) (h : Nested ws n) (p : k < n) (levels : ℕ
 -- levels deeper than the scopes, and deps that are arguments of none of them
 pub tracks_apart : (scs : List Scope) (levels : ℕ) (deps out : List ℕ) (m : ℕ) → lambdas scs out ≤ m →
     ((j : ℕ) → j ≤ m → has levels j ≡ false) →
-    ((s : ℕ) → In s out → (xs : List ℕ) → (scope_at scs s).args ≡ some xs → any_in xs deps ≡ false) →
+    ((s : ℕ) → In s out → (xs : List ℕ) → (scope_at scs s).args ≡ Some xs → any_in xs deps ≡ false) →
     Tracks scs levels deps out
 tracks_apart scs levels deps [] m le e f = tt
 tracks_apart scs levels deps (s ∷ out) m le e f = (

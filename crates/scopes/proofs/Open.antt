@@ -2,7 +2,7 @@
 -- In order: words kept; the outermost scope; one more scope, whatever its word; a thunk, a lambda. Assumes nothing.
 use Prim.Native.Nat.{ℕ, zero, suc, ◌+◌, ◌<◌, ◌≤◌}
 use mathlib.Core.Path.{◌≡◌, refl, ap, ◌∙◌}
-use mathlib.Core.Option.{Option, none, some}
+use Rattle.std.specs.Prelude.{Option, None, Some}
 use mathlib.Core.List.{List, [], ◌∷◌, ◌++◌}
 use native.Mathlib.Omega.{arith}
 use native.Mathlib.Numerals.{add-one}
@@ -150,7 +150,7 @@ module _ (ws : List ℕ) (m cur : ℕ) (room : SCOPES.first + m < length ws) (lt
   thunk_word_lem = omega arith
 
   pub scopes_thunk : scopes_of (with_thunk ws m cur) (m + 1)
-      ≡ scopes_of ws m ++ (record { around = outward (scopes_of ws m) cur; args = none } ∷ [])
+      ≡ scopes_of ws m ++ (record { around = outward (scopes_of ws m) cur; args = None } ∷ [])
   scopes_thunk = rw thunk_word_lem (scopes_word 0 0 0 (omega arith) (omega arith) refl)
 
   pub nested_thunk : Nested ws m → Nested (with_thunk ws m cur) (m + 1)
@@ -161,7 +161,7 @@ module _ (ws : List ℕ) (m cur : ℕ) (room : SCOPES.first + m < length ws) (lt
     lambda_word_lem = omega arith
 
     pub scopes_lambda : scopes_of (with_lambda ws m cur first n) (m + 1)
-        ≡ scopes_of ws m ++ (record { around = outward (scopes_of ws m) cur; args = some (range first n) } ∷ [])
+        ≡ scopes_of ws m ++ (record { around = outward (scopes_of ws m) cur; args = Some (range first n) } ∷ [])
     scopes_lambda = rw lambda_word_lem (scopes_word first (suc n) 1 f (omega arith) refl)
 
     pub nested_lambda : Nested ws m → Nested (with_lambda ws m cur first n) (m + 1)

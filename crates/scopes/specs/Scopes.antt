@@ -1,8 +1,7 @@
 -- Scopes in words, one to a scope, from SCOPES on.
 -- In order: a scope's word and its parts; a scope opened; the scopes of the words, and what is asked of them; where a
 -- symbol is placed. Assumes nothing.
-use Rattle.std.specs.Prelude.{ℕ, zero, suc, ◌+◌, ◌*◌, ◌/◌, ◌%◌, ◌<◌, ◌≡◌, Bool, not, ◌&&◌, List, [], ◌∷◌, ◌++◌, eqb, get_or, set}
-use Rattle.std.proofs.Math.Option.{Option, none, some}
+use Rattle.std.specs.Prelude.{ℕ, zero, suc, ◌+◌, ◌*◌, ◌/◌, ◌%◌, ◌<◌, ◌≡◌, Bool, not, ◌&&◌, List, [], ◌∷◌, ◌++◌, eqb, get_or, set, Option, None, Some}
 use Rattle.model.specs.Lists.{any_in}
 use Rattle.model.specs.Intern.{Scope, root_scope, scope_at, climb}
 use Rattle.scopes.specs.Levels.{has}
@@ -31,8 +30,8 @@ abbrev pub level_of : ℕ → ℕ
 level_of w = w / 67108864
 
 abbrev pub args_from : ℕ → ℕ → Option (List ℕ)
-args_from first zero = none
-args_from first (suc n) = some (range first n)
+args_from first zero = None
+args_from first (suc n) = Some (range first n)
 
 -- a lambda's argument symbols; none of a thunk and of the outermost scope
 abbrev pub args_in : ℕ → Option (List ℕ)
@@ -70,8 +69,8 @@ scopes_of ws (suc m) = scopes_of ws m ++ (scope_from (scopes_of ws m) ws m ∷ [
 
 -- a lambda is one level deeper than the scope around it
 abbrev pub own_level : Option (List ℕ) → ℕ
-own_level none = 0
-own_level (some xs) = 1
+own_level None = 0
+own_level (Some xs) = 1
 
 -- the word of scope 0 is 0; each other of the first m scopes lies in a lower one, and is at its level or, a lambda, at
 -- the next
@@ -102,7 +101,7 @@ lambdas scs (s ∷ out) = own_level (scope_at scs s).args + lambdas scs out
 abbrev pub Tracks : List Scope → ℕ → List ℕ → List ℕ → Type 0
 Tracks scs levels deps [] = Unit {0}
 Tracks scs levels deps (s ∷ out) =
-    ((xs : List ℕ) → (scope_at scs s).args ≡ some xs → has levels (lambdas scs (s ∷ out)) ≡ any_in xs deps)
+    ((xs : List ℕ) → (scope_at scs s).args ≡ Some xs → has levels (lambdas scs (s ∷ out)) ≡ any_in xs deps)
     × Tracks scs levels deps out
 
 -- r is where a symbol that is met in scope `cur` is placed, whatever deps its levels track

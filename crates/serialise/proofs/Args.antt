@@ -3,7 +3,7 @@
 -- Assumes nothing.
 use Prim.Native.Nat.{ℕ, zero, suc, ◌+◌, ◌-◌, ◌<◌, ◌≤◌}
 use mathlib.Core.Path.{◌≡◌, refl, sym, ap, ap₂, ◌∙◌}
-use mathlib.Core.Option.{Option, none, some}
+use Rattle.std.specs.Prelude.{Option, None, Some}
 use mathlib.Core.List.{List, [], ◌∷◌, ◌++◌, append_assoc}
 use native.Mathlib.Omega.{arith}
 use lib.ListN.{length, take, drop, length-append}
@@ -32,11 +32,11 @@ unfolding opt_of
 opt_prefix l = go (a_opt l)
   where
     part : Option (List ℕ) → List ℕ
-    part o = elim o [ none ↦ [] | some rest ↦ take (length l - length rest) l ]
+    part o = elim o [ None ↦ [] | Some rest ↦ take (length l - length rest) l ]
 
     go : (o : Option (List ℕ)) → take (length (part o)) l ≡ part o
-    go none = refl
-    go (some rest) = take_cut (length l - length rest) l
+    go None = refl
+    go (Some rest) = take_cut (length l - length rest) l
 
 -- ---- renumbered arguments take as many bytes as they took
 

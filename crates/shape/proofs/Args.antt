@@ -4,7 +4,7 @@
 -- Assumes nothing.
 use Prim.Native.Nat.{ℕ, suc, ◌+◌, ◌-◌, ◌*◌, ◌<◌, ◌≤◌}
 use mathlib.Core.Path.{◌≡◌, refl, sym, ap, ◌∙◌}
-use mathlib.Core.Option.{none, some}
+use Rattle.std.specs.Prelude.{None, Some}
 use mathlib.Core.List.{List, [], ◌∷◌}
 use native.Mathlib.Omega.{arith}
 use native.Mathlib.Decide.{dec_lt, dec_le}
@@ -86,7 +86,7 @@ module _ (lit : List ℕ) (at : ℕ) where
         within = t.within.1;
       }
 
-  module _ (s : a_arg (drop at lit) ≡ none → ⊥) where
+  module _ (s : a_arg (drop at lit) ≡ None → ⊥) where
     pub stands_id : at + 4 ≤ length lit
     stands_id = elim (dec_le (at + 4) (length lit)) [
       | yes l ↦ l
@@ -112,10 +112,10 @@ module _ (lit : List ℕ) (at : ℕ) where
     stands_within = let e = stands_end in omega (arith, (opt_ends e.reads).is, e.reads.within.1)
 
     -- what is left after the argument
-    stands_rest : a_arg (drop at lit) ≡ some (drop (next_arg lit at) lit)
+    stands_rest : a_arg (drop at lit) ≡ Some (drop (next_arg lit at) lit)
     stands_rest =
         let e = stands_end in
-        then_opt ∙ sym e.reads.is ∙ ap (λ (n : ℕ). some (drop n lit)) (opt_ends e.reads).is
+        then_opt ∙ sym e.reads.is ∙ ap (λ (n : ℕ). Some (drop n lit)) (opt_ends e.reads).is
 
 -- ---- a step of the walk: with n + 1 arguments left at `at`, and with none
 
@@ -134,7 +134,7 @@ args_none bs = refl
 
 module _ {n : ℕ} {lit : List ℕ} {at : ℕ} (l : Left (suc n) lit at) where
   -- what `arg_end` requires
-  pub left_stands : a_arg (drop at lit) ≡ none → ⊥
+  pub left_stands : a_arg (drop at lit) ≡ None → ⊥
   unfolding times
   left_stands e =
       whole_stands (times (suc n) a_arg) (drop at lit) l.is (then_none a_arg (times n a_arg) (drop at lit) e)
@@ -163,7 +163,7 @@ module _ {k : ℕ} {lit : List ℕ} {at : ℕ} (h : 0 < k) (l : Left k lit at) w
   pub down_id : at + 4 ≤ length lit
   down_id = left_id one_more
 
-  pub down_stands : a_arg (drop at lit) ≡ none → ⊥
+  pub down_stands : a_arg (drop at lit) ≡ None → ⊥
   down_stands = left_stands one_more
 
   module _ {r : ℕ} (a : r ≡ next_arg lit at) where
@@ -182,7 +182,7 @@ module _ {n k : ℕ} {lit : List ℕ} {at : ℕ} (h : k < n) (l : Left (n - k) l
   pub turn_id : at + 4 ≤ length lit
   turn_id = down_id (omega arith) l
 
-  pub turn_stands : a_arg (drop at lit) ≡ none → ⊥
+  pub turn_stands : a_arg (drop at lit) ≡ None → ⊥
   turn_stands = down_stands (omega arith) l
 
   module _ {r : ℕ} (a : ArgEnd lit at r) where

@@ -5,7 +5,7 @@
 use Prim.Native.Nat.{ℕ, ◌<◌}
 use mathlib.Core.Path.{◌≡◌, refl, sym, ap, ◌∙◌}
 use mathlib.Core.Bool.{Bool, true, false, not, ◌&&◌, beq, and-false, true≢false}
-use mathlib.Core.Option.{Option, none, some}
+use Rattle.std.specs.Prelude.{Option, None, Some}
 use mathlib.Core.List.{List, [], ◌∷◌, map}
 use native.Mathlib.Omega.{arith}
 use borrow.Author.Tests.{lt-leb, eqb-true, eqb-false, eq-eqb, ne_eqb}
@@ -29,7 +29,7 @@ Answers b s o = (a : ℕ) (lit : List ℕ) → b ≡ agrees (rec s o a lit)
 
 -- whether the shape that a table gives is s; d, where it gives none
 abbrev pub named : Option ℕ → Bool → ℕ → Bool
-named r d s = elim r [ none ↦ d | some t ↦ eqb t s ]
+named r d s = elim r [ None ↦ d | Some t ↦ eqb t s ]
 
 abbrev pub agree : ℕ → ℕ → Bool
 agree s o =
@@ -48,7 +48,7 @@ unfolding is_in
 is_in_absent n [] u = refl
 is_in_absent n (x ∷ xs) u = rw (ne_eqb n x u.0, is_in) (is_in_absent n xs u.1)
 
-shape_of_absent : (o : ℕ) (ps : Pairs) → Absent o (opcodes_in ps) → shape_of ps o ≡ none
+shape_of_absent : (o : ℕ) (ps : Pairs) → Absent o (opcodes_in ps) → shape_of ps o ≡ None
 unfolding shape_of
 shape_of_absent o [] u = refl
 shape_of_absent o (p ∷ ps) u = rw (ne_eqb p.0 o (λ e. u.0 (sym e)), shape_of) (shape_of_absent o ps u.1)
@@ -114,7 +114,7 @@ module _ (s o : ℕ) (h : Free s) where
   free_is k b f e a lit = rw (agrees_is, e, lt-leb s 1 h.0, h.1) f
 
   -- an opcode of another shape's own
-  pub free_own : (k t : ℕ) → shape_of both_ways k ≡ some t → is_in t (shapes_in both_ways) ≡ true → o ≡ k
+  pub free_own : (k t : ℕ) → shape_of both_ways k ≡ Some t → is_in t (shapes_in both_ways) ≡ true → o ≡ k
       → Answers false s o
   free_own k t f i = free_is k false (rw (f, other, and-false (beq (eqb k 0) false)))
     where

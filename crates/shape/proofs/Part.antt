@@ -4,7 +4,7 @@
 use Prim.Native.Nat.{ℕ, suc, ◌+◌, ◌-◌, ◌<◌, ◌≤◌}
 use mathlib.Core.Path.{◌≡◌, refl, sym, ◌∙◌}
 use mathlib.Core.Bool.{Bool, true, false}
-use mathlib.Core.Option.{none, some}
+use Rattle.std.specs.Prelude.{None, Some}
 use mathlib.Core.List.{List, [], ◌∷◌}
 use native.Mathlib.Omega.{arith}
 use native.Mathlib.Decide.{dec_lt}
@@ -109,11 +109,11 @@ module _ {lit : List ℕ} {at : ℕ} where
 
 -- ---- one part after another
 
-pub then_some : (f g : Reader) (bs bs' : List ℕ) → f bs ≡ some bs' → (f then g) bs ≡ g bs'
+pub then_some : (f g : Reader) (bs bs' : List ℕ) → f bs ≡ Some bs' → (f then g) bs ≡ g bs'
 unfolding ◌then◌
 then_some f g bs bs' e = rw (e, ◌then◌)
 
-pub then_none : (f g : Reader) (bs : List ℕ) → f bs ≡ none → (f then g) bs ≡ none
+pub then_none : (f g : Reader) (bs : List ℕ) → f bs ≡ None → (f then g) bs ≡ None
 unfolding ◌then◌
 then_none f g bs e = rw (e, ◌then◌)
 
@@ -202,7 +202,7 @@ never e = omega (arith, go e)
     go q = cc
 
 -- a part that is not there is not the whole
-pub whole_stands : (f : Reader) (lit : List ℕ) → whole f lit ≡ true → f lit ≡ none → ⊥
+pub whole_stands : (f : Reader) (lit : List ℕ) → whole f lit ≡ true → f lit ≡ None → ⊥
 unfolding whole
 whole_stands f lit w e = never (rw (e, whole) at w)
 

@@ -2,8 +2,7 @@
 -- In order: two readers that the model does not name; an answer as a reader's; an answer within the literal; both at
 -- once; an answer that is the whole literal.
 -- Assumes nothing.
-use Rattle.std.specs.Prelude.{ℕ, ◌≤◌, ◌≡◌, Bool, false, List, eqb, length, drop}
-use Rattle.std.proofs.Math.Option.{Option, none, some}
+use Rattle.std.specs.Prelude.{ℕ, ◌≤◌, ◌≡◌, Bool, false, List, eqb, length, drop, Option, None, Some}
 use Rattle.model.specs.Shape.{Reader, a_byte, a_type, ◌then◌, a_counted}
 use Rattle.shape.specs.declared.parts.Part.{Part}
 use Rattle.shape.specs.declared.parts.Part.TheVariants.{End, Broken}
@@ -18,8 +17,8 @@ a_method = a_byte then a_byte then a_counted a_type
 
 -- what is left of a literal after a part
 abbrev pub rest : List ℕ → Part → Option (List ℕ)
-rest lit (End k) = some (drop k lit)
-rest lit Broken = none
+rest lit (End k) = Some (drop k lit)
+rest lit Broken = None
 
 -- the end lies between the start `at` and the length `n`
 abbrev pub Within : ℕ → ℕ → Part → Type 0

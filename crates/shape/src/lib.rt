@@ -6,7 +6,6 @@
 mod parts;
 
 ghost use Rattle.std.specs.Prelude.{◌≡◌, false, ◌&&◌, ℕ, ◌+◌, ◌<◌, ◌≤◌, List, map, leb, length, drop};
-ghost use Rattle.std.proofs.Math.Option.{none};
 ghost use Rattle.model.specs.Lists.{is_in};
 ghost use Rattle.model.specs.Bytes.{u32};
 ghost use Rattle.model.specs.Tree.{rec};
@@ -207,7 +206,7 @@ pub fn id_at(lit: &[u8], at: usize) -> u32
 // Where the argument at `at` ends, and the next begins.
 // Rules out: a place before the opt's type; a place past the literal's end.
 pub fn arg_end(lit: &[u8], at: usize) -> usize
-    requires { a_arg (drop at lit.now) ≡ none → ⊥ }
+    requires { a_arg (drop at lit.now) ≡ None → ⊥ }
     ensures { ArgEnd lit.now at result }
 {
     match opt_part(lit, at + 4) {

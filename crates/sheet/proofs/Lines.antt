@@ -4,7 +4,7 @@
 use Prim.Native.Nat.{ℕ, zero, suc, ◌+◌, ◌-◌, ◌/◌, ◌<◌, ◌≤◌}
 use mathlib.Core.Path.{◌≡◌, refl, ap, ◌∙◌}
 use mathlib.Core.Bool.{Bool, true, false}
-use mathlib.Core.Option.{none}
+use Rattle.std.specs.Prelude.{None}
 use mathlib.Core.List.{List, [], ◌∷◌, ◌++◌, map}
 use native.Mathlib.Omega.{arith}
 use native.Mathlib.Decide.{dec_lt}
@@ -80,7 +80,7 @@ module _ {n : ℕ} {lit : List ℕ} {at : ℕ} (h : n ≡ 0 → ⊥) (l : Left n
   pub ids_left : at + 4 ≤ length lit
   ids_left = left_id one_more
 
-  pub ids_stands : a_arg (drop at lit) ≡ none → ⊥
+  pub ids_stands : a_arg (drop at lit) ≡ None → ⊥
   ids_stands = left_stands one_more
 
   pub ids_next : {r : ℕ} → ArgEnd lit at r → Left (n - 1) lit r

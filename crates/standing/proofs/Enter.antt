@@ -4,7 +4,7 @@
 -- Assumes nothing.
 use mathlib.Core.Path.{◌≡◌, refl}
 use mathlib.Core.Bool.{Bool, true, false, not, ◌&&◌}
-use mathlib.Core.Option.{none, some}
+use Rattle.std.specs.Prelude.{None, Some}
 use mathlib.Core.List.{List, [], ◌∷◌, ◌++◌}
 use Prim.Native.Nat.{ℕ, ◌≤◌, ◌<◌}
 use native.Mathlib.Omega.{arith}
@@ -99,14 +99,14 @@ module _ {r : Rec} {ts : Trees} {def : Bool} {cur : ℕ} {env : Env} {st : State
         alloc_args at cur r (args_of r.aux r.lit) (read st) ≡ good made →
         (scope_count made.2 ≤ 2048)
         × WellAll ts false r.opcode 0 (scope_count made.2) (bind_args (args_of r.aux r.lit) made.0 env)
-        (open_scope cur (some made.0) made.2.tables made.2) 1
+        (open_scope cur (Some made.0) made.2.tables made.2) 1
     lambda_well l at made is = (
       omega (arith, kept.keeps.room.scopes_paid, kept.keeps.sound.few_readings),
       record {
         standing = body_stands before done sound;
         checked = body_checked made.0 done.many_args;
         free = 0;
-        room = open_room cur (some made.0) made.2.tables made.2 1 0 kept.keeps.room;
+        room = open_room cur (Some made.0) made.2.tables made.2 1 0 kept.keeps.room;
         pays = λ j t.
             absurd (clash (thunked r.opcode j) t
             (lambda_plain r.opcode (op_lambda r twelve w.checked.fine.1) j));
@@ -127,7 +127,7 @@ module _ {r : Rec} {ts : Trees} {def : Bool} {cur : ℕ} {env : Env} {st : State
 
         sound : StateSound Any (opened cur made)
         sound =
-            open_sound Any cur (some made.0) made.2.tables made.2 kept.keeps.sound
+            open_sound Any cur (Some made.0) made.2.tables made.2 kept.keeps.sound
             (omega (arith, before.current, kept.keeps.more_scopes)) kept.low kept.keeps.sound.tables_open
             (λ i h. h)
 
@@ -149,7 +149,7 @@ module _ {t : Tree} {ts : Trees} {b : Bool} {op j cur : ℕ} {env : Env} {st : S
     record {
       standing = thunk_stands w.standing;
       checked = checked-head t ts b (keys env) w.checked;
-      room = open_room cur none ([] ∷ st.tables) st 0 0
+      room = open_room cur None ([] ∷ st.tables) st 0 0
           (room_less st k w.free 0 1 (omega arith) (w.pays j e) w.room);
     },
   )

@@ -5,7 +5,7 @@
 use mathlib.Core.Path.{◌≡◌, refl, ap, subst, sym, ◌∙◌}
 use mathlib.Core.Logic.{inl, inr}
 use mathlib.Core.Bool.{Bool, true, false}
-use mathlib.Core.Option.{Option, some}
+use Rattle.std.specs.Prelude.{Option, Some}
 use mathlib.Core.List.{List, [], ◌∷◌}
 use Prim.Native.Nat.{ℕ, ◌<◌}
 use lib.Dec.{ltb}
@@ -25,19 +25,19 @@ use Rattle.standing.specs.Standing.{Result}
 -- ---- later states
 
 -- what has arguments is a scope
-lambda_low : (scs : List Scope) (b : ℕ) (xs : List ℕ) → (scope_at scs b).args ≡ some xs → b < length scs
+lambda_low : (scs : List Scope) (b : ℕ) (xs : List ℕ) → (scope_at scs b).args ≡ Some xs → b < length scs
 lambda_low scs b xs e = go (ltb b (length scs)) refl
   where
     go : (t : Bool) → ltb b (length scs) ≡ t → b < length scs
     go true f = ltb-true b (length scs) f
     go false f =
-        let none = get_or-eq_default scs root_scope (ltb-false b (length scs) f) in
-        none_some (sym (ap (λ (z : Scope). z.args) none) ∙ e)
+        let None = get_or-eq_default scs root_scope (ltb-false b (length scs) f) in
+        none_some (sym (ap (λ (z : Scope). z.args) None) ∙ e)
 
-args_later : {st st' : State} (b : ℕ) {xs : List ℕ} → Grow st st' → (scope_at st.scopes b).args ≡ some xs →
-    (scope_at st'.scopes b).args ≡ some xs
+args_later : {st st' : State} (b : ℕ) {xs : List ℕ} → Grow st st' → (scope_at st.scopes b).args ≡ Some xs →
+    (scope_at st'.scopes b).args ≡ Some xs
 args_later {st} b {xs} g e =
-    subst (λ (z : Scope). z.args ≡ some xs) (g.same_scopes b (lambda_low st.scopes b xs e)) e
+    subst (λ (z : Scope). z.args ≡ Some xs) (g.same_scopes b (lambda_low st.scopes b xs e)) e
 
 pub bound_later : {st st' : State} {cur a : ℕ} → Grow st st' → cur < scope_count st → Bound st.scopes cur a →
     Bound st'.scopes cur a
@@ -74,11 +74,11 @@ module _ (cur : ℕ) (o : Option (List ℕ)) (ts : List (List ℕ)) (st : State)
   }
 
 pub bound-own : (cur : ℕ) (xs : List ℕ) (ts : List (List ℕ)) (st : State) (a : ℕ) → In a xs →
-    Bound (open_scope cur (some xs) ts st).scopes (scope_count st) a
+    Bound (open_scope cur (Some xs) ts st).scopes (scope_count st) a
 bound-own cur xs ts st a k = record {
   scope = scope_count st;
   around = inl refl;
   args = xs;
-  args_is = ap (λ (z : Scope). z.args) (new_is cur (some xs) ts st);
+  args_is = ap (λ (z : Scope). z.args) (new_is cur (Some xs) ts st);
   member = k;
 }

@@ -5,7 +5,7 @@
 -- Assumes nothing.
 use mathlib.Core.Path.{refl, sym}
 use mathlib.Core.Logic.{◌⊎◌, inl, inr}
-use mathlib.Core.Option.{none, some}
+use Rattle.std.specs.Prelude.{None, Some}
 use mathlib.Core.List.{List, [], ◌∷◌}
 use Prim.Native.Nat.{ℕ, ◌<◌}
 use native.Mathlib.Omega.{arith}
@@ -82,12 +82,12 @@ pub thunk_stands : {cur : ℕ} {env : Env} {st : State} → Standing cur env st 
 thunk_stands {cur} {st} h = record {
   args = h.args;
   sound = thunk_sound Any cur st h.sound h.current;
-  current = omega (arith, open_more cur none ([] ∷ st.tables) st);
+  current = omega (arith, open_more cur None ([] ∷ st.tables) st);
   inv = λ fin scs f.
-      let g = open_grows cur none ([] ∷ st.tables) st in
+      let g = open_grows cur None ([] ∷ st.tables) st in
       let w = h.inv fin scs (fits_back fin scs st (open_thunk cur st) g f) in
       (thunk_opens cur st h.args fin scs f w.0, w.1);
-  in_scopes = λ a k. bound-inside cur none ([] ∷ st.tables) st a (h.in_scopes a k);
+  in_scopes = λ a k. bound-inside cur None ([] ∷ st.tables) st a (h.in_scopes a k);
 }
 
 -- the body of a lambda, with its arguments md made
@@ -97,10 +97,10 @@ pub body_stands : {cur : ℕ} {env : Env} {st : State} {r : Rec} {md : Symbols} 
 body_stands {cur} {env} {st} {r} {md} h made sound = record {
   args = with_args r md.0 h.args;
   sound = sound;
-  current = omega (arith, open_more cur (some md.0) md.2.tables md.2);
+  current = omega (arith, open_more cur (Some md.0) md.2.tables md.2);
   inv = λ fin scs f.
       let w = h.inv fin scs (fits_back fin scs st md.2 made.step.grows
-      (fits_back fin scs md.2 (opened cur md) (open_grows cur (some md.0) md.2.tables md.2) f)) in
+      (fits_back fin scs md.2 (opened cur md) (open_grows cur (Some md.0) md.2.tables md.2) f)) in
       (opened_inv made f w.0, opened_env made f w.0 w.1);
   in_scopes = λ a k.
       let i = has_arg a (with_args r md.0 h.args) k in
@@ -109,7 +109,7 @@ body_stands {cur} {env} {st} {r} {md} h made sound = record {
   where
     bound : (a i : ℕ) → HasArg i a h.args ⊎ In a md.0 → Bound (opened cur md).scopes (scope_count md.2) a
     bound a i (inl k) =
-        bound-inside cur (some md.0) md.2.tables md.2 a
+        bound-inside cur (Some md.0) md.2.tables md.2 a
         (bound_later made.step.grows h.current (h.in_scopes a (arg_in i a h.args k)))
     bound a i (inr k) = bound-own cur md.0 md.2.tables md.2 a k
 

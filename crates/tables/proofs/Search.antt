@@ -4,7 +4,7 @@
 use Prim.Native.Nat.{ℕ, zero, suc, ◌+◌, ◌-◌, ◌<◌, ◌≤◌}
 use mathlib.Core.Path.{◌≡◌, ap, ◌∙◌}
 use mathlib.Core.Bool.{Bool, true, false}
-use mathlib.Core.Option.{Option, none, some}
+use Rattle.std.specs.Prelude.{Option, None, Some}
 use mathlib.Core.List.{List, ◌∷◌}
 use native.Mathlib.Omega.{arith}
 use lib.ListN.{get_or}
@@ -18,9 +18,9 @@ module _ (ss : List Sym) (r : Rec) (ks : List ℕ) where
   -- ---- one entry more
 
   abbrev or_rest : ℕ → List ℕ → Bool → Option ℕ
-  or_rest s es t = elim t [ true ↦ some s | false ↦ lookup_in ss r ks es ]
+  or_rest s es t = elim t [ true ↦ Some s | false ↦ lookup_in ss r ks es ]
 
-  entry_hit : (s : ℕ) (es : List ℕ) → is_key ss r ks s ≡ true → lookup_in ss r ks (s ∷ es) ≡ some s
+  entry_hit : (s : ℕ) (es : List ℕ) → is_key ss r ks s ≡ true → lookup_in ss r ks (s ∷ es) ≡ Some s
   unfolding lookup_in
   entry_hit s es e = ap (or_rest s es) e
 
@@ -31,13 +31,13 @@ module _ (ss : List Sym) (r : Rec) (ks : List ℕ) where
   -- ---- one table more
 
   abbrev or_older : List (List ℕ) → Option ℕ → Option ℕ
-  or_older ts o = elim o [ some i ↦ some i | none ↦ lookup ss r ks ts ]
+  or_older ts o = elim o [ Some i ↦ Some i | None ↦ lookup ss r ks ts ]
 
-  table_hit : (t : List ℕ) (ts : List (List ℕ)) (s : ℕ) → lookup_in ss r ks t ≡ some s → lookup ss r ks (t ∷ ts) ≡ some s
+  table_hit : (t : List ℕ) (ts : List (List ℕ)) (s : ℕ) → lookup_in ss r ks t ≡ Some s → lookup ss r ks (t ∷ ts) ≡ Some s
   unfolding lookup
   table_hit t ts s e = ap (or_older ts) e
 
-  table_miss : (t : List ℕ) (ts : List (List ℕ)) → lookup_in ss r ks t ≡ none →
+  table_miss : (t : List ℕ) (ts : List (List ℕ)) → lookup_in ss r ks t ≡ None →
       lookup ss r ks (t ∷ ts) ≡ lookup ss r ks ts
   unfolding lookup
   table_miss t ts e = ap (or_older ts) e
@@ -53,12 +53,12 @@ module _ (ss : List Sym) (r : Rec) (ks : List ℕ) where
         let f : start + (k - 1 - start) ≡ k - 1 = omega arith in
         stack_newest (λ j. entry_symbol ws (start + j)) (k - start) (omega arith) ∙ rw (e, f)
 
-    pub entries-end : (start k : ℕ) → k ≤ start → lookup_in ss r ks (entries ws start (k - start)) ≡ none
+    pub entries-end : (start k : ℕ) → k ≤ start → lookup_in ss r ks (entries ws start (k - start)) ≡ None
     unfolding entries stack_of lookup_in
     entries-end start k le = let e : k - start ≡ 0 = omega arith in rw e
 
     pub entries_hit : (start k : ℕ) → start < k → is_key ss r ks (entry_symbol ws (k - 1)) ≡ true →
-        lookup_in ss r ks (entries ws start (k - start)) ≡ some (entry_symbol ws (k - 1))
+        lookup_in ss r ks (entries ws start (k - start)) ≡ Some (entry_symbol ws (k - 1))
     entries_hit start k lt e =
         ap (lookup_in ss r ks) (entries_newest start k lt)
         ∙ entry_hit (entry_symbol ws (k - 1)) (entries ws start (k - 1 - start)) e
@@ -83,15 +83,15 @@ module _ (ss : List Sym) (r : Rec) (ks : List ℕ) where
       tables_newest zero end lt = absurd (omega arith)
       tables_newest (suc d) end lt = let e : suc d - 1 ≡ d = omega arith in rw e
 
-      pub tables_end : (d end : ℕ) → d ≤ 0 → lookup ss r ks (tables ws base d end) ≡ none
+      pub tables_end : (d end : ℕ) → d ≤ 0 → lookup ss r ks (tables ws base d end) ≡ None
       unfolding tables lookup
       tables_end d end le = let e : d ≡ 0 = omega arith in rw e
 
-      pub tables_hit : (d end s : ℕ) → 0 < d → lookup_in ss r ks (top d end) ≡ some s →
-          lookup ss r ks (tables ws base d end) ≡ some s
+      pub tables_hit : (d end s : ℕ) → 0 < d → lookup_in ss r ks (top d end) ≡ Some s →
+          lookup ss r ks (tables ws base d end) ≡ Some s
       tables_hit d end s lt e =
           ap (lookup ss r ks) (tables_newest d end lt) ∙ table_hit (top d end) (older d) s e
 
-      pub tables_miss : (d end : ℕ) → 0 < d → lookup_in ss r ks (top d end) ≡ none →
+      pub tables_miss : (d end : ℕ) → 0 < d → lookup_in ss r ks (top d end) ≡ None →
           lookup ss r ks (tables ws base d end) ≡ lookup ss r ks (older d)
       tables_miss d end lt e = ap (lookup ss r ks) (tables_newest d end lt) ∙ table_miss (top d end) (older d) e

@@ -1,8 +1,7 @@
 -- The open tables that work words hold, as model has them: the newest table first, in a table the newest entry first.
 -- In order: answers; an entry; entries and tables; the first table, and one more; what holds of them; keys.
 -- Assumes nothing.
-use Rattle.std.specs.Prelude.{ℕ, zero, suc, ◌+◌, ◌*◌, ◌-◌, ◌/◌, ◌%◌, ◌<◌, ◌≤◌, ◌≡◌, Bool, ◌&&◌, List, [], ◌∷◌, length, get_or, set, replicate}
-use Rattle.std.proofs.Math.Option.{Option, none, some}
+use Rattle.std.specs.Prelude.{ℕ, zero, suc, ◌+◌, ◌*◌, ◌-◌, ◌/◌, ◌%◌, ◌<◌, ◌≤◌, ◌≡◌, Bool, ◌&&◌, List, [], ◌∷◌, length, get_or, set, replicate, Option, None, Some}
 use Rattle.model.specs.Lists.{same}
 use Rattle.model.specs.Tree.{same_rec}
 use Rattle.laws.specs.Stack.{stack_of}
@@ -17,8 +16,8 @@ use Rattle.tables.specs.declared.Found.TheVariants.{At, Nothing}
 -- ---- answers
 
 abbrev pub found_of : Found → Option ℕ
-found_of (At s) = some s
-found_of Nothing = none
+found_of (At s) = Some s
+found_of Nothing = None
 
 -- ---- an entry: a symbol, and above it the hint of its key
 

@@ -7,7 +7,6 @@
 
 ghost use Rattle.std.specs.Prelude.{◌≡◌, ◌<◌, ◌≤◌, length, take, OnOk, IfSome};
 ghost use Rattle.std.specs.Io.KnownBytes.{Appends};
-ghost use Rattle.std.proofs.Math.Option.{none, some};
 ghost use Rattle.model.specs.Tree.{rows};
 ghost use Rattle.model.specs.Forest.{record_count, rows_in};
 ghost use Rattle.model.specs.Call.{Written, ample, out_after, work_after};
@@ -25,7 +24,7 @@ use walk::Place;
 fn put_two_values(forest: &[u8], p: usize, line: &mut [u8]) -> usize
     requires laid { Laid forest.now }
     requires p_bound { (p < record_count forest.now) × (80 ≤ length line.old) }
-    ensures { (w : Written) → Wrote line.old 0 (verdict forest.now w (some p))
+    ensures { (w : Written) → Wrote line.old 0 (verdict forest.now w (Some p))
         line.new result }
 {
     let mark = record::mark(record::aux(forest, p));
@@ -46,7 +45,7 @@ fn put_template(forest: &[u8], tree: &[u8], line: &mut [u8]) -> usize
     requires laid_2 { Laid tree.now }
     requires in_bounds { 80 ≤ length line.old }
     ensures { (w : Written) → rows_in tree.now ≡ rows w.tree → Wrote line.old 0
-        (verdict forest.now w none) line.new result }
+        (verdict forest.now w None) line.new result }
 {
     let d = parameters::definitions(tree);
     let p = parameters::parameters(forest);

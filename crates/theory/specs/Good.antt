@@ -2,8 +2,7 @@
 -- In order: the parts of a symbol; scopes; a result that may be built in its scope (`PairOk`); plain symbols (`Plain`),
 -- lambdas (`Lam`), and all by their node (`NodeOk`, `SymOk`).
 -- `fin` and `scs` are the symbols and the scopes at the end of interning. Assumes nothing.
-use Rattle.std.specs.Prelude.{◌≡◌, ◌⊎◌, Bool, true, false, List, [], ◌∷◌, ℕ, suc, ◌≤◌, ◌<◌, length, get_or}
-use Rattle.std.proofs.Math.Option.{Option, none, some}
+use Rattle.std.specs.Prelude.{◌≡◌, ◌⊎◌, Bool, true, false, List, [], ◌∷◌, ℕ, suc, ◌≤◌, ◌<◌, length, get_or, Option, None, Some}
 use Rattle.model.specs.Tree.{Rec}
 use Rattle.model.specs.Shape.{fits, agrees}
 use Rattle.model.specs.Binding.{Kind, kind, val_use, val_def, block, lambda, field, other}
@@ -51,8 +50,8 @@ no_arg (func xs b) = true
 no_arg (operation brs) = true
 
 abbrev pub args_in : Option (List ℕ) → List ℕ
-args_in none = []
-args_in (some xs) = xs
+args_in None = []
+args_in (Some xs) = xs
 
 -- the argument symbols of a scope's lambda
 abbrev pub args_at : List Scope → ℕ → List ℕ

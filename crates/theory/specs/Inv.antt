@@ -2,8 +2,7 @@
 -- In order: arguments in force (`Args`); tables, scopes and remembered projections; the invariant; what an environment
 -- gives (`EnvOk`); states that grow (`Grow`, `Fits`).
 -- A state is judged from the symbols and scopes at the end, of which it has the first (`Fits`). Assumes nothing.
-use Rattle.std.specs.Prelude.{◌≡◌, ◌⊎◌, true, List, [], ◌∷◌, ℕ, ◌≤◌, ◌<◌, get_or}
-use Rattle.std.proofs.Math.Option.{some}
+use Rattle.std.specs.Prelude.{◌≡◌, ◌⊎◌, true, List, [], ◌∷◌, ℕ, ◌≤◌, ◌<◌, get_or, Some}
 use Rattle.model.specs.Tree.{Rec, rec}
 use Rattle.model.specs.Binding.{arg_ids}
 use Rattle.model.specs.Intern.{func, Sym, Scope, State, Env, sym_at, root_scope, recall, resolve}
@@ -61,7 +60,7 @@ pub record Inv (fin : List Sym) (scs : List Scope) (st : State) (A : Args) (cur 
   -- tables hold symbols, and no arguments
   pub tables_ok : (i : ℕ) → InAny i st.tables → (i < sym_count st) × (no_arg (node_at fin i) ≡ true)
   -- what is remembered are fields 1 and 2
-  pub memo_ok : (p a b : ℕ) → recall st.memo p ≡ some (a, b) →
+  pub memo_ok : (p a b : ℕ) → recall st.memo p ≡ Some (a, b) →
       FieldOk fin (sym_count st) p 1 a × FieldOk fin (sym_count st) p 2 b
   pub args_low : (b a : ℕ) → b < scope_count st → In a (args_at scs b) → a < sym_count st
   pub arg_low : (i a : ℕ) → HasArg i a A → a < sym_count st

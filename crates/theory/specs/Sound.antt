@@ -2,8 +2,7 @@
 -- that every number stored in a state is lower than what it counts.
 -- In order: records whose numbers satisfy B; `Sound`, the invariant of a state; `Room` and `Pays`, what readings pay for.
 -- B is a property of numbers, such as being a byte; `Any` asks nothing of them. Assumes nothing.
-use Rattle.std.specs.Prelude.{◌≡◌, true, false, List, [], ◌∷◌, ℕ, suc, ◌+◌, ◌≤◌, ◌<◌, length, get_or}
-use Rattle.std.proofs.Math.Option.{some}
+use Rattle.std.specs.Prelude.{◌≡◌, true, false, List, [], ◌∷◌, ℕ, suc, ◌+◌, ◌≤◌, ◌<◌, length, get_or, Some}
 use Rattle.model.specs.Tree.{Rec, Tree, Trees, node, nil, cons}
 use Rattle.model.specs.Intern.{Node, constant, unparsed, argument, func, operation, Sym, Scope, State, sym_at, root_scope, recall, thunked}
 use Rattle.laws.specs.Slots.{slots_in}
@@ -62,7 +61,7 @@ pub record StateSound (B : ℕ → Type 0) (st : State) : Type 0 where
   pub syms_sound : (i : ℕ) → i < sym_count st → SymSound B i (scope_count st) (sym_at st.syms i)
   pub tables_open : 1 ≤ length st.tables
   pub tables_low : (i : ℕ) → InAny i st.tables → i < sym_count st
-  pub memo_low : (p a b : ℕ) → recall st.memo p ≡ some (a, b) → (a < sym_count st) × (b < sym_count st)
+  pub memo_low : (p a b : ℕ) → recall st.memo p ≡ Some (a, b) → (a < sym_count st) × (b < sym_count st)
   pub around_low : (b : ℕ) → b < scope_count st → Under b (scope_of st b).around
   pub args_low : (b : ℕ) → b < scope_count st → Under (sym_count st) (args_in (scope_of st b).args)
 

@@ -4,7 +4,7 @@
 use Prim.Native.Nat.{ℕ}
 use mathlib.Core.Path.{◌≡◌, refl}
 use mathlib.Core.Bool.{Bool, true, false, ◌||◌}
-use mathlib.Core.Option.{none}
+use Rattle.std.specs.Prelude.{None}
 use lib.Dec.{eqb, ltb}
 use Rattle.model.specs.Lists.{first}
 use Rattle.model.specs.Tree.{Rec, Tree, Trees, node, nil, cons}
@@ -68,7 +68,7 @@ any_covers n c r =
 
 -- ---- the walks
 
-pub any_none : (n : ℕ) (ts : Trees) → first (faults_in (check_by 0) ts start) ≡ none →
-    first (faults_in (check_by n) ts start) ≡ none
+pub any_none : (n : ℕ) (ts : Trees) → first (faults_in (check_by 0) ts start) ≡ None →
+    first (faults_in (check_by n) ts start) ≡ None
 any_none n ts e =
     clear_first _ (clear_trees (test 0) (test n) (any_covers n) ts start (first_clear _ e))

@@ -4,7 +4,7 @@
 use Prim.Native.Nat.{ℕ, zero, suc, ◌+◌, ◌-◌, ◌*◌, ◌<◌, ◌≤◌}
 use mathlib.Core.Path.{◌≡◌, refl, sym, ap, ◌∙◌, subst}
 use mathlib.Core.Bool.{Bool, true, false, not}
-use mathlib.Core.Option.{none}
+use Rattle.std.specs.Prelude.{None}
 use mathlib.Core.List.{List, ◌∷◌, map, []}
 use native.Mathlib.Omega.{arith}
 use native.Mathlib.Decide.{dec_lt}
@@ -69,7 +69,7 @@ many-drop zero ts = omega arith
 many-drop (suc n) nil = omega arith
 many-drop (suc n) (cons t ts) = omega (arith, many-drop n ts)
 
-unclosed_closed : (n at : ℕ) (rs : List Row) → unclosed n at rs ≡ none → (many (grow rs) ≡ n) × Closed rs
+unclosed_closed : (n at : ℕ) (rs : List Row) → unclosed n at rs ≡ None → (many (grow rs) ≡ n) × Closed rs
 unfolding unclosed grow many
 unclosed_closed zero at [] e = (refl, tt)
 unclosed_closed (suc n) at [] e = some_none e
@@ -85,11 +85,11 @@ closed_at (r ∷ rs) (suc i) h l = closed_at rs i h.1 (omega arith)
 
 -- ---- counts
 
-pub tree_count_lem : (bs : List ℕ) → check6 bs ≡ none → many (trees_of bs) ≡ tree_count bs
+pub tree_count_lem : (bs : List ℕ) → check6 bs ≡ None → many (trees_of bs) ≡ tree_count bs
 unfolding check6 trees_of
 tree_count_lem bs e = (unclosed_closed (tree_count bs) 0 (rows_in bs) e).0
 
-pub kids_there : (bs : List ℕ) (i : ℕ) → check6 bs ≡ none → i < record_count bs →
+pub kids_there : (bs : List ℕ) (i : ℕ) → check6 bs ≡ None → i < record_count bs →
     (row_at bs i).kids ≤ many (trees_from bs (i + 1))
 unfolding check6 trees_from row_at
 kids_there bs i e l =
@@ -103,7 +103,7 @@ clear_at f [] i h l = absurd (omega arith)
 clear_at f (r ∷ rs) zero h l = h.0
 clear_at f (r ∷ rs) (suc i) h l = clear_at f rs i h.1 (omega arith)
 
-pub row_fits : (bs : List ℕ) (i : ℕ) → check4 bs ≡ none → i < record_count bs → fits (row_at bs i) ≡ true
+pub row_fits : (bs : List ℕ) (i : ℕ) → check4 bs ≡ None → i < record_count bs → fits (row_at bs i) ≡ true
 unfolding check4 row_at
 row_fits bs i e l =
     let m : i < length (rows_in bs) = omega (arith, row_count bs) in

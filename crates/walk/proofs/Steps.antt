@@ -4,7 +4,7 @@
 use Prim.Native.Nat.{ℕ, zero, suc, ◌+◌, ◌-◌, ◌<◌, ◌≤◌}
 use mathlib.Core.Path.{◌≡◌, refl, sym, ap, ◌∙◌}
 use mathlib.Core.Bool.{Bool, true, false, not, ◌&&◌}
-use mathlib.Core.Option.{Option, none, some}
+use Rattle.std.specs.Prelude.{Option, None, Some}
 use mathlib.Core.List.{List, ◌∷◌, ◌++◌, []}
 use native.Mathlib.Omega.{arith}
 use borrow.Author.Tests.{lt-ltb, le-ltb}
@@ -24,40 +24,40 @@ use Rattle.walk.proofs.Bridge.{trees_at}
 -- ---- the first fault of two lists in a row
 
 shift-shift : (i n : ℕ) (o : Option ℕ) → shift i (shift n o) ≡ shift (i + n) o
-shift-shift i n none = refl
-shift-shift i n (some q) = ap some (omega arith)
+shift-shift i n None = refl
+shift-shift i n (Some q) = ap Some (omega arith)
 
 pub shift_zero : (o : Option ℕ) → shift 0 o ≡ o
-shift_zero none = refl
-shift_zero (some q) = ap some (omega arith)
+shift_zero None = refl
+shift_zero (Some q) = ap Some (omega arith)
 
-shift_none : (i : ℕ) (o : Option ℕ) → none ≡ shift i o → o ≡ none
-shift_none i none e = refl
-shift_none i (some q) e = some_none (sym e)
+shift_none : (i : ℕ) (o : Option ℕ) → None ≡ shift i o → o ≡ None
+shift_none i None e = refl
+shift_none i (Some q) e = some_none (sym e)
 
 first_false : (bs : List Bool) → first (false ∷ bs) ≡ shift 1 (first bs)
 unfolding first
 first_false bs = go (first bs)
   where
-    go : (o : Option ℕ) → ◌≡◌ {A = Option ℕ} (elim o [ none ↦ none | some i ↦ some (suc i) ]) (shift 1 o)
-    go none = refl
-    go (some q) = ap some (omega arith)
+    go : (o : Option ℕ) → ◌≡◌ {A = Option ℕ} (elim o [ None ↦ None | Some i ↦ Some (suc i) ]) (shift 1 o)
+    go None = refl
+    go (Some q) = ap Some (omega arith)
 
-first_true : (bs : List Bool) → first (true ∷ bs) ≡ some 0
+first_true : (bs : List Bool) → first (true ∷ bs) ≡ Some 0
 unfolding first
 first_true bs = refl
 
 -- the test of record i, and the tests after it
-pub shift_hit : (i : ℕ) (b : Bool) (bs : List Bool) → b ≡ true → shift i (first (b ∷ bs)) ≡ some i
+pub shift_hit : (i : ℕ) (b : Bool) (bs : List Bool) → b ≡ true → shift i (first (b ∷ bs)) ≡ Some i
 shift_hit i b bs e =
-    ap (λ (z : Bool). shift i (first (z ∷ bs))) e ∙ ap (shift i) (first_true bs) ∙ ap some (omega arith)
+    ap (λ (z : Bool). shift i (first (z ∷ bs))) e ∙ ap (shift i) (first_true bs) ∙ ap Some (omega arith)
 
 pub shift_miss : (i : ℕ) (b : Bool) (bs : List Bool) → b ≡ false → shift i (first (b ∷ bs)) ≡ shift (i + 1) (first bs)
 shift_miss i b bs e =
     ap (λ (z : Bool). shift i (first (z ∷ bs))) e ∙ ap (shift i) (first_false bs) ∙ shift-shift i 1 (first bs)
 
 -- no fault in the first list
-first_later : (xs ys : List Bool) → first xs ≡ none → first (xs ++ ys) ≡ shift (length xs) (first ys)
+first_later : (xs ys : List Bool) → first xs ≡ None → first (xs ++ ys) ≡ shift (length xs) (first ys)
 first_later [] ys e = sym (shift_zero (first ys))
 first_later (true ∷ xs) ys e = some_none (sym (first_true xs) ∙ e)
 first_later (false ∷ xs) ys e =
@@ -67,22 +67,22 @@ first_later (false ∷ xs) ys e =
     ∙ ap (λ (n : ℕ). shift n (first ys)) (omega arith)
 
 -- a fault in the first list
-first_sooner : (xs ys : List Bool) (q : ℕ) → first xs ≡ some q → first (xs ++ ys) ≡ some q
+first_sooner : (xs ys : List Bool) (q : ℕ) → first xs ≡ Some q → first (xs ++ ys) ≡ Some q
 unfolding first
 first_sooner [] ys q e = some_none (sym e)
 first_sooner (true ∷ xs) ys q e = first_true (xs ++ ys) ∙ sym (first_true xs) ∙ e
 first_sooner (false ∷ xs) ys q e = go (first xs) refl (λ r f. first_sooner xs ys r f)
   where
-    go : (o : Option ℕ) → first xs ≡ o → ((r : ℕ) → first xs ≡ some r → first (xs ++ ys) ≡ some r) →
-        first (false ∷ (xs ++ ys)) ≡ some q
-    go none f g = some_none (sym (sym (ap (shift 1) f) ∙ sym (first_false xs) ∙ e))
-    go (some r) f g = first_false (xs ++ ys) ∙ ap (shift 1) (g r f) ∙ sym (ap (shift 1) f) ∙ sym (first_false xs) ∙ e
+    go : (o : Option ℕ) → first xs ≡ o → ((r : ℕ) → first xs ≡ Some r → first (xs ++ ys) ≡ Some r) →
+        first (false ∷ (xs ++ ys)) ≡ Some q
+    go None f g = some_none (sym (sym (ap (shift 1) f) ∙ sym (first_false xs) ∙ e))
+    go (Some r) f g = first_false (xs ++ ys) ∙ ap (shift 1) (g r f) ∙ sym (ap (shift 1) f) ∙ sym (first_false xs) ∙ e
 
 -- ---- a record and its children
 
 module _ {C : Type 0} (k : Check C) where
   pub node_offends : (i : ℕ) (r : Rec) (ts : Trees) (c : C) → k.offends c r ≡ true →
-      some i ≡ shift i (first (faults k (node r ts) c))
+      Some i ≡ shift i (first (faults k (node r ts) c))
   unfolding faults
   node_offends i r ts c e = sym (shift_hit i (k.offends c r) (faults_in k ts (k.inner r c)) e)
 
@@ -93,7 +93,7 @@ module _ {C : Type 0} (k : Check C) where
 
   -- ---- trees in a row
 
-  row_passes : (j : ℕ) (t : Tree) (ts : Trees) (c : C) → none ≡ shift j (first (faults k t (k.here c ts))) →
+  row_passes : (j : ℕ) (t : Tree) (ts : Trees) (c : C) → None ≡ shift j (first (faults k t (k.here c ts))) →
       shift (j + size t) (first (faults_in k ts (k.later t c))) ≡ shift j (first (faults_in k (cons t ts) c))
   unfolding faults
   row_passes j t ts c e =
@@ -101,18 +101,18 @@ module _ {C : Type 0} (k : Check C) where
       ∙ sym (shift-shift j (length (faults k t (k.here c ts))) (first (faults_in k ts (k.later t c))))
       ∙ ap (shift j) (sym (first_later (faults k t (k.here c ts)) (faults_in k ts (k.later t c)) clear))
     where
-      clear : first (faults k t (k.here c ts)) ≡ none
+      clear : first (faults k t (k.here c ts)) ≡ None
       clear = shift_none j (first (faults k t (k.here c ts))) e
 
-  row_offends : (j q : ℕ) (t : Tree) (ts : Trees) (c : C) → some q ≡ shift j (first (faults k t (k.here c ts))) →
-      some q ≡ shift j (first (faults_in k (cons t ts) c))
+  row_offends : (j q : ℕ) (t : Tree) (ts : Trees) (c : C) → Some q ≡ shift j (first (faults k t (k.here c ts))) →
+      Some q ≡ shift j (first (faults_in k (cons t ts) c))
   unfolding faults
   row_offends j q t ts c e = go (first (faults k t (k.here c ts))) refl e
     where
-      go : (o : Option ℕ) → first (faults k t (k.here c ts)) ≡ o → some q ≡ shift j o →
-          some q ≡ shift j (first (faults k t (k.here c ts) ++ faults_in k ts (k.later t c)))
-      go none f g = some_none g
-      go (some r) f g =
+      go : (o : Option ℕ) → first (faults k t (k.here c ts)) ≡ o → Some q ≡ shift j o →
+          Some q ≡ shift j (first (faults k t (k.here c ts) ++ faults_in k ts (k.later t c)))
+      go None f g = some_none g
+      go (Some r) f g =
           g ∙ ap (shift j) (sym (first_sooner (faults k t (k.here c ts)) (faults_in k ts (k.later t c)) r f))
 
 take-cons : (n : ℕ) (t : Tree) (ts : Trees) → 0 < n → take_t n (cons t ts) ≡ cons t (take_t (n - 1) ts)
@@ -148,7 +148,7 @@ module _ (bs : List ℕ) (p : Ctx → Rec → Bool) (i count : ℕ) (c : Ctx) wh
 
   module _ (j left : ℕ) (d : Ctx) (h : Remains bs p i count c j left d) where
     pub remains_end : left ≤ 0 →
-        (none ≡ shift i (first (faults_in (testing p) (take_t count (trees_from bs i)) c))) × Comes bs i
+        (None ≡ shift i (first (faults_in (testing p) (take_t count (trees_from bs i)) c))) × Comes bs i
         (sizes (take_t count (trees_from bs i))) (drop_t count (trees_from bs i)) (Next j)
     unfolding take_t drop_t faults size first
     remains_end l =
@@ -180,14 +180,14 @@ module _ (bs : List ℕ) (p : Ctx → Rec → Bool) (i count : ℕ) (c : Ctx) wh
           ap (λ (b : Bool). record { depth = d.depth; def = d.def && b; ids = d.ids })
           (here_is (left - 1) (rest_at bs j) still_there)
 
-      pub remains_offends : (q : ℕ) → some q ≡ shift j (first (faults (testing p) (tree_at bs j) stands)) →
-          some q ≡ shift i (first (faults_in (testing p) (take_t count (trees_from bs i)) c))
+      pub remains_offends : (q : ℕ) → Some q ≡ shift j (first (faults (testing p) (tree_at bs j) stands)) →
+          Some q ≡ shift i (first (faults_in (testing p) (take_t count (trees_from bs i)) c))
       remains_offends q e =
           row_offends (testing p) j q (tree_at bs j) (take_t (left - 1) (rest_at bs j)) d (rw stands_here e)
           ∙ ap (λ (ts : Trees). shift j (first (faults_in (testing p) ts d))) (sym take_left)
           ∙ h.fault
 
-      pub remains_turn : (next : ℕ) (d' : Ctx) → none ≡ shift j (first (faults (testing p) (tree_at bs j) stands)) →
+      pub remains_turn : (next : ℕ) (d' : Ctx) → None ≡ shift j (first (faults (testing p) (tree_at bs j) stands)) →
           next ≡ j + size (tree_at bs j) → trees_from bs next ≡ rest_at bs j → d' ≡ (testing p).later (tree_at bs j) d →
           Remains bs p i count c next (left - 1) d'
       unfolding size

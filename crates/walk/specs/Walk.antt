@@ -1,8 +1,7 @@
 -- The walk by record number: the trees from a record on, and what walking one of them, or several, gives.
 -- In order: trees by record number; what a walk requires; places; what a walk ensures.
 -- Assumes nothing.
-use Rattle.std.specs.Prelude.{ℕ, ◌+◌, ◌*◌, ◌≤◌, ◌≡◌, List, drop}
-use Rattle.std.proofs.Math.Option.{Option, none, some}
+use Rattle.std.specs.Prelude.{ℕ, ◌+◌, ◌*◌, ◌≤◌, ◌≡◌, List, drop, Option, None, Some}
 use Rattle.model.specs.Lists.{first}
 use Rattle.model.specs.Tree.{Rec, Tree, Trees, node, take_t, drop_t, size, sizes, grow}
 use Rattle.model.specs.Faults.{faults, faults_in}
@@ -43,8 +42,8 @@ tree_at bs i = node (rec_at bs i) (kid_trees_at bs i)
 -- records lie where the directory says, fit their shapes, and close
 pub record WellFormed (bs : List ℕ) : Type 0 where
   pub laid : Laid bs
-  pub fit : check4 bs ≡ none
-  pub closed : check6 bs ≡ none
+  pub fit : check4 bs ≡ None
+  pub closed : check6 bs ≡ None
 
 -- record i can stand there: each record before it binds at most 15 ids, and takes the depth up by at most one
 pub record CanStand (i : ℕ) (c : Context) : Type 0 where
@@ -54,17 +53,17 @@ pub record CanStand (i : ℕ) (c : Context) : Type 0 where
 -- ---- places
 
 abbrev pub place_of : Place → Option ℕ
-place_of (At p) = some p
-place_of Nowhere = none
+place_of (At p) = Some p
+place_of Nowhere = None
 
 abbrev pub fault_of : Walk → Option ℕ
-fault_of (Next j) = none
-fault_of (Fault p) = some p
+fault_of (Next j) = None
+fault_of (Fault p) = Some p
 
 -- a place counted from i on
 abbrev pub shift : ℕ → Option ℕ → Option ℕ
-shift i none = none
-shift i (some p) = some (i + p)
+shift i None = None
+shift i (Some p) = Some (i + p)
 
 -- ---- what a walk ensures
 

@@ -1,6 +1,6 @@
 -- `interner::find_or_make` meets its contract. Assumes nothing.
 use mathlib.Core.Path.{ap}
-use mathlib.Core.Option.{none}
+use Rattle.std.specs.Prelude.{None}
 use Rattle.tables.specs.Tables.{found_of}
 use Rattle.interner.proofs.Ready.{ready_levels}
 use Rattle.interner.proofs.Keys.{found_answers, made_answers, found_is, sought_entries, pending_read}
@@ -33,6 +33,6 @@ pub returns-in-Nothing : goal.returns-in-Nothing
 returns-in-Nothing c =
     let p = c.requires in
     made_answers p.rep p.fact p.ready
-    (found_is p.rep p.fact p.ready _ c.parts_of-p.ensures c.find.result none c.find.ensures
+    (found_is p.rep p.fact p.ready _ c.parts_of-p.ensures c.find.result None c.find.ensures
     (ap found_of c.in-Nothing.is))
     (c.alloc.ensures c.args.t p.fact)

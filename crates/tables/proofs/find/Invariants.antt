@@ -1,7 +1,7 @@
 -- `tables::find` in its loops: what stays, and what falls. Assumes nothing.
 use Prim.Native.Nat.{ℕ, ◌-◌, ◌≤◌}
 use mathlib.Core.Path.{◌≡◌}
-use mathlib.Core.Option.{Option}
+use Rattle.std.specs.Prelude.{Option}
 use mathlib.Core.List.{List}
 use Rattle.model.specs.Intern.{lookup_in, lookup}
 use Rattle.symbols.specs.Words.{pending_from}

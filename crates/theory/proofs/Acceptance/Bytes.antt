@@ -6,7 +6,7 @@
 -- Assumes nothing.
 use mathlib.Core.Path.{◌≡◌, refl, ap, ap₂, sym, ◌∙◌}
 use mathlib.Core.Bool.{false, not, ◌||◌}
-use mathlib.Core.Option.{none}
+use Rattle.std.specs.Prelude.{None}
 use mathlib.Core.List.{List, [], ◌∷◌, ◌++◌, append_assoc, append-nil}
 use Prim.Native.Nat.{ℕ, suc, ◌+◌, ◌*◌, ◌≤◌}
 use native.Mathlib.Omega.{arith}
@@ -163,7 +163,7 @@ module _ (k : ℕ) (rs : List Row) (trees : (1 ≤ k) × (k ≤ 16)) (records : 
   length_is : length all ≡ 4 + 4 * length rs + total rs
   length_is = forest_length k rs
 
-  pub laid_passes_2 : check2 all ≡ none
+  pub laid_passes_2 : check2 all ≡ None
   unfolding check2
   laid_passes_2 =
       rw (laid_trees k rs, laid_count k rs)
@@ -173,7 +173,7 @@ module _ (k : ℕ) (rs : List Row) (trees : (1 ≤ k) × (k ≤ 16)) (records : 
       (both_and _ _ (both_and _ _ (le-leb 1 k trees.0) (le-leb k 16 trees.1)) (le-leb 1 (length rs) records.0))
       (le-leb (length rs) 256 records.1)))))
 
-  pub laid_passes_3 : check3 all ≡ none
+  pub laid_passes_3 : check3 all ≡ None
   unfolding check3
   laid_passes_3 =
       rw (le-ltb (length all) (body_start all) (omega (arith, length_is, laid_start k rs)), check3)
@@ -215,21 +215,21 @@ module _ (t : Tree) (c : Checked t false []) (few : size t ≤ 256) (short : len
   few_rows : length rs ≤ 256
   few_rows = omega (arith, count_is)
 
-  passes_2 : check2 bs ≡ none
+  passes_2 : check2 bs ≡ None
   unfolding serialise many
   passes_2 = laid_passes_2 1 rs (omega arith, omega arith) (some_rows, few_rows) short
 
-  passes_3 : check3 bs ≡ none
+  passes_3 : check3 bs ≡ None
   unfolding serialise many
   passes_3 = laid_passes_3 1 rs (omega arith, omega arith) (some_rows, few_rows) short
 
-  passes_6 : check6 bs ≡ none
+  passes_6 : check6 bs ≡ None
   unfolding check6 serialise many unclosed
   passes_6 =
       rw (laid_trees 1 rs, laid_rows 1 rs)
       (ap (λ (z : List Row). unclosed 1 0 z) (sym (append-nil rs)) ∙ trees_close (cons t nil) 0 0 [])
 
-  passes_7 : check7 bs ≡ none
+  passes_7 : check7 bs ≡ None
   unfolding check7 depths
   passes_7 = rw trees_are (clear_first _ (trees_shallow (cons t nil) 1 (omega arith)))
 

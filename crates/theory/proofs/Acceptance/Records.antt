@@ -9,7 +9,7 @@
 use mathlib.Core.Path.{◌≡◌, refl, ap, sym, ◌∙◌, subst}
 use mathlib.Core.Logic.{inl, inr}
 use mathlib.Core.Bool.{Bool, true, false, not, ◌&&◌, beq}
-use mathlib.Core.Option.{Option, none, some}
+use Rattle.std.specs.Prelude.{Option, None, Some}
 use mathlib.Core.List.{List, [], ◌∷◌, map}
 use Prim.Native.Nat.{ℕ, suc, ◌≤◌}
 use native.Mathlib.Omega.{arith}
@@ -114,14 +114,14 @@ opcodes_of : Pairs → ℕ → List ℕ
 opcodes_of [] s = []
 opcodes_of (p ∷ ps) s = elim (eqb p.1 s) [ true ↦ p.0 ∷ opcodes_of ps s | false ↦ opcodes_of ps s ]
 
-shape_opcode : (ps : Pairs) (o s : ℕ) → shape_of ps o ≡ some s → In o (opcodes_of ps s)
+shape_opcode : (ps : Pairs) (o s : ℕ) → shape_of ps o ≡ Some s → In o (opcodes_of ps s)
 unfolding shape_of opcodes_of
 shape_opcode [] o s e = none_some e
 shape_opcode (p ∷ ps) o s e = go (eqb p.0 o) refl (eqb p.1 s) refl (shape_opcode ps o s) e
   where
     go : (a : Bool) → eqb p.0 o ≡ a → (b : Bool) → eqb p.1 s ≡ b →
-        (shape_of ps o ≡ some s → In o (opcodes_of ps s)) →
-        elim a [ true ↦ some p.1 | false ↦ shape_of ps o ] ≡ some s →
+        (shape_of ps o ≡ Some s → In o (opcodes_of ps s)) →
+        elim a [ true ↦ Some p.1 | false ↦ shape_of ps o ] ≡ Some s →
         In o (elim b [ true ↦ p.0 ∷ opcodes_of ps s | false ↦ opcodes_of ps s ])
     go true f true g rest e = inl (sym (eqb-true p.0 o f))
     go true f false g rest e = let d : p.1 ≡ s = cc in absurd (clash (eqb p.1 s) (eq-eqb p.1 s d) g)
@@ -144,11 +144,11 @@ bound_opcode r s e i h = go found refl (and_both first (middle found) (and_both 
     first = beq (eqb r.opcode 0) (leb r.shape 1)
 
     middle : Option ℕ → Bool
-    middle o = elim o [ none ↦ not (bound r.shape) | some s ↦ eqb s r.shape ]
+    middle o = elim o [ None ↦ not (bound r.shape) | Some s ↦ eqb s r.shape ]
 
     go : (o : Option ℕ) → found ≡ o → middle o ≡ true → In r.opcode (opcodes_of both_ways s)
-    go none f g = false_true (sym (ap (λ (z : ℕ). not (bound z)) e ∙ ap not i) ∙ g)
-    go (some t) f g = shape_opcode both_ways r.opcode s (f ∙ ap (λ (z : ℕ). some z) (eqb-true t r.shape g ∙ e))
+    go None f g = false_true (sym (ap (λ (z : ℕ). not (bound z)) e ∙ ap not i) ∙ g)
+    go (Some t) f g = shape_opcode both_ways r.opcode s (f ∙ ap (λ (z : ℕ). Some z) (eqb-true t r.shape g ∙ e))
 
 pub op_field : (r : Rec) → r.shape ≡ 17 → agrees r ≡ true → r.opcode ≡ 0x8C
 unfolding both_ways is_in opcodes_of

@@ -5,7 +5,7 @@
 use mathlib.Core.Path.{◌≡◌, refl, sym}
 use mathlib.Core.Logic.{inl, inr}
 use mathlib.Core.Bool.{Bool, true, false, ◌||◌}
-use mathlib.Core.Option.{Option, none, some}
+use Rattle.std.specs.Prelude.{Option, None, Some}
 use mathlib.Core.List.{List, [], ◌∷◌, ◌++◌}
 use Prim.Native.Nat.{ℕ, zero, suc, ◌+◌, ◌-◌, ◌≤◌, ◌<◌}
 use native.Mathlib.Omega.{arith}
@@ -121,9 +121,9 @@ opt_has : (B : ℕ → Type 0) (bs : List ℕ) → Every B bs → Every B (opt_o
 unfolding opt_of
 opt_has B bs h = go (a_opt bs)
   where
-    go : (o : Option (List ℕ)) → Every B (elim o [ none ↦ [] | some rest ↦ take (length bs - length rest) bs ])
-    go none = λ x i. absurd i
-    go (some rest) = every_take B (length bs - length rest) bs h
+    go : (o : Option (List ℕ)) → Every B (elim o [ None ↦ [] | Some rest ↦ take (length bs - length rest) bs ])
+    go None = λ x i. absurd i
+    go (Some rest) = every_take B (length bs - length rest) bs h
 
 args_have : (B : ℕ → Type 0) (n : ℕ) (bs : List ℕ) → Every B bs → OptsHave B (opts_in (args_of n bs))
 unfolding args_of
@@ -267,13 +267,13 @@ module _ (B : ℕ → Type 0) (b0 : B 0) (b1 : B 1) (b2 : B 2) (at cur : ℕ) (r
 
       body : (md : List ℕ × List ℕ × State) → KeepsArgs B st (suc k) (suc c) (length (bound_by r)) md →
           Holds Post (kids (scope_count md.2) (bind_args (bound_by r) md.0 env)
-          (open_scope cur (some md.0) md.2.tables md.2) >>=
+          (open_scope cur (Some md.0) md.2.tables md.2) >>=
           λ os. finish at cur r os.0 md.0 (func (with_opts (bound_by r) md.0) (scope_count md.2)) os.2)
       body md w =
           holds_bind (KeepsAll B st2 (suc k + many ts) (c + plain_kids r.opcode 0 ts) (many ts) r.opcode 0) Post
           (kids sc env' st2) _
           (kk sc env' st2 (suc k) c sound2 (omega (arith, opened)) envs2
-          (open_room cur (some as') md.2.tables md.2 (suc k) c w.keeps.room)
+          (open_room cur (Some as') md.2.tables md.2 (suc k) c w.keeps.room)
           (λ j t. absurd (clash (thunked r.opcode j) t (lambda_plain r.opcode op j)))) λ os v.
           key_keeps os.0 as' (func (with_opts xs as') sc) os.2 (suc k + many ts) (omega (arith, v.count))
           (keeps_then later
@@ -290,21 +290,21 @@ module _ (B : ℕ → Type 0) (b0 : B 0) (b1 : B 1) (b2 : B 2) (at cur : ℕ) (r
           env' = bind_args (bound_by r) md.0 env
 
           st2 : State
-          st2 = open_scope cur (some md.0) md.2.tables md.2
+          st2 = open_scope cur (Some md.0) md.2.tables md.2
 
-          opened : scope_count (open_scope cur (some md.0) md.2.tables md.2) ≡ suc (scope_count md.2)
-          opened = open_more cur (some md.0) md.2.tables md.2
+          opened : scope_count (open_scope cur (Some md.0) md.2.tables md.2) ≡ suc (scope_count md.2)
+          opened = open_more cur (Some md.0) md.2.tables md.2
 
-          sound2 : StateSound B (open_scope cur (some md.0) md.2.tables md.2)
+          sound2 : StateSound B (open_scope cur (Some md.0) md.2.tables md.2)
           sound2 =
-              open_sound B cur (some md.0) md.2.tables md.2 w.keeps.sound
+              open_sound B cur (Some md.0) md.2.tables md.2 w.keeps.sound
               (omega (arith, w.keeps.more_scopes)) w.low
               w.keeps.sound.tables_open (λ i h. h)
 
-          later : Keeps B st (open_scope cur (some md.0) md.2.tables md.2) (suc k) c
+          later : Keeps B st (open_scope cur (Some md.0) md.2.tables md.2) (suc k) c
           later = record {
             sound = sound2;
-            room = open_room cur (some as') md.2.tables md.2 (suc k) c w.keeps.room;
+            room = open_room cur (Some as') md.2.tables md.2 (suc k) c w.keeps.room;
             more_syms = w.keeps.more_syms;
             more_scopes = omega (arith, opened, w.keeps.more_scopes);
             tables_kept = w.keeps.tables_kept;

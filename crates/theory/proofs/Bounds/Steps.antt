@@ -4,7 +4,7 @@
 use mathlib.Core.Path.{◌≡◌, refl, ap, sym, ◌∙◌}
 use mathlib.Core.Logic.{◌⊎◌, inl, inr}
 use mathlib.Core.Bool.{Bool, true, false}
-use mathlib.Core.Option.{Option, none, some}
+use Rattle.std.specs.Prelude.{Option, None, Some}
 use mathlib.Core.List.{List, [], ◌∷◌, ◌++◌}
 use Prim.Native.Nat.{ℕ, suc, ◌+◌, ◌≤◌, ◌<◌}
 use native.Mathlib.Omega.{arith}
@@ -46,9 +46,9 @@ climb_low scs deps [] m z h = z
 climb_low scs deps (s ∷ l) m z h = go (get_or scs s root_scope).args (climb_low scs deps l m z (λ x i. h x (inr i)))
   where
     go : (o : Option (List ℕ)) → climb scs deps l < m →
-        elim o [ none ↦ s | some xs ↦ elim (any_in xs deps) [ true ↦ s | false ↦ climb scs deps l ] ] < m
-    go none r = h s (inl refl)
-    go (some xs) r = if_holds (λ x. x < m) (any_in xs deps) s (climb scs deps l) (h s (inl refl)) r
+        elim o [ None ↦ s | Some xs ↦ elim (any_in xs deps) [ true ↦ s | false ↦ climb scs deps l ] ] < m
+    go None r = h s (inl refl)
+    go (Some xs) r = if_holds (λ x. x < m) (any_in xs deps) s (climb scs deps l) (h s (inl refl)) r
 
 pub enter_low : (n m : ℕ) (ts : List (List ℕ)) → m < n → ((i : ℕ) → InAny i ts → i < n) → (i : ℕ) → InAny i (enter m ts) →
     i < n
@@ -188,8 +188,8 @@ module _ (B : ℕ → Type 0) (at cur : ℕ) (r : Rec) (has : RecHas B r) where
 
 -- where a and b are low, and what was remembered before
 pub recall_low : (p a b : ℕ) (st : State) (n : ℕ) → a < n → b < n →
-    ((q x y : ℕ) → recall st.memo q ≡ some (x, y) → (x < n) × (y < n)) →
-    (q x y : ℕ) → recall (remember p a b st).memo q ≡ some (x, y) → (x < n) × (y < n)
+    ((q x y : ℕ) → recall st.memo q ≡ Some (x, y) → (x < n) × (y < n)) →
+    (q x y : ℕ) → recall (remember p a b st).memo q ≡ Some (x, y) → (x < n) × (y < n)
 recall_low p a b st n la lb h q x y e = elim (recall_cases p a b st q x y e) [
   | inl s ↦ (omega (arith, s.1), omega (arith, s.2))
   | inr f ↦ h q x y f
@@ -198,7 +198,7 @@ recall_low p a b st n la lb h q x y e = elim (recall_cases p a b st q x y e) [
 -- what is sound of a state is of its symbols and scopes, and of other tables, projections and readings if they are low
 pub sound_same : {B : ℕ → Type 0} {st : State} (ts : List (List ℕ)) (memo : List (ℕ × ℕ × ℕ)) (n : ℕ) → n ≤ 2048 →
     1 ≤ length ts → ((i : ℕ) → InAny i ts → i < sym_count st) →
-    ((p a b : ℕ) → recall memo p ≡ some (a, b) → (a < sym_count st) × (b < sym_count st)) → StateSound B st →
+    ((p a b : ℕ) → recall memo p ≡ Some (a, b) → (a < sym_count st) × (b < sym_count st)) → StateSound B st →
     StateSound B (record { syms = st.syms; tables = ts; scopes = st.scopes; memo = memo; readings = n })
 sound_same ts memo n few_readings tables_open tables_low memo_low h = record {
   few_symbols = h.few_symbols;
@@ -273,11 +273,11 @@ module _ (B : ℕ → Type 0) (b0 : B 0) (b1 : B 1) (b2 : B 2) (at cur : ℕ) (r
 
       go : (f : Option (ℕ × ℕ)) → recall st.memo p ≡ f →
           Holds (KeepsOne B st (suc k) c) (elim f as (λ z. Out)
-          [ some ab ↦ good (pick i ab, st) | none ↦ new_projections at cur r i p st ])
-      go (some ab) e =
+          [ Some ab ↦ good (pick i ab, st) | None ↦ new_projections at cur r i p st ])
+      go (Some ab) e =
           let w = h.memo_low p ab.0 ab.1 e in
           record { keeps = keeps_none h rm; low = pick_low i (sym_count st) ab w.0 w.1 }
-      go none e = new
+      go None e = new
 
 -- ---- scopes
 

@@ -6,7 +6,7 @@
 use mathlib.Core.Path.{◌≡◌, refl, ap}
 use mathlib.Core.Logic.{inl, inr}
 use mathlib.Core.Bool.{Bool, true, false}
-use mathlib.Core.Option.{none}
+use Rattle.std.specs.Prelude.{None}
 use mathlib.Core.List.{List, [], ◌∷◌, ◌++◌}
 use Prim.Native.Nat.{ℕ, zero, suc, ◌+◌, ◌≤◌, ◌<◌}
 use native.Mathlib.Omega.{arith}
@@ -42,13 +42,13 @@ drop-one n (t ∷ ts) e = omega arith
 
 close_keeps : (B : ℕ → Type 0) (cur : ℕ) (st : State) (k c : ℕ) (o : ℕ × State) → 1 ≤ length st.tables →
     KeepsOne B (open_thunk cur st) k c o → KeepsOne B st k c (o.0, close_thunk o.1)
-close_keeps B cur st k c o some w = record {
+close_keeps B cur st k c o Some w = record {
   keeps = record {
     sound = sound_same (drop_first o.1.tables) o.1.memo o.1.readings s.few_readings
-        (omega (arith, some, dropped)) (λ i h. s.tables_low i (any_closed i o.1.tables h)) s.memo_low s;
+        (omega (arith, Some, dropped)) (λ i h. s.tables_low i (any_closed i o.1.tables h)) s.memo_low s;
     room = record { slots_paid = w.keeps.room.slots_paid; scopes_paid = w.keeps.room.scopes_paid };
     more_syms = w.keeps.more_syms;
-    more_scopes = omega (arith, open_more cur none ([] ∷ st.tables) st, w.keeps.more_scopes);
+    more_scopes = omega (arith, open_more cur None ([] ∷ st.tables) st, w.keeps.more_scopes);
     tables_kept = dropped;
   };
   low = w.low;
@@ -72,7 +72,7 @@ pub record Scoped (B : ℕ → Type 0) (t : Bool) (st : State) (k c : ℕ) (o : 
 pub thunk_sound : (B : ℕ → Type 0) (cur : ℕ) (st : State) → StateSound B st → cur < scope_count st →
     StateSound B (open_thunk cur st)
 thunk_sound B cur st h l =
-    open_sound B cur none ([] ∷ st.tables) st h l (λ x i. absurd i) (omega arith)
+    open_sound B cur None ([] ∷ st.tables) st h l (λ x i. absurd i) (omega arith)
     (λ i k. any_opened i st.tables k)
 
 scoped_keeps : (B : ℕ → Type 0) (t : Bool) (cur : ℕ) (child : ℕ → State → Out) (st : State) (k c : ℕ) → StateSound B st →
@@ -89,11 +89,11 @@ scoped_keeps B true cur child st k zero h l rm p ch = absurd (omega (arith, p re
 scoped_keeps B true cur child st k (suc c) h l rm p ch =
     holds_bind (KeepsOne B (open_thunk cur st) (suc k) (suc c)) (Scoped B true st (suc k) (suc c)) _ _
     (ch (scope_count st) (open_thunk cur st) c (thunk_sound B cur st h l)
-    (omega (arith, open_more cur none ([] ∷ st.tables) st)) refl (open_room cur none ([] ∷ st.tables) st k c rm))
+    (omega (arith, open_more cur None ([] ∷ st.tables) st)) refl (open_room cur None ([] ∷ st.tables) st k c rm))
     λ o w.
     record {
       one = close_keeps B cur st (suc k) (suc c) o h.tables_open w;
-      opened = λ e. omega (arith, open_more cur none ([] ∷ st.tables) st, w.keeps.more_scopes);
+      opened = λ e. omega (arith, open_more cur None ([] ∷ st.tables) st, w.keeps.more_scopes);
     }
 
 -- ---- trees

@@ -6,7 +6,7 @@
 use mathlib.Core.Path.{◌≡◌, refl, ap, sym, ◌∙◌, subst}
 use mathlib.Core.Logic.{inl, inr}
 use mathlib.Core.Bool.{Bool, true, false}
-use mathlib.Core.Option.{Option, none, some}
+use Rattle.std.specs.Prelude.{Option, None, Some}
 use mathlib.Core.List.{List, [], ◌∷◌, ◌++◌}
 use Prim.Native.Nat.{ℕ, zero, suc, ◌+◌, ◌*◌, ◌≤◌, ◌<◌}
 use native.Mathlib.Omega.{arith}
@@ -118,7 +118,7 @@ wrap_has l (cons d (cons e ds)) r h k f =
 -- ---- scopes
 
 abbrev IdsTo : Env → ℕ → Type 0
-IdsTo env last = (s i : ℕ) → id_given env s ≡ some i → i ≤ last
+IdsTo env last = (s i : ℕ) → id_given env s ≡ Some i → i ≤ last
 
 ids_args : (xs : List (ℕ × List ℕ)) (env : Env) (last : ℕ) → IdsTo env last →
     IdsTo (arg_env last xs env) (last + length xs)
@@ -225,11 +225,11 @@ module _ (g : Graph) (recs : (s : ℕ) → RecHas Byte (sym_of g s).rec) (nodes 
           (recs s, op_has g f ok sc env last (sym_of g s).rec.opcode 0 (sym_of g s).kids brs ids (omega arith))
 
       tree : Option ℕ → Tree
-      tree o = elim o [ some i ↦ val_use_of i | none ↦ build_node g f (sym_of g s) (sym_of g s).node sc env last ]
+      tree o = elim o [ Some i ↦ val_use_of i | None ↦ build_node g f (sym_of g s) (sym_of g s).node sc env last ]
 
       given : (o : Option ℕ) → id_given env s ≡ o → Fit last (size (tree o)) → TreeHas Byte (tree o)
-      given (some i) e ft = use_has i (omega (arith, ids s i e))
-      given none e ft = built (sym_of g s).node (nodes s) ft
+      given (Some i) e ft = use_has i (omega (arith, ids s i e))
+      given None e ft = built (sym_of g s).node (nodes s) ft
 
   abbrev zero_use : ℕ → Env → ℕ → Tree
   zero_use sc env last = val_use_of 0

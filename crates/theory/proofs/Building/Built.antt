@@ -8,7 +8,7 @@
 use mathlib.Core.Path.{◌≡◌, refl, ap, ap₂, sym, ◌∙◌}
 use mathlib.Core.Logic.{inl, inr}
 use mathlib.Core.Bool.{Bool, true, false, ◌||◌}
-use mathlib.Core.Option.{Option, none, some}
+use Rattle.std.specs.Prelude.{Option, None, Some}
 use mathlib.Core.List.{List, [], ◌∷◌, ◌++◌}
 use Prim.Native.Nat.{ℕ, suc, ◌<◌}
 use native.Mathlib.Omega.{arith}
@@ -216,7 +216,7 @@ module _ (g : Graph) (n : ℕ) (sound : GraphSound g n) where
 
     -- ---- any symbol: a use if it has an id, else by its node
 
-    node_built : id_given env s ≡ none → Covers fin env s → (sc : ℕ) (nd : Node) → node_at fin s ≡ nd →
+    node_built : id_given env s ≡ None → Covers fin env s → (sc : ℕ) (nd : Node) → node_at fin s ≡ nd →
         NodeOk fin scs s nd → Built fin env last s (build_node g f (sym_of g s) nd sc env last)
     unfolding build_node
     node_built e cov sc constant q k = leaf_built env last s l k.0 (ap no_arg q) k.1
@@ -234,14 +234,14 @@ module _ (g : Graph) (n : ℕ) (sound : GraphSound g n) where
       where
         go : (o : Option ℕ) → id_given env s ≡ o →
             Built fin env last s (elim o [
-              | some i ↦ val_use_of i
-              | none ↦ build_node g f (sym_of g s) (sym_of g s).node sc env last
+              | Some i ↦ val_use_of i
+              | None ↦ build_node g f (sym_of g s) (sym_of g s).node sc env last
             ])
-        go (some i) e = record {
+        go (Some i) e = record {
           means = λ ρ ms st d. use_unfold i ms d ∙ st s i e d;
           checked = λ small ids ok. use_checked i ids (ok.given s i e);
         }
-        go none e = node_built e cov sc (node_at fin s) refl (sound.good s l).node_is
+        go None e = node_built e cov sc (node_at fin s) refl (sound.good s l).node_is
 
   -- what `build_value` would give for a symbol that is not lower; none is asked for
   abbrev no_tree : ℕ → Env → ℕ → Tree

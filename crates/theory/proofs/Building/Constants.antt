@@ -6,7 +6,8 @@
 use mathlib.Core.Path.{◌≡◌, refl, ap, ◌∙◌}
 use mathlib.Core.Logic.{inl, inr}
 use mathlib.Core.Bool.{true}
-use mathlib.Core.Option.{Option, none, some, some-injective}
+use Rattle.std.specs.Prelude.{Option, None, Some}
+use Rattle.std.proofs.lemmas.Option.{same_Some}
 use mathlib.Core.List.{List, [], ◌∷◌, ◌++◌}
 use Prim.Native.Nat.{ℕ, zero, suc, ◌+◌, ◌<◌}
 use native.Mathlib.Omega.{arith}
@@ -33,24 +34,24 @@ use Rattle.theory.proofs.Building.Reach.{Below, here, kid, below_then, below_low
 -- ---- paths
 
 -- a path, and then another
-part_then : (p q : List ℕ) (u v : Unfolded) → part_at p u ≡ some v → part_at (p ++ q) u ≡ part_at q v
+part_then : (p q : List ℕ) (u v : Unfolded) → part_at p u ≡ Some v → part_at (p ++ q) u ≡ part_at q v
 unfolding part_at
-part_then [] q u v e = ap (part_at q) (some-injective _ _ e)
+part_then [] q u v e = ap (part_at q) (same_Some _ _ e)
 part_then (j ∷ p) q u v e = go (operand u j) e (λ w f. part_then p q w v f)
   where
     step : List ℕ → Option Unfolded → Option Unfolded
-    step path o = elim o [ none ↦ none | some w ↦ part_at path w ]
+    step path o = elim o [ None ↦ None | Some w ↦ part_at path w ]
 
-    go : (o : Option Unfolded) → step p o ≡ some v →
-        ((w : Unfolded) → part_at p w ≡ some v → part_at (p ++ q) w ≡ part_at q v) → step (p ++ q) o ≡ part_at q v
-    go none e rest = none_some e
-    go (some w) e rest = rest w e
+    go : (o : Option Unfolded) → step p o ≡ Some v →
+        ((w : Unfolded) → part_at p w ≡ Some v → part_at (p ++ q) w ≡ part_at q v) → step (p ++ q) o ≡ part_at q v
+    go None e rest = none_some e
+    go (Some w) e rest = rest w e
 
 -- ---- a reached symbol
 
 -- one of some symbols is one of the operands
 operand_in_lem : (f : ℕ → Mean) (ks : List ℕ) (k : ℕ) → In k ks → (ρ : Val) (d : ℕ) →
-    (j : ℕ) × (operand_in (mean_all f ks ρ d) j ≡ some (f k ρ d))
+    (j : ℕ) × (operand_in (mean_all f ks ρ d) j ≡ Some (f k ρ d))
 unfolding operand_in mean_all
 operand_in_lem f [] k m ρ d = absurd m
 operand_in_lem f (x ∷ ks) k (inl e) ρ d = (0, rw e)
@@ -62,7 +63,7 @@ module _ (fin : List Sym) (scs : List Scope) (n : ℕ) (good : Goods fin scs n) 
     number : ℕ
     val : Val
     depth : ℕ
-    is : operand (mean fin y ρ d) number ≡ some (mean fin k val depth)
+    is : operand (mean fin y ρ d) number ≡ Some (mean fin k val depth)
 
   kid_operand : (y k : ℕ) → y < n → In k (sym_kids fin y) → (ρ : Val) (d : ℕ) → AsOperand y k ρ d
   unfolding operand
@@ -97,7 +98,7 @@ module _ (fin : List Sym) (scs : List Scope) (n : ℕ) (good : Goods fin scs n) 
     path : List ℕ
     val : Val
     depth : ℕ
-    is : part_at path (mean fin r ρ d) ≡ some (mean fin s val depth)
+    is : part_at path (mean fin r ρ d) ≡ Some (mean fin s val depth)
 
   module _ (r : ℕ) (low : r < n) (ρ : Val) (d : ℕ) where
     below_within : (s : ℕ) → Below fin r s → Within r s ρ d
@@ -121,10 +122,10 @@ module _ (fin : List Sym) (scs : List Scope) (n : ℕ) (good : Goods fin scs n) 
         let w = below_within s b in
         let l : s < n = omega (arith, below_low fin scs n good r low s b) in
         let count = const_child (rec_at fin s) (length (sym_kids fin s)) e p.fits_is in
-        let none = drop_of_length-le (sym_kids fin s) {i = 0} (omega (arith, count)) in (
+        let None = drop_of_length-le (sym_kids fin s) {i = 0} (omega (arith, count)) in (
           w.path,
-          w.is ∙ ap some (mean_plain fin scs s (good s l) p.kind_is q w.val w.depth) ∙
-              ap (λ (ks : List ℕ). some (made (rec_at fin s) (mean_all (mean fin) ks w.val w.depth))) none,
+          w.is ∙ ap Some (mean_plain fin scs s (good s l) p.kind_is q w.val w.depth) ∙
+              ap (λ (ks : List ℕ). Some (made (rec_at fin s) (mean_all (mean fin) ks w.val w.depth))) None,
         )
 
 -- ---- definitions and blocks
@@ -227,11 +228,11 @@ module _ (g : Graph) (n : ℕ) (good : Goods g.syms g.scopes n) (top : ℕ) (low
             (own s b h.0 (ap no_arg e), op_each sc env last (sym_of g s).rec.opcode 0 (sym_of g s).kids brs kids)
 
         given : (o : Option ℕ) → EachConstant P (elim o [
-          | some i ↦ val_use_of i
-          | none ↦ build_node g f (sym_of g s) (sym_of g s).node sc env last
+          | Some i ↦ val_use_of i
+          | None ↦ build_node g f (sym_of g s) (sym_of g s).node sc env last
         ])
-        given (some i) = use_each P i
-        given none = built (node_at g.syms s) refl (good s l).node_is
+        given (Some i) = use_each P i
+        given None = built (node_at g.syms s) refl (good s l).node_is
 
   abbrev zero_use : ℕ → Env → ℕ → Tree
   zero_use sc env last = val_use_of 0

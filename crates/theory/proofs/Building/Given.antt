@@ -9,7 +9,7 @@
 use mathlib.Core.Path.{◌≡◌, refl, ap, sym, ◌∙◌, subst}
 use mathlib.Core.Logic.{◌⊎◌, inl, inr}
 use mathlib.Core.Bool.{Bool, true, false}
-use mathlib.Core.Option.{some}
+use Rattle.std.specs.Prelude.{Some}
 use mathlib.Core.List.{List, [], ◌∷◌, ◌++◌}
 use Prim.Native.Nat.{ℕ, suc, ◌+◌, ◌≤◌, ◌<◌}
 use native.Mathlib.Omega.{arith}
@@ -36,7 +36,7 @@ use Rattle.theory.proofs.Building.Numbered.{meaning_old, value_at}
 -- ---- who has an id
 
 abbrev pub Given : Env → ℕ → ℕ → Type 0
-Given env s i = id_given env s ≡ some i
+Given env s i = id_given env s ≡ Some i
 
 abbrev pub Has : Env → ℕ → Type 0
 Has env a = (i : ℕ) × Given env a i
@@ -53,7 +53,7 @@ pub given_cases : (s j : ℕ) (env : Env) (t i : ℕ) → Given ((s, j) ∷ env)
 unfolding id_given
 given_cases s j env t i = go (eqb s t) refl
   where
-    go : (b : Bool) → eqb s t ≡ b → elim b [ true ↦ some j | false ↦ id_given env t ] ≡ some i →
+    go : (b : Bool) → eqb s t ≡ b → elim b [ true ↦ Some j | false ↦ id_given env t ] ≡ Some i →
         ((s ≡ t) × (j ≡ i)) ⊎ Given env t i
     go true f e = inl (eqb-true s t f, cc)
     go false f e = inr e
@@ -65,7 +65,7 @@ has_new s j env = (j, rw (eq-eqb s s refl, id_given))
 pub has_more : (s j : ℕ) (env : Env) (a : ℕ) → Has env a → Has ((s, j) ∷ env) a
 unfolding id_given
 has_more s j env a h =
-    if_holds (λ o. (i : ℕ) × (o ≡ some i)) (eqb s a) (some j) (id_given env a) (j, refl) h
+    if_holds (λ o. (i : ℕ) × (o ≡ Some i)) (eqb s a) (Some j) (id_given env a) (j, refl) h
 
 -- an argument of the list, with its id
 abbrev IsArg : ℕ → ArgList → ℕ → ℕ → Type 0

@@ -8,7 +8,7 @@
 use mathlib.Core.Path.{◌≡◌, refl, ap, sym, ◌∙◌}
 use mathlib.Core.Logic.{◌⊎◌, inl, inr}
 use mathlib.Core.Bool.{true, false}
-use mathlib.Core.Option.{some}
+use Rattle.std.specs.Prelude.{Some}
 use mathlib.Core.List.{List, [], ◌∷◌, ◌++◌}
 use Prim.Native.Nat.{ℕ, suc, ◌+◌, ◌-◌, ◌≤◌, ◌<◌}
 use native.Mathlib.Omega.{arith}
@@ -73,17 +73,17 @@ args_read last (x ∷ xs) h =
     let w = next_arg_lem (put32 (suc last) ++ rest) x.1 (arg_lit (suc last) xs) (past_id (suc last) rest) h.0 in
     cc (read_id (suc last) rest, w.0, w.1, args_read (suc last) xs h.1)
 
-then_reads : (f g : Reader) (bs rest : List ℕ) → f bs ≡ some rest → (f then g) bs ≡ g rest
+then_reads : (f g : Reader) (bs rest : List ℕ) → f bs ≡ Some rest → (f then g) bs ≡ g rest
 unfolding ◌then◌
 then_reads f g bs rest e = rw (e, ◌then◌)
 
-id_reads : (n : ℕ) (rest : List ℕ) → a_id (put32 n ++ rest) ≡ some rest
+id_reads : (n : ℕ) (rest : List ℕ) → a_id (put32 n ++ rest) ≡ Some rest
 unfolding a_id put32
 id_reads n rest = rw (le-leb 4 (length (put32 n ++ rest)) (omega arith), a_id)
 
 -- check 4 reads the literal to its end
 lit_reads : (last : ℕ) (xs : ArgList) → AllOpts (opts_in xs) →
-    times (length xs) (a_id then a_opt) (arg_lit last xs) ≡ some []
+    times (length xs) (a_id then a_opt) (arg_lit last xs) ≡ Some []
 unfolding times arg_lit
 lit_reads last [] h = refl
 lit_reads last (x ∷ xs) h =

@@ -9,7 +9,7 @@
 use mathlib.Core.Path.{◌≡◌, refl, ◌∙◌}
 use mathlib.Core.Logic.{◌⊎◌, inl, inr}
 use mathlib.Core.Bool.{true, not, ◌&&◌}
-use mathlib.Core.Option.{some}
+use Rattle.std.specs.Prelude.{Some}
 use mathlib.Core.List.{List, ◌∷◌, ◌++◌}
 use Prim.Native.Nat.{ℕ, suc, ◌≤◌, ◌<◌}
 use native.Mathlib.Omega.{arith}
@@ -83,7 +83,7 @@ module _ (g : Graph) (n : ℕ) (sound : GraphSound g n) where
       s_low : s < n
       s_low = omega (arith, below_low fin scs n sound.good r l s below, l)
 
-      go : In a (deps_at fin r) ⊎ BoundUpTo fin r a → (i : ℕ) × (id_given env a ≡ some i)
+      go : In a (deps_at fin r) ⊎ BoundUpTo fin r a → (i : ℕ) × (id_given env a ≡ Some i)
       go (inl m) = cov a m
       go (inr w) =
           let x-low : w.lam < n = omega (arith, w.low, l) in

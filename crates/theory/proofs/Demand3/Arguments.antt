@@ -2,7 +2,8 @@
 -- Assumes nothing.
 use mathlib.Core.Path.{◌≡◌, refl, ap, sym, ◌∙◌, subst}
 use mathlib.Core.Logic.{◌↔◌}
-use mathlib.Core.Option.{some, some-injective}
+use Rattle.std.specs.Prelude.{Some}
+use Rattle.std.proofs.lemmas.Option.{same_Some}
 use mathlib.Core.List.{List, [], ◌∷◌, ◌++◌, map, append_assoc}
 use Prim.Native.Nat.{ℕ, zero, suc, ◌<◌}
 use native.Mathlib.Omega.{arith}
@@ -66,9 +67,9 @@ there_id (suc n) bs h zero i l (c, id, rest, e, m, hi, u) =
 there_id (suc n) bs (a, b, e, (id, o, f, hi, ho), hb) (suc k) i l (c, jd, rest, g, (p, q, m, hp, hq), hj, u) =
     let z : bs ≡ id ++ (o ++ b) = e ∙ ap (◌++ b) f ∙ append_assoc id o b in
     let y : bs ≡ p ++ (q ++ (jd ++ rest)) = g ∙ ap (◌++ (jd ++ rest)) m ∙ append_assoc p q (jd ++ rest) in
-    let r : a_arg bs ≡ some b = ap a_arg e ∙ arg_exact.finds a b (id, o, f, hi, ho) in
-    let s : a_arg bs ≡ some (q ++ (jd ++ rest)) = ap a_arg y ∙ arg_exact.finds p (q ++ (jd ++ rest)) hp in
-    let v : b ≡ q ++ (jd ++ rest) = some-injective _ _ (sym r ∙ s) in
+    let r : a_arg bs ≡ Some b = ap a_arg e ∙ arg_exact.finds a b (id, o, f, hi, ho) in
+    let s : a_arg bs ≡ Some (q ++ (jd ++ rest)) = ap a_arg y ∙ arg_exact.finds p (q ++ (jd ++ rest)) hp in
+    let v : b ≡ q ++ (jd ++ rest) = same_Some _ _ (sym r ∙ s) in
     next_ids n k bs id o b z hi ho ∙ there_id n b hb k i (omega arith) (q, jd, rest, v, hq, hj, u)
 
 -- of a lambda whose literal is right

@@ -4,7 +4,7 @@
 use mathlib.Core.Path.{◌≡◌, sym, ◌∙◌}
 use mathlib.Core.Logic.{◌↔◌}
 use mathlib.Core.Bool.{false}
-use mathlib.Core.Option.{some}
+use Rattle.std.specs.Prelude.{Some}
 use mathlib.Core.List.{List}
 use Prim.Native.Nat.{ℕ, zero, suc, ◌+◌, ◌≤◌, ◌<◌}
 use native.Mathlib.Omega.{arith}
@@ -104,6 +104,6 @@ too_deep ts p = (
       w.1 ∙ lt-ltb 64 w.0 (omega (arith, (w.2.2 64).0 h, w.2.1)),
 )
 
-pub check_7 : (forest : List ℕ) (p : ℕ) → (check7 forest ≡ some p) ↔ First (Deeper (trees_of forest) 64) p
+pub check_7 : (forest : List ℕ) (p : ℕ) → (check7 forest ≡ Some p) ↔ First (Deeper (trees_of forest) 64) p
 unfolding check7
 check_7 forest = first_of (Deeper (trees_of forest) 64) (deeps (trees_of forest) 1) (too_deep (trees_of forest))

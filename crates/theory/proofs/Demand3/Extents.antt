@@ -3,7 +3,7 @@
 -- In order: children of some records; subtrees; the file.
 -- Assumes nothing.
 use mathlib.Core.Path.{◌≡◌, refl, ap, sym, ◌∙◌, subst}
-use mathlib.Core.Option.{none}
+use Rattle.std.specs.Prelude.{None}
 use mathlib.Core.List.{List, [], ◌∷◌, ◌++◌}
 use Prim.Native.Nat.{ℕ, zero, suc, ◌+◌, ◌≤◌, ◌<◌}
 use native.Mathlib.Omega.{arith}
@@ -158,7 +158,7 @@ lambda_args (is_12 l h) = h
 right_args : (n k a : ℕ) (bs : List ℕ) → n ≡ 12 → Right n k a bs → Many a (IsId followed IsOpt) bs
 right_args n k a bs e h = lambda_args (subst (λ (s : ℕ). Right s k a bs) e h)
 
-module _ (forest : List ℕ) (closed : check6 forest ≡ none) where
+module _ (forest : List ℕ) (closed : check6 forest ≡ None) where
   pub file_records : (p : ℕ) → rec_in (trees_of forest) p ≡ (record_at forest p).rec
   file_records p = ap (λ rs. (get_or rs p no_record).rec) (closed_trees forest closed).1
 
@@ -169,7 +169,7 @@ module _ (forest : List ℕ) (closed : check6 forest ≡ none) where
       (omega (arith, sizes_rows (trees_of forest), ap length e, row_count forest)))
 
   -- where check 4 passes, a lambda's literal is its arguments
-  pub lambda_right : check4 forest ≡ none → (l : ℕ) → shape_in (trees_of forest) l ≡ 12 →
+  pub lambda_right : check4 forest ≡ None → (l : ℕ) → shape_in (trees_of forest) l ≡ 12 →
       Many (rec_in (trees_of forest) l).aux (IsId followed IsOpt) (rec_in (trees_of forest) l).lit
   lambda_right four l s =
       rw (file_records l) (right_args (record_at forest l).rec.shape _ _ _

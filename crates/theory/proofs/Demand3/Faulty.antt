@@ -4,7 +4,8 @@
 use mathlib.Core.Path.{◌≡◌, refl, ap, sym, ◌∙◌, subst}
 use mathlib.Core.Logic.{◌↔◌}
 use mathlib.Core.Bool.{Bool, true, false}
-use mathlib.Core.Option.{Option, none, some, some-injective}
+use Rattle.std.specs.Prelude.{Option, None, Some}
+use Rattle.std.proofs.lemmas.Option.{same_Some}
 use mathlib.Core.List.{List, [], ◌∷◌}
 use Prim.Native.Nat.{ℕ, zero, suc, ◌+◌, ◌<◌}
 use native.Mathlib.Omega.{arith}
@@ -29,11 +30,11 @@ Faulty tests p = get_or tests p false ≡ true
 
 -- ---- the first faulty place
 
-first_some : (bs : List Bool) (p : ℕ) → first bs ≡ some p → First (Faulty bs) p
+first_some : (bs : List Bool) (p : ℕ) → first bs ≡ Some p → First (Faulty bs) p
 unfolding first
 first_some [] p e = none_some e
 first_some (true ∷ bs) p e =
-    subst (First (Faulty (true ∷ bs))) (some-injective _ _ e) (refl, λ q l. absurd (omega arith))
+    subst (First (Faulty (true ∷ bs))) (same_Some _ _ e) (refl, λ q l. absurd (omega arith))
 first_some (false ∷ bs) p e = go (first bs) refl e (λ i f. first_some bs i f)
   where
     step : (i : ℕ) → First (Faulty bs) i → First (Faulty (false ∷ bs)) (suc i)
@@ -43,12 +44,12 @@ first_some (false ∷ bs) p e = go (first bs) refl e (λ i f. first_some bs i f)
         lower zero l m = clash false m refl
         lower (suc q) l m = h.1 q (omega arith) m
 
-    go : (o : Option ℕ) → first bs ≡ o → elim o [ none ↦ none | some i ↦ some (suc i) ] ≡ some p →
-        ((i : ℕ) → first bs ≡ some i → First (Faulty bs) i) → First (Faulty (false ∷ bs)) p
-    go none f e rest = none_some e
-    go (some i) f e rest = subst (First (Faulty (false ∷ bs))) (some-injective _ _ e) (step i (rest i f))
+    go : (o : Option ℕ) → first bs ≡ o → elim o [ None ↦ None | Some i ↦ Some (suc i) ] ≡ Some p →
+        ((i : ℕ) → first bs ≡ Some i → First (Faulty bs) i) → First (Faulty (false ∷ bs)) p
+    go None f e rest = none_some e
+    go (Some i) f e rest = subst (First (Faulty (false ∷ bs))) (same_Some _ _ e) (step i (rest i f))
 
-some_first : (bs : List Bool) (p : ℕ) → First (Faulty bs) p → first bs ≡ some p
+some_first : (bs : List Bool) (p : ℕ) → First (Faulty bs) p → first bs ≡ Some p
 unfolding first
 some_first [] p h = absurd (clash false h.0 refl)
 some_first (true ∷ bs) zero h = refl
@@ -57,7 +58,7 @@ some_first (false ∷ bs) zero h = absurd (clash false h.0 refl)
 some_first (false ∷ bs) (suc p) h = rw (some_first bs p (h.0, λ q l m. h.1 (suc q) (omega arith) m), first)
 
 -- `first` gives the least place that is faulty: the first of which P holds, where the tests say P
-pub first_of : (P : ℕ → Type 0) (bs : List Bool) → ((q : ℕ) → Faulty bs q ↔ P q) → (p : ℕ) → (first bs ≡ some p) ↔ First P p
+pub first_of : (P : ℕ → Type 0) (bs : List Bool) → ((q : ℕ) → Faulty bs q ↔ P q) → (p : ℕ) → (first bs ≡ Some p) ↔ First P p
 first_of P bs same p = (
   λ e. let h = first_some bs p e in ((same p).0 h.0, λ q l m. h.1 q l ((same q).1 m)),
   λ h. some_first bs p ((same p).1 h.0, λ q l m. h.1 q l ((same q).0 m)),
@@ -70,7 +71,7 @@ clear_faulty [] h p m = false_true m
 clear_faulty (b ∷ bs) h zero m = clash b m h.0
 clear_faulty (b ∷ bs) h (suc p) m = clear_faulty bs h.1 p m
 
-pub none_faulty : (bs : List Bool) → first bs ≡ none → (p : ℕ) → Faulty bs p → ⊥
+pub none_faulty : (bs : List Bool) → first bs ≡ None → (p : ℕ) → Faulty bs p → ⊥
 none_faulty bs e = clear_faulty bs (first_clear bs e)
 
 -- what is faulty is there

@@ -5,7 +5,7 @@
 use mathlib.Core.Path.{◌≡◌, refl, ap, sym, ◌∙◌}
 use mathlib.Core.Logic.{◌⊎◌, inl, inr, ◌↔◌}
 use mathlib.Core.Bool.{Bool, true, false, not, ◌||◌, or-true}
-use mathlib.Core.Option.{none, some}
+use Rattle.std.specs.Prelude.{None, Some}
 use mathlib.Core.List.{List, [], ◌∷◌, ◌++◌, map}
 use Prim.Native.Nat.{ℕ, zero, suc, ◌<◌}
 use native.Mathlib.Omega.{arith}
@@ -114,7 +114,7 @@ of_argument r m k i h =
 
 -- every lambda's literal is its arguments, and a definition stands in a block
 module _ (ts : Trees) (args : (l : ℕ) → shape_in ts l ≡ 12 → Args (rec_in ts l)) where
-  loose_force : check8 ts ≡ none → (i p : ℕ) → Loose ts i p → InForce ts i p
+  loose_force : check8 ts ≡ None → (i p : ℕ) → Loose ts i p → InForce ts i p
   loose_force eight i p (def d l s e h f) =
       let w = def_stands ts eight d l s in after_definition d w.0 s e w.1 w.2 h (f w.0 w.2.0).1
   loose_force eight i p (arg l s h b) =
@@ -207,7 +207,7 @@ own-twice r m = (λ e. to (eqb r.shape 12) refl e, back)
 
 -- ---- the checks
 
-module _ (ts : Trees) (args : (l : ℕ) → shape_in ts l ≡ 12 → Args (rec_in ts l)) (eight : check8 ts ≡ none) (p : ℕ) where
+module _ (ts : Trees) (args : (l : ℕ) → shape_in ts l ≡ 12 → Args (rec_in ts l)) (eight : check8 ts ≡ None) (p : ℕ) where
   abbrev r : Rec
   r = rec_in ts p
 
@@ -265,15 +265,15 @@ module _ (ts : Trees) (args : (l : ℕ) → shape_in ts l ≡ 12 → Args (rec_i
           let w = known_ids rebound_at ts [] p (in_range ts p 11 h.0) in
           w.1 ∙ rw ((own-twice r (args p)).1 h) (or-true (any_in (own r) w.0))
 
-module _ (forest : List ℕ) (four : check4 forest ≡ none) (six : check6 forest ≡ none)
-    (eight : check8 (trees_of forest) ≡ none) where
-  pub check_9 : (p : ℕ) → (check9 (trees_of forest) ≡ some p) ↔ First (Rebinds (trees_of forest)) p
+module _ (forest : List ℕ) (four : check4 forest ≡ None) (six : check6 forest ≡ None)
+    (eight : check8 (trees_of forest) ≡ None) where
+  pub check_9 : (p : ℕ) → (check9 (trees_of forest) ≡ Some p) ↔ First (Rebinds (trees_of forest)) p
   unfolding check9
   check_9 =
       first_of (Rebinds (trees_of forest)) (rebound_in (trees_of forest) [])
       (rebinds (trees_of forest) (lambda_right forest six four) eight)
 
-  pub check_10 : (p : ℕ) → (check10 (trees_of forest) ≡ some p) ↔ First (Unbound (trees_of forest)) p
+  pub check_10 : (p : ℕ) → (check10 (trees_of forest) ≡ Some p) ↔ First (Unbound (trees_of forest)) p
   unfolding check10
   check_10 =
       first_of (Unbound (trees_of forest)) (unbound_in (trees_of forest) [])

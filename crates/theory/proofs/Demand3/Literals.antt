@@ -5,7 +5,7 @@
 use mathlib.Core.Path.{◌≡◌, refl, ap, sym, ◌∙◌, subst}
 use mathlib.Core.Logic.{inl, inr, ◌↔◌}
 use mathlib.Core.Bool.{Bool, true, false, ◌&&◌}
-use mathlib.Core.Option.{Option, none, some}
+use Rattle.std.specs.Prelude.{Option, None, Some}
 use mathlib.Core.List.{List, [], ◌∷◌, ◌++◌, append-nil, append_assoc}
 use Prim.Native.Nat.{ℕ, zero, suc, ◌≤◌, ◌<◌}
 use native.Mathlib.Omega.{arith}
@@ -22,17 +22,17 @@ use Rattle.laws.proofs.Members.{and_both, both_and}
 
 -- a reader takes a part off a list exactly where the list begins with one
 pub record Exact (f : Reader) (P : Part) : Type 0 where
-  pub takes : (bs rest : List ℕ) → f bs ≡ some rest → (a : List ℕ) × (bs ≡ a ++ rest) × P a
-  pub finds : (a rest : List ℕ) → P a → f (a ++ rest) ≡ some rest
+  pub takes : (bs rest : List ℕ) → f bs ≡ Some rest → (a : List ℕ) × (bs ≡ a ++ rest) × P a
+  pub finds : (a rest : List ℕ) → P a → f (a ++ rest) ≡ Some rest
 
 pub whole_exact : (f : Reader) (P : Part) → Exact f P → (bs : List ℕ) → (whole f bs ≡ true) ↔ P bs
 unfolding whole
 whole_exact f P x bs = (λ e. go (f bs) refl e, λ h. rw (sym (ap f (append-nil bs)) ∙ x.finds bs [] h, whole) refl)
   where
     go : (o : Option (List ℕ)) → f bs ≡ o →
-        elim o as (λ z. Bool) [ none ↦ false | some rest ↦ eqb (length rest) 0 ] ≡ true → P bs
-    go none e t = false_true t
-    go (some rest) e t =
+        elim o as (λ z. Bool) [ None ↦ false | Some rest ↦ eqb (length rest) 0 ] ≡ true → P bs
+    go None e t = false_true t
+    go (Some rest) e t =
         let w = x.takes bs rest e in
         let z : rest ≡ [] = drop_of_length-le rest {i = 0} (omega (arith, eqb-true (length rest) 0 t)) in
         let y : w.0 ≡ bs = sym (w.1 ∙ ap (w.0 ++◌) z ∙ append-nil w.0) in
@@ -50,11 +50,11 @@ pub byte_exact : Exact a_byte IsByte
 unfolding a_byte
 byte_exact = record { takes = takes; finds = finds }
   where
-    takes : (bs rest : List ℕ) → a_byte bs ≡ some rest → (a : List ℕ) × (bs ≡ a ++ rest) × IsByte a
+    takes : (bs rest : List ℕ) → a_byte bs ≡ Some rest → (a : List ℕ) × (bs ≡ a ++ rest) × IsByte a
     takes [] rest e = none_some e
     takes (b ∷ bs) rest e = let z : bs ≡ rest = cc in (b ∷ [], ap (b ∷◌) z, refl)
 
-    finds : (a rest : List ℕ) → IsByte a → a_byte (a ++ rest) ≡ some rest
+    finds : (a rest : List ℕ) → IsByte a → a_byte (a ++ rest) ≡ Some rest
     finds [] rest e = absurd (omega arith)
     finds (b ∷ []) rest e = refl
     finds (b ∷ c ∷ bs) rest e = absurd (omega arith)
@@ -63,11 +63,11 @@ pub id_exact : Exact a_id IsId
 unfolding a_id
 id_exact = record { takes = takes; finds = finds }
   where
-    takes : (bs rest : List ℕ) → a_id bs ≡ some rest → (a : List ℕ) × (bs ≡ a ++ rest) × IsId a
+    takes : (bs rest : List ℕ) → a_id bs ≡ Some rest → (a : List ℕ) × (bs ≡ a ++ rest) × IsId a
     takes bs rest e = go (leb 4 (length bs)) refl e
       where
         go : (b : Bool) → leb 4 (length bs) ≡ b →
-            elim b as (λ z. Option (List ℕ)) [ true ↦ some (drop 4 bs) | false ↦ none ] ≡ some rest →
+            elim b as (λ z. Option (List ℕ)) [ true ↦ Some (drop 4 bs) | false ↦ None ] ≡ Some rest →
             (a : List ℕ) × (bs ≡ a ++ rest) × IsId a
         go true t e =
             let d : drop 4 bs ≡ rest = cc in
@@ -75,21 +75,21 @@ id_exact = record { takes = takes; finds = finds }
             (take 4 bs, sym (take-append-drop 4 bs) ∙ ap (take 4 bs ++◌) d, length-take 4 bs ∙ omega arith)
         go false t e = none_some e
 
-    finds : (a rest : List ℕ) → IsId a → a_id (a ++ rest) ≡ some rest
+    finds : (a rest : List ℕ) → IsId a → a_id (a ++ rest) ≡ Some rest
     finds a rest h =
         rw (le-leb 4 (length (a ++ rest)) (simp length-append (omega arith)), a_id)
-        (ap (λ (z : List ℕ). some z) (drop_at a rest 4 h))
+        (ap (λ (z : List ℕ). Some z) (drop_at a rest 4 h))
 
 pub type_exact : Exact a_type IsType
 unfolding a_type
 type_exact = record { takes = takes; finds = λ a rest h. rw h.2 (finds h.0 h.1 rest h.3 h.4) }
   where
-    takes : (bs rest : List ℕ) → a_type bs ≡ some rest → (a : List ℕ) × (bs ≡ a ++ rest) × IsType a
+    takes : (bs rest : List ℕ) → a_type bs ≡ Some rest → (a : List ℕ) × (bs ≡ a ++ rest) × IsType a
     takes [] rest e = none_some e
     takes (n ∷ bs) rest e = go (ltb 0 n && leb n (length bs)) refl e
       where
         go : (b : Bool) → (ltb 0 n && leb n (length bs)) ≡ b →
-            elim b as (λ z. Option (List ℕ)) [ true ↦ some (drop n bs) | false ↦ none ] ≡ some rest →
+            elim b as (λ z. Option (List ℕ)) [ true ↦ Some (drop n bs) | false ↦ None ] ≡ Some rest →
             (a : List ℕ) × (n ∷ bs ≡ a ++ rest) × IsType a
         go true t e =
             let d : drop n bs ≡ rest = cc in
@@ -101,23 +101,23 @@ type_exact = record { takes = takes; finds = λ a rest h. rw h.2 (finds h.0 h.1 
             )
         go false t e = none_some e
 
-    finds : (n : ℕ) (body rest : List ℕ) → 1 ≤ n → length body ≡ n → a_type ((n ∷ body) ++ rest) ≡ some rest
+    finds : (n : ℕ) (body rest : List ℕ) → 1 ≤ n → length body ≡ n → a_type ((n ∷ body) ++ rest) ≡ Some rest
     finds n body rest l e =
         rw (lt-ltb 0 n l, le-leb n (length (body ++ rest)) (simp length-append (omega arith)), a_type)
-        (ap (λ (z : List ℕ). some z) (drop_at body rest n e))
+        (ap (λ (z : List ℕ). Some z) (drop_at body rest n e))
 
 pub opt_exact : Exact a_opt IsOpt
 unfolding a_opt
 opt_exact = record { takes = takes; finds = finds }
   where
-    takes : (bs rest : List ℕ) → a_opt bs ≡ some rest → (a : List ℕ) × (bs ≡ a ++ rest) × IsOpt a
+    takes : (bs rest : List ℕ) → a_opt bs ≡ Some rest → (a : List ℕ) × (bs ≡ a ++ rest) × IsOpt a
     takes [] rest e = none_some e
     takes (zero ∷ bs) rest e = let d : bs ≡ rest = cc in (0 ∷ [], ap (0 ∷◌) d, inl refl)
     takes (suc zero ∷ bs) rest e =
         let w = type_exact.takes bs rest e in (1 ∷ w.0, ap (1 ∷◌) w.1, inr (w.0, refl, w.2))
     takes (suc (suc n) ∷ bs) rest e = none_some e
 
-    finds : (a rest : List ℕ) → IsOpt a → a_opt (a ++ rest) ≡ some rest
+    finds : (a rest : List ℕ) → IsOpt a → a_opt (a ++ rest) ≡ Some rest
     finds a rest (inl e) = rw e refl
     finds a rest (inr (t, e, h)) = rw e (type_exact.finds t rest h)
 
@@ -125,14 +125,14 @@ then_exact : (f g : Reader) (P Q : Part) → Exact f P → Exact g Q → Exact (
 unfolding ◌then◌
 then_exact f g P Q x y = record { takes = takes; finds = finds }
   where
-    takes : (bs rest : List ℕ) → (f then g) bs ≡ some rest → (a : List ℕ) × (bs ≡ a ++ rest) × (P followed Q) a
+    takes : (bs rest : List ℕ) → (f then g) bs ≡ Some rest → (a : List ℕ) × (bs ≡ a ++ rest) × (P followed Q) a
     takes bs rest e = go (f bs) refl e
       where
         go : (o : Option (List ℕ)) → f bs ≡ o →
-            elim o as (λ z. Option (List ℕ)) [ none ↦ none | some r ↦ g r ] ≡ some rest →
+            elim o as (λ z. Option (List ℕ)) [ None ↦ None | Some r ↦ g r ] ≡ Some rest →
             (a : List ℕ) × (bs ≡ a ++ rest) × (P followed Q) a
-        go none t e = none_some e
-        go (some r) t e =
+        go None t e = none_some e
+        go (Some r) t e =
             let w = x.takes bs r t in
             let v = y.takes r rest e in (
               w.0 ++ v.0,
@@ -140,7 +140,7 @@ then_exact f g P Q x y = record { takes = takes; finds = finds }
               (w.0, v.0, refl, w.2, v.2),
             )
 
-    finds : (c rest : List ℕ) → (P followed Q) c → (f then g) (c ++ rest) ≡ some rest
+    finds : (c rest : List ℕ) → (P followed Q) c → (f then g) (c ++ rest) ≡ Some rest
     finds c rest (a, b, e, h, k) =
         rw (e, append_assoc a b rest) (rw (x.finds a (b ++ rest) h, ◌then◌) (y.finds b rest k))
 
@@ -153,13 +153,13 @@ pub counted_exact : Exact (a_counted a_type) Counted
 unfolding a_counted
 counted_exact = record { takes = takes; finds = finds }
   where
-    takes : (bs rest : List ℕ) → a_counted a_type bs ≡ some rest → (a : List ℕ) × (bs ≡ a ++ rest) × Counted a
+    takes : (bs rest : List ℕ) → a_counted a_type bs ≡ Some rest → (a : List ℕ) × (bs ≡ a ++ rest) × Counted a
     takes [] rest e = none_some e
     takes (n ∷ bs) rest e =
         let w = (many_exact a_type IsType type_exact n).takes bs rest e in
         (n ∷ w.0, ap (n ∷◌) w.1, (n, w.0, refl, w.2))
 
-    finds : (a rest : List ℕ) → Counted a → a_counted a_type (a ++ rest) ≡ some rest
+    finds : (a rest : List ℕ) → Counted a → a_counted a_type (a ++ rest) ≡ Some rest
     finds a rest (n, b, e, h) = rw e ((many_exact a_type IsType type_exact n).finds b rest h)
 
 pub bits_exact : (bs : List ℕ) → (bits bs ≡ true) ↔ Bits bs

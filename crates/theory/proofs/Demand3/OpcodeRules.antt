@@ -4,7 +4,7 @@
 use mathlib.Core.Path.{◌≡◌, refl, ap, sym, subst}
 use mathlib.Core.Logic.{◌⊎◌, inl, inr, ◌↔◌}
 use mathlib.Core.Bool.{Bool, true, false, not, ◌&&◌, beq}
-use mathlib.Core.Option.{Option, none, some}
+use Rattle.std.specs.Prelude.{Option, None, Some}
 use mathlib.Core.List.{List, [], ◌∷◌, map}
 use Prim.Native.Nat.{ℕ, ◌≤◌}
 use lib.Dec.{eqb, leb}
@@ -74,7 +74,7 @@ module _ (o s : ℕ) where
   -- ---- the test with a table; `other` is what is said of other opcodes
 
   tested : Bool → Pairs → Bool
-  tested other ps = elim (shape_of ps o) [ none ↦ other | some z ↦ eqb z s ]
+  tested other ps = elim (shape_of ps o) [ None ↦ other | Some z ↦ eqb z s ]
 
   abbrev Outcome : Bool → Pairs → Type 0
   Outcome other ps = Found ps ⊎ ((In o (firsts ps) → ⊥) × (other ≡ true))
@@ -89,9 +89,9 @@ module _ (o s : ℕ) where
       step h (inr w) = inr (λ m. elim m [ inl e ↦ h e | inr k ↦ w.0 k ], w.1)
 
       go : (b : Bool) → eqb p.0 o ≡ b → (tested other ps ≡ true → Outcome other ps) →
-          elim (elim b as (λ z. Option ℕ) [ true ↦ some p.1 | false ↦ shape_of ps o ]) as (λ z. Bool) [
-            | none ↦ other
-            | some z ↦ eqb z s
+          elim (elim b as (λ z. Option ℕ) [ true ↦ Some p.1 | false ↦ shape_of ps o ]) as (λ z. Bool) [
+            | None ↦ other
+            | Some z ↦ eqb z s
           ] ≡ true →
           Outcome other (p ∷ ps)
       go true f rest e = inl (inl (sym (eqb-true p.0 o f), sym (eqb-true p.1 s e)))
@@ -103,9 +103,9 @@ module _ (o s : ℕ) where
   passes other (p ∷ ps) w h = go (eqb p.0 o) refl (passes other ps w.1)
     where
       go : (b : Bool) → eqb p.0 o ≡ b → (((In o (firsts ps) → ⊥) → other ≡ true) → tested other ps ≡ true) →
-          elim (elim b as (λ z. Option ℕ) [ true ↦ some p.1 | false ↦ shape_of ps o ]) as (λ z. Bool) [
-            | none ↦ other
-            | some z ↦ eqb z s
+          elim (elim b as (λ z. Option ℕ) [ true ↦ Some p.1 | false ↦ shape_of ps o ]) as (λ z. Bool) [
+            | None ↦ other
+            | Some z ↦ eqb z s
           ] ≡ true
       go true f rest = eq-eqb p.1 s (sym (w.0 (sym (eqb-true p.0 o f))))
       go false f rest = rest (λ n. h (λ m. elim m [ inl e ↦ eqb-false p.0 o f (sym e) | inr k ↦ n k ]))

@@ -6,7 +6,8 @@
 use mathlib.Core.Path.{◌≡◌, refl, ap, sym, ◌∙◌}
 use mathlib.Core.Logic.{◌⊎◌, inl, inr, ◌↔◌}
 use mathlib.Core.Bool.{Bool, true, false, ◌||◌}
-use mathlib.Core.Option.{Option, none, some, some-injective}
+use Rattle.std.specs.Prelude.{Option, None, Some}
+use Rattle.std.proofs.lemmas.Option.{same_Some}
 use mathlib.Core.List.{List, [], ◌∷◌, ◌++◌, map}
 use Prim.Native.Nat.{ℕ, ◌<◌}
 use lib.Dec.{eqb, ltb}
@@ -48,12 +49,12 @@ use Rattle.theory.proofs.Demand3.Ids.{check_9, check_10}
 
 -- where interning refuses with number n
 abbrev refused_at : ℕ → Out → Option ℕ
-refused_at n (refused m p) = elim (eqb m n) [ true ↦ some p | false ↦ none ]
-refused_at n (good o) = none
+refused_at n (refused m p) = elim (eqb m n) [ true ↦ Some p | false ↦ None ]
+refused_at n (good o) = None
 
 -- where a check of the defined tree fails, if a tree is defined
 abbrev of_tree : (ℕ × State → Option ℕ) → Out → Option ℕ
-of_tree check (refused m p) = none
+of_tree check (refused m p) = None
 of_tree check (good o) = check o
 
 -- the checks from interning on
@@ -78,24 +79,24 @@ accepting forest = refl
 
 -- ---- conditions and failing checks
 
-refused_at_lem : (n : ℕ) (m : Out) (p : ℕ) → (refused_at n m ≡ some p) ↔ (m ≡ refused n p)
+refused_at_lem : (n : ℕ) (m : Out) (p : ℕ) → (refused_at n m ≡ Some p) ↔ (m ≡ refused n p)
 refused_at_lem n (good o) p = (λ e. none_some e, λ e. refused_good (sym e))
 refused_at_lem n (refused m q) p = (to (eqb m n) refl, back)
   where
-    to : (b : Bool) → eqb m n ≡ b → elim b [ true ↦ some q | false ↦ none ] ≡ some p →
+    to : (b : Bool) → eqb m n ≡ b → elim b [ true ↦ Some q | false ↦ None ] ≡ Some p →
         ◌≡◌ {A = Out} (refused m q) (refused n p)
-    to true f e = let z : m ≡ n = eqb-true m n f in let y : q ≡ p = some-injective _ _ e in cc
+    to true f e = let z : m ≡ n = eqb-true m n f in let y : q ≡ p = same_Some _ _ e in cc
     to false f e = none_some e
 
-    back : ◌≡◌ {A = Out} (refused m q) (refused n p) → elim (eqb m n) [ true ↦ some q | false ↦ none ] ≡ some p
-    back e = let z : m ≡ n = cc in let y : q ≡ p = cc in rw (eq-eqb m n z) (ap some y)
+    back : ◌≡◌ {A = Out} (refused m q) (refused n p) → elim (eqb m n) [ true ↦ Some q | false ↦ None ] ≡ Some p
+    back e = let z : m ≡ n = cc in let y : q ≡ p = cc in rw (eq-eqb m n z) (ap Some y)
 
 of_tree_lem : (check : ℕ × State → Option ℕ) (m : Out) (p : ℕ) →
-    (of_tree check m ≡ some p) ↔ ((o : ℕ × State) × (m ≡ good o) × (check o ≡ some p))
+    (of_tree check m ≡ Some p) ↔ ((o : ℕ × State) × (m ≡ good o) × (check o ≡ Some p))
 of_tree_lem check (refused n q) p = (λ e. none_some e, λ h. refused_good h.1)
 of_tree_lem check (good o) p = (λ e. (o, refl, e), λ h. let z : o ≡ h.0 = good_inj h.1 in rw z h.2)
 
-pub check_13 : (room : ℕ) (o : ℕ × State) (p : ℕ) → (check13 room o ≡ some p) ↔ ((p ≡ 0) × TooLarge room o)
+pub check_13 : (room : ℕ) (o : ℕ × State) (p : ℕ) → (check13 room o ≡ Some p) ↔ ((p ≡ 0) × TooLarge room o)
 unfolding check13
 check_13 room o p =
     (λ e. let w = (at_0 _ p).0 e in (w.0, to ((or-true _ _).0 w.1)), λ h. (at_0 _ p).1 (h.0, back h.1))
@@ -118,7 +119,7 @@ check_13 room o p =
     back (inr (inr h)) =
         (or-true (ltb 256 (size (tree_of o)) || ltb 65535 (length (bytes_of o))) _).1 (inr ((less _ _).1 h))
 
-pub check_14 : (o : ℕ × State) (p : ℕ) → (check14 o ≡ some p) ↔ ((p ≡ 0) × (64 < depth (tree_of o)))
+pub check_14 : (o : ℕ × State) (p : ℕ) → (check14 o ≡ Some p) ↔ ((p ≡ 0) × (64 < depth (tree_of o)))
 unfolding check14
 check_14 o p = (
   λ e. let w = (at_0 _ p).0 e in (w.0, (less _ _).0 w.1),
@@ -240,17 +241,17 @@ module _ (c : Call) where
   made = interning forest
 
   at_tree : (check : ℕ × State → Option ℕ) (Cond : ℕ × State → Type 0) (n : ℕ) →
-      ((o : ℕ × State) (p : ℕ) → (check o ≡ some p) ↔ ((p ≡ 0) × Cond o)) →
+      ((o : ℕ × State) (p : ℕ) → (check o ≡ Some p) ↔ ((p ≡ 0) × Cond o)) →
       ((o : ℕ × State) → Interned forest o → Cond o → Applies c n 0) →
       ((p : ℕ) → Applies c n p → (o : ℕ × State) × Interned forest o × ((p ≡ 0) × Cond o)) →
-      (p : ℕ) → (of_tree check made ≡ some p) ↔ Applies c n p
+      (p : ℕ) → (of_tree check made ≡ Some p) ↔ Applies c n p
   at_tree check Cond n same to back p = (
     λ e. go ((of_tree_lem check made p).0 e),
     λ h. let w = back p h in
         (of_tree_lem check made p).1 (w.0, (interned_exactly forest w.0).1 w.1, (same w.0 p).1 w.2),
   )
     where
-      go : (o : ℕ × State) × (made ≡ good o) × (check o ≡ some p) → Applies c n p
+      go : (o : ℕ × State) × (made ≡ good o) × (check o ≡ Some p) → Applies c n p
       go (o, d, e) = let w = (same o p).0 e in at_place_0 n p w.0 (to o ((interned_exactly forest o).0 d) w.1)
 
   late_exact : Exact (Applies c) (late c.room (interning c.forest))
@@ -283,7 +284,7 @@ root_limited forest = go (intern_forest (trees_of forest)) (forest_limited (tree
     go (good os) h = tt
 
 -- where no tree is defined, no check of it fails
-none_silent : (n p : ℕ) (cs : List (ℕ × (ℕ × State → Option ℕ))) → FirstAt n p (map (λ c. (c.0, none)) cs) → ⊥
+none_silent : (n p : ℕ) (cs : List (ℕ × (ℕ × State → Option ℕ))) → FirstAt n p (map (λ c. (c.0, None)) cs) → ⊥
 none_silent n p [] f = f
 none_silent n p (c ∷ cs) (inl f) = none_some f.1
 none_silent n p (c ∷ cs) (inr f) = none_silent n p cs f.1
@@ -297,7 +298,7 @@ module _ (room : ℕ) where
   rest-first (good o) n p (inr (e, inr (g, f))) = first-checked n p _ (written_of o) f
   rest-first (refused m q) n p f = go f
     where
-      same : (k : ℕ) → k ≡ n → refused_at k (refused m q) ≡ some p → ◌≡◌ {A = Answer Written} (refused m q) (refused n p)
+      same : (k : ℕ) → k ≡ n → refused_at k (refused m q) ≡ Some p → ◌≡◌ {A = Answer Written} (refused m q) (refused n p)
       same k e f = let w = refused_parts ((refused_at_lem k (refused m q) p).0 f) in cc
 
       go : FirstAt n p (late room (refused m q)) → ◌≡◌ {A = Answer Written} (refused m q) (refused n p)

@@ -5,7 +5,7 @@
 use mathlib.Core.Path.{◌≡◌, refl, ap, sym, ◌∙◌}
 use mathlib.Core.Logic.{◌⊎◌, inl, inr, ◌↔◌}
 use mathlib.Core.Bool.{Bool, true, false, not, ◌&&◌, beq}
-use mathlib.Core.Option.{none, some}
+use Rattle.std.specs.Prelude.{None, Some}
 use Prim.Native.Nat.{ℕ, suc, ◌+◌, ◌<◌}
 use native.Mathlib.Omega.{arith}
 use lib.Dec.{eqb}
@@ -230,12 +230,12 @@ out_of_place ts p = (to, back)
     back : OutOfPlace ts p → Faulty (misplaced_in ts false) p
     back h = let w = says_8 ts p h.0 in w.1 ∙ offends w.0 w.2 h.1
 
-pub check_8 : (ts : Trees) (p : ℕ) → (check8 ts ≡ some p) ↔ First (OutOfPlace ts) p
+pub check_8 : (ts : Trees) (p : ℕ) → (check8 ts ≡ Some p) ↔ First (OutOfPlace ts) p
 unfolding check8
 check_8 ts = first_of (OutOfPlace ts) (misplaced_in ts false) (out_of_place ts)
 
 -- where it passes, a definition is a block's child
-pub def_stands : (ts : Trees) → check8 ts ≡ none → (d : ℕ) → d < sizes ts →
+pub def_stands : (ts : Trees) → check8 ts ≡ None → (d : ℕ) → d < sizes ts →
     shape_in ts d ≡ 10 → BeforeLast ts d
 unfolding check8
 def_stands ts eight d l e = go w.0 w.1 w.2

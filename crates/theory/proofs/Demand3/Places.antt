@@ -4,7 +4,8 @@
 use mathlib.Core.Path.{◌≡◌, refl, ap, sym, ◌∙◌, subst}
 use mathlib.Core.Logic.{◌⊎◌, inl, inr, ◌↔◌, ◌≢◌}
 use mathlib.Core.Bool.{Bool, true, false, not, ◌&&◌, ◌||◌}
-use mathlib.Core.Option.{none, some, some-injective}
+use Rattle.std.specs.Prelude.{None, Some}
+use Rattle.std.proofs.lemmas.Option.{same_Some}
 use mathlib.Core.List.{List, [], ◌∷◌, map}
 use Prim.Native.Nat.{ℕ, zero, suc, ◌+◌, ◌≤◌, ◌<◌}
 use native.Mathlib.Omega.{arith}
@@ -42,8 +43,8 @@ or-true false b = (λ e. inr e, back)
 pub less : (a b : ℕ) → (ltb a b ≡ true) ↔ (a < b)
 less a b = (ltb-true a b, lt-ltb a b)
 
-pub at_0 : (b : Bool) (p : ℕ) → (at0 b ≡ some p) ↔ ((p ≡ 0) × (b ≡ true))
-at_0 true p = (λ e. (cc, refl), λ h. ap some (sym h.0))
+pub at_0 : (b : Bool) (p : ℕ) → (at0 b ≡ Some p) ↔ ((p ≡ 0) × (b ≡ true))
+at_0 true p = (λ e. (cc, refl), λ h. ap Some (sym h.0))
 at_0 false p = (λ e. none_some e, λ h. absurd (clash false h.1 refl))
 
 -- ---- records that fail a test
@@ -155,14 +156,14 @@ Lacking n rs k = (k ≡ length rs) × ((q : ℕ) → q ≤ length rs → ClosedB
 abbrev Unclosed : ℕ → List Row → ℕ → Type 0
 Unclosed n rs k = LeftOver n rs k ⊎ Lacking n rs k
 
-unclosed_some : (n at : ℕ) (rs : List Row) (p : ℕ) → unclosed n at rs ≡ some p →
+unclosed_some : (n at : ℕ) (rs : List Row) (p : ℕ) → unclosed n at rs ≡ Some p →
     (k : ℕ) × (p ≡ at + k) × Unclosed n rs k
 unfolding unclosed
 unclosed_some zero at [] p e = none_some e
 unclosed_some (suc n) at [] p e =
-    (0, omega (arith, some-injective _ _ e), inr (refl, λ q l c. omega (arith, l, c)))
+    (0, omega (arith, same_Some _ _ e), inr (refl, λ q l c. omega (arith, l, c)))
 unclosed_some zero at (r ∷ rs) p e =
-    (0, omega (arith, some-injective _ _ e), inl (omega arith, (refl, λ q l. absurd (omega arith))))
+    (0, omega (arith, same_Some _ _ e), inl (omega arith, (refl, λ q l. absurd (omega arith))))
 unclosed_some (suc n) at (r ∷ rs) p e =
     let w = unclosed_some (n + r.kids) (suc at) rs p e in (suc w.0, omega (arith, w.1), next w.0 w.2)
   where
@@ -179,18 +180,18 @@ unclosed_some (suc n) at (r ∷ rs) p e =
           λ q l c. none_lower (suc (length rs)) (λ z lz cz. h.1 z (omega arith) cz) q (omega arith) c,
         )
 
-some_unclosed : (n at : ℕ) (rs : List Row) (k : ℕ) → Unclosed n rs k → unclosed n at rs ≡ some (at + k)
+some_unclosed : (n at : ℕ) (rs : List Row) (k : ℕ) → Unclosed n rs k → unclosed n at rs ≡ Some (at + k)
 unfolding unclosed
 some_unclosed zero at [] k (inl h) = absurd (omega (arith, h.0))
 some_unclosed zero at [] k (inr h) = absurd (h.1 0 (omega arith) refl)
 some_unclosed (suc n) at [] k (inl h) = absurd (omega (arith, h.0))
-some_unclosed (suc n) at [] k (inr h) = ap some (omega (arith, h.0))
-some_unclosed zero at (r ∷ rs) zero h = ap some (omega arith)
+some_unclosed (suc n) at [] k (inr h) = ap Some (omega (arith, h.0))
+some_unclosed zero at (r ∷ rs) zero h = ap Some (omega arith)
 some_unclosed zero at (r ∷ rs) (suc k) (inl h) = absurd (h.1.1 0 (omega arith) refl)
 some_unclosed zero at (r ∷ rs) (suc k) (inr h) = absurd (h.1 0 (omega arith) refl)
 some_unclosed (suc n) at (r ∷ rs) zero (inl h) = absurd (omega (arith, h.1.0))
 some_unclosed (suc n) at (r ∷ rs) zero (inr h) = absurd (omega (arith, h.0))
-some_unclosed (suc n) at (r ∷ rs) (suc k) h = some_unclosed (n + r.kids) (suc at) rs k (next h) ∙ ap some (omega arith)
+some_unclosed (suc n) at (r ∷ rs) (suc k) h = some_unclosed (n + r.kids) (suc at) rs k (next h) ∙ ap Some (omega arith)
   where
     next : Unclosed (suc n) (r ∷ rs) (suc k) → Unclosed (n + r.kids) rs k
     next (inl h) =
@@ -200,7 +201,7 @@ some_unclosed (suc n) at (r ∷ rs) (suc k) h = some_unclosed (n + r.kids) (suc 
 -- ---- the checks
 
 module _ (forest : List ℕ) where
-  pub check_2 : (p : ℕ) → (check2 forest ≡ some p) ↔ ((p ≡ 0) × HeaderOffends forest)
+  pub check_2 : (p : ℕ) → (check2 forest ≡ Some p) ↔ ((p ≡ 0) × HeaderOffends forest)
   unfolding check2
   check_2 p = (
     λ e. let w = (at_0 _ p).0 e in (w.0, to ((or-true _ _).0 w.1)),
@@ -244,7 +245,7 @@ module _ (forest : List ℕ) where
       back (inr (inl h)) = (or-true _ _).1 (inl ((or-true (ltb (length forest) 4) _).1 (inr (lt-ltb _ _ h))))
       back (inr (inr h)) = (or-true (ltb (length forest) 4 || ltb 65535 (length forest)) _).1 (inr (out_of range refl h))
 
-  pub check_3 : (p : ℕ) → (check3 forest ≡ some p) ↔ DirectoryOffends forest p
+  pub check_3 : (p : ℕ) → (check3 forest ≡ Some p) ↔ DirectoryOffends forest p
   unfolding check3 body_start
   check_3 p = (λ e. to (ltb (length forest) (directory_end forest)) refl e, back)
     where
@@ -270,21 +271,21 @@ module _ (forest : List ℕ) where
           )
 
       to : (b : Bool) → ltb (length forest) (directory_end forest) ≡ b →
-          elim b [ true ↦ some 0 | false ↦ first tests ] ≡ some p → DirectoryOffends forest p
-      to true t e = inl (sym (some-injective _ _ e), ltb-true _ _ t)
+          elim b [ true ↦ Some 0 | false ↦ first tests ] ≡ Some p → DirectoryOffends forest p
+      to true t e = inl (sym (same_Some _ _ e), ltb-true _ _ t)
       to false t e = inr (ltb-false _ _ t, (first_of (PairOffends forest) tests same p).0 e)
 
-      back : DirectoryOffends forest p → check3 forest ≡ some p
-      back (inl h) = rw (lt-ltb _ _ h.1, check3) (ap some (sym h.0))
+      back : DirectoryOffends forest p → check3 forest ≡ Some p
+      back (inl h) = rw (lt-ltb _ _ h.1, check3) (ap Some (sym h.0))
       back (inr h) = rw (le-ltb _ _ h.0, check3) ((first_of (PairOffends forest) tests same p).1 h.1)
 
-  pub check_4 : (p : ℕ) → (check4 forest ≡ some p) ↔ First (ShapeOffends forest) p
+  pub check_4 : (p : ℕ) → (check4 forest ≡ Some p) ↔ First (ShapeOffends forest) p
   unfolding check4
   check_4 = first_of (ShapeOffends forest) (map (λ r. not (fits r)) (rows_in forest)) λ q.
       rw (← row_count forest) (faulty_fails fits IsRight fits_right (rows_in forest) q)
 
   -- where it passes, every record is right for its shape
-  pub row_right : check4 forest ≡ none → (p : ℕ) → p < record_count forest → IsRight (record_at forest p)
+  pub row_right : check4 forest ≡ None → (p : ℕ) → p < record_count forest → IsRight (record_at forest p)
   unfolding check4
   row_right four p l = go (fits (record_at forest p)) refl
     where
@@ -297,16 +298,16 @@ module _ (forest : List ℕ) where
           absurd (none_faulty tests four p ((faulty_fails fits IsRight fits_right (rows_in forest) p).1
           (omega (arith, row_count forest), λ t. clash _ ((fits_right (record_at forest p)).1 t) e)))
 
-  pub check_5 : (p : ℕ) → (check5 forest ≡ some p) ↔ First (OpcodeOffends forest) p
+  pub check_5 : (p : ℕ) → (check5 forest ≡ Some p) ↔ First (OpcodeOffends forest) p
   unfolding check5
   check_5 = first_of (OpcodeOffends forest) (map (λ r. not (agrees r.rec)) (rows_in forest)) λ q.
       rw (← row_count forest) (faulty_fails (λ r. agrees r.rec) (λ r. Together r.rec.opcode r.rec.shape)
       (λ r. agrees_together r.rec) (rows_in forest) q)
 
-  pub check_6 : (p : ℕ) → (check6 forest ≡ some p) ↔ TreesOffend forest p
+  pub check_6 : (p : ℕ) → (check6 forest ≡ Some p) ↔ TreesOffend forest p
   unfolding check6
   check_6 p = rw (← row_count forest) (
     λ e. let w = unclosed_some (tree_count forest) 0 (rows_in forest) p e in
         let z : w.0 ≡ p = omega (arith, w.1) in subst (Unclosed (tree_count forest) (rows_in forest)) z w.2,
-    λ h. some_unclosed (tree_count forest) 0 (rows_in forest) p h ∙ ap some (omega arith),
+    λ h. some_unclosed (tree_count forest) 0 (rows_in forest) p h ∙ ap Some (omega arith),
   )

@@ -4,7 +4,7 @@
 -- Assumes nothing.
 use mathlib.Core.Path.{◌≡◌, refl, ap, ◌∙◌}
 use mathlib.Core.Bool.{Bool, true, false, ◌||◌}
-use mathlib.Core.Option.{Option, none, some}
+use Rattle.std.specs.Prelude.{Option, None, Some}
 use mathlib.Core.List.{List, [], ◌∷◌, ◌++◌}
 use Prim.Native.Nat.{ℕ, suc, ◌+◌}
 use native.Mathlib.Omega.{arith}
@@ -157,10 +157,10 @@ module _ (at cur : ℕ) (r : Rec) where
       deps = without (union_deps st.syms ks) own
 
       go : (f : Option ℕ) → Sym st
-          (elim f as (λ z. Out) [ some i ↦ good (i, st) | none ↦ alloc at cur r ks deps true nd st ])
-          (elim f as (λ z. Out') [ some i ↦ pure (i, st) | none ↦ alloc' at cur r ks deps true nd st ])
-      go (some i) = follows_good of_out _ _ (i, st) refl refl
-      go none = alloc_follows ks deps true nd st
+          (elim f as (λ z. Out) [ Some i ↦ good (i, st) | None ↦ alloc at cur r ks deps true nd st ])
+          (elim f as (λ z. Out') [ Some i ↦ pure (i, st) | None ↦ alloc' at cur r ks deps true nd st ])
+      go (Some i) = follows_good of_out _ _ (i, st) refl refl
+      go None = alloc_follows ks deps true nd st
 
   args_follow : (xs : List (ℕ × List ℕ)) (st : State) → Syms st (alloc_args at cur r xs st) (alloc_args' at cur r xs st)
   unfolding alloc_args alloc_args'
@@ -181,10 +181,10 @@ unfolding pair_projection new_projections pair_projection' new_projections'
 projection_follows at cur r i p st = go (recall st.memo p)
   where
     go : (f : Option (ℕ × ℕ)) → Sym st
-        (elim f as (λ z. Out) [ some ab ↦ good (pick i ab, st) | none ↦ new_projections at cur r i p st ])
-        (elim f as (λ z. Out') [ some ab ↦ pure (pick i ab, st) | none ↦ new_projections' at cur r i p st ])
-    go (some ab) = follows_good of_out _ _ (pick i ab, st) refl refl
-    go none =
+        (elim f as (λ z. Out) [ Some ab ↦ good (pick i ab, st) | None ↦ new_projections at cur r i p st ])
+        (elim f as (λ z. Out') [ Some ab ↦ pure (pick i ab, st) | None ↦ new_projections' at cur r i p st ])
+    go (Some ab) = follows_good of_out _ _ (pick i ab, st) refl refl
+    go None =
         follows_bind of_out of_out _ _ _ _ _ _ (finish_follows at cur (rec r.shape r.opcode 0 (1 ∷ [])) (p ∷ []) []
         (operation []) st) λ a.
         follows_bind of_out of_out _ _ _ _ _ _ (finish_follows at cur (rec r.shape r.opcode 0 (2 ∷ [])) (p ∷ []) []

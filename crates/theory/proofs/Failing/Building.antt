@@ -5,7 +5,7 @@
 use mathlib.Core.Path.{◌≡◌, refl, ap, sym, ◌∙◌}
 use mathlib.Core.Logic.{◌⊎◌, inl, inr}
 use mathlib.Core.Bool.{Bool, true, false}
-use mathlib.Core.Option.{Option, none, some}
+use Rattle.std.specs.Prelude.{Option, None, Some}
 use mathlib.Core.List.{List, [], ◌∷◌, map}
 use Prim.Native.Nat.{ℕ, suc, ◌≤◌, ◌<◌}
 use native.Mathlib.Omega.{arith}
@@ -63,7 +63,7 @@ module _ {W : Type 0} (sem : Semantics W) where
 
   -- the values of ids after them, if each has one
   eval_defs : Trees → Values W → Option (Values W)
-  eval_defs nil ms = some ms
+  eval_defs nil ms = Some ms
   eval_defs (cons d ds) ms = ev d ms >>= λ w. eval_defs ds ((id_of (top d), w) ∷ ms)
 
   last_snoc : (ds : Trees) (r : Tree) (ms : Values W) → eval_last sem (snoc ds r) ms ≡ (eval_defs ds ms >>= λ m. ev r m)
@@ -81,8 +81,8 @@ module _ {W : Type 0} (sem : Semantics W) where
           ≡ (eval_defs ds ((id_of (top d), w) ∷ ms) >>= λ m. ev r m)) →
           (o >>= λ w. eval_last sem (snoc ds r) ((id_of (top d), w) ∷ ms))
           ≡ (o >>= (λ w. eval_defs ds ((id_of (top d), w) ∷ ms)) >>= λ m. ev r m)
-      go none h = refl
-      go (some w) h = h w
+      go None h = refl
+      go (Some w) h = h w
 
   use_of : (r : Tree) (ms : Values W) → eqb (top r).shape 7 ≡ true → ev r ms ≡ value_in ms (id_of (top r))
   unfolding eval eval_kind
@@ -98,14 +98,14 @@ module _ {W : Type 0} (sem : Semantics W) where
       x : Tree
       x = val_def_of i v
 
-      uses : (w : W) → ev r ((id_of (top x), w) ∷ ms) ≡ some w
+      uses : (w : W) → ev r ((id_of (top x), w) ∷ ms) ≡ Some w
       uses w =
           let is = renames_is x v r e in
           use_of r ((id_of (top x), w) ∷ ms) is.0 ∙ rw (is.1, value_in) refl
 
-      go : (o : Option W) → o ≡ (o >>= (λ w. some ((id_of (top x), w) ∷ ms)) >>= λ m. ev r m)
-      go none = refl
-      go (some w) = sym (uses w)
+      go : (o : Option W) → o ≡ (o >>= (λ w. Some ((id_of (top x), w) ∷ ms)) >>= λ m. ev r m)
+      go None = refl
+      go (Some w) = sym (uses w)
 
   wrap_eval : (ds : Trees) (r : Tree) → AllDefs ds → (ms : Values W) →
       ev (wrap_block ds r) ms ≡ (eval_defs ds ms >>= λ m. ev r m)
@@ -124,14 +124,14 @@ module _ {W : Type 0} (sem : Semantics W) where
     -- ---- ids given are at most the last one, and have the values of their symbols
 
     record GivenValues (env : Env) (last : ℕ) (ms : Values W) : Type 0 where
-      low : (s i : ℕ) → id_given env s ≡ some i → i ≤ last
-      stands : (s i : ℕ) → id_given env s ≡ some i → value_in ms i ≡ val s
+      low : (s i : ℕ) → id_given env s ≡ Some i → i ≤ last
+      stands : (s i : ℕ) → id_given env s ≡ Some i → value_in ms i ≡ val s
 
     abbrev Evaluates : Builder → ℕ → Type 0
     Evaluates f k = In (scope_at g.syms k) M → (sc : ℕ) (env : Env) (last : ℕ) (ms : Values W) → GivenValues env last ms →
         ev (f k sc env last) ms ≡ val k
 
-    given-more : (env : Env) (last s : ℕ) (ms : Values W) (w : W) → val s ≡ some w → GivenValues env last ms →
+    given-more : (env : Env) (last s : ℕ) (ms : Values W) (w : W) → val s ≡ Some w → GivenValues env last ms →
         GivenValues ((s, suc last) ∷ env) (suc last) ((suc last, w) ∷ ms)
     unfolding value_in
     given-more env last s ms w e h = record {
@@ -139,8 +139,8 @@ module _ {W : Type 0} (sem : Semantics W) where
       stands = λ t i q. stands t i (given_cases s (suc last) env t i q);
     }
       where
-        stands : (t i : ℕ) → ((s ≡ t) × (suc last ≡ i)) ⊎ (id_given env t ≡ some i) →
-            elim (eqb (suc last) i) [ true ↦ some w | false ↦ value_in ms i ] ≡ val t
+        stands : (t i : ℕ) → ((s ≡ t) × (suc last ≡ i)) ⊎ (id_given env t ≡ Some i) →
+            elim (eqb (suc last) i) [ true ↦ Some w | false ↦ value_in ms i ] ≡ val t
         stands t i (inl q) = rw (eq-eqb (suc last) i q.1) (sym e ∙ ap val q.0)
         stands t i (inr q) =
             rw (ne_eqb (suc last) i (λ z. absurd (omega (arith, h.low t i q)))) (h.stands t i q)
@@ -151,7 +151,7 @@ module _ {W : Type 0} (sem : Semantics W) where
     record DefsValued (env : Env) (last : ℕ) (d : Defined) (ms : Values W) : Type 0 where
       are_defs : AllDefs d.defs
       after : Values W
-      found_is : eval_defs d.defs ms ≡ some after
+      found_is : eval_defs d.defs ms ≡ Some after
       given : GivenValues d.env d.last after
 
     module _ (f : Builder) (r sc : ℕ) (l : r < n) (right : (k : ℕ) → k ≤ r → Evaluates f k) (entered : In sc M)
@@ -169,7 +169,7 @@ module _ {W : Type 0} (sem : Semantics W) where
           let low = below_low g.syms g.scopes n good r l s (every s (inl refl)) in
           let in_scope : In (scope_at g.syms s) M = rw (member_is g sc env s e).0 entered in
           let live = lives s (omega arith) in_scope in
-          let is : ev v ms ≡ some live.found = right s low in_scope sc env last ms h ∙ live.found_is in
+          let is : ev v ms ≡ Some live.found = right s low in_scope sc env last ms h ∙ live.found_is in
           let p = rest (λ t m. every t (inr m)) ((suc last, live.found) ∷ ms)
           (given-more env last s ms live.found live.found_is h) in
           record {
@@ -242,7 +242,7 @@ module _ {W : Type 0} (sem : Semantics W) where
           ∙ sym (is_applied ∙ ap (λ (z : List ℕ). applied sem (rec_at g.syms s) (map val z)) e)
 
       node_right : (nd : Node) → NodeOk g.syms g.scopes s nd → OperationOrLeaf nd →
-          KidsLive sem g.syms M (rec_at g.syms s).opcode 0 (get_or kids 0 none) (sym_kids g.syms s) (thunks_of nd) →
+          KidsLive sem g.syms M (rec_at g.syms s).opcode 0 (get_or kids 0 None) (sym_kids g.syms s) (thunks_of nd) →
           ev (build_node g f (sym_of g s) nd sc env last) ms ≡ val s
       unfolding build_node
       node_right constant ok q k = leaf_right ok.0 ok.1
@@ -263,11 +263,11 @@ module _ {W : Type 0} (sem : Semantics W) where
           is_live = lives s l live
 
           go : (o : Option ℕ) → id_given env s ≡ o → ev (elim o [
-            | some i ↦ val_use_of i
-            | none ↦ build_node g f (sym_of g s) (sym_of g s).node sc env last
+            | Some i ↦ val_use_of i
+            | None ↦ build_node g f (sym_of g s) (sym_of g s).node sc env last
           ]) ms ≡ val s
-          go (some i) e = use_eval i ms ∙ h.stands s i e
-          go none e = node_right (node_at g.syms s) (good s l).node_is is_live.node_is is_live.kids_live
+          go (Some i) e = use_eval i ms ∙ h.stands s i e
+          go None e = node_right (node_at g.syms s) (good s l).node_is is_live.node_is is_live.kids_live
 
     value_right : (s : ℕ) → s < n → Evaluates (build_value g) s
     unfolding build_value

@@ -6,7 +6,7 @@
 use mathlib.Core.Path.{◌≡◌, refl}
 use mathlib.Core.Logic.{◌⊎◌, inl, inr}
 use mathlib.Core.Bool.{Bool, true, false}
-use mathlib.Core.Option.{Option, none}
+use Rattle.std.specs.Prelude.{Option, None}
 use mathlib.Core.List.{List, [], ◌∷◌, ◌++◌}
 use Prim.Native.Nat.{ℕ, suc, ◌≤◌, ◌<◌}
 use native.Mathlib.Omega.{arith}
@@ -120,7 +120,7 @@ module _ (F : Final) where
   -- before a reading in scope cur: the scopes around are there, cur is no lambda's, and the tables line up with them
   pub record Here (st : State) (cur : ℕ) : Type 0 where
     pub opens : Every (λ b. b < scope_count st) (outwards cur)
-    pub plain : (get_or F.scopes cur root_scope).args ≡ none
+    pub plain : (get_or F.scopes cur root_scope).args ≡ None
     pub lined : Lined (sym_count st) st.tables (outwards cur)
 
   -- after it: each new symbol is in cur or in a new scope

@@ -6,7 +6,7 @@
 use mathlib.Core.Path.{◌≡◌, refl, ap, sym, ◌∙◌}
 use mathlib.Core.Logic.{inl, inr}
 use mathlib.Core.Bool.{false}
-use mathlib.Core.Option.{some}
+use Rattle.std.specs.Prelude.{Some}
 use mathlib.Core.List.{List, []}
 use Prim.Native.Nat.{ℕ, ◌<◌}
 use native.Mathlib.Omega.{arith}
@@ -88,7 +88,7 @@ module _ {W : Type 0} (sem : Semantics W) (ts : Trees) (allowed : EachIn Allowed
   root-last (cons t nil) e = refl
   root-last (cons t (cons u us)) e = absurd (omega arith)
 
-  tree_value : (w : W) → eval sem (root ts) [] ≡ some w → eval sem (tree_of o) [] ≡ some w
+  tree_value : (w : W) → eval sem (root ts) [] ≡ Some w → eval sem (tree_of o) [] ≡ Some w
   unfolding tree_of materialize reachable value_in start
   tree_value w q =
       let v = kept.valued at_end at_start [] w (λ i u e. none_some e) (root-last ts one ∙ q) in
@@ -101,7 +101,7 @@ module _ {W : Type 0} (sem : Semantics W) (ts : Trees) (allowed : EachIn Allowed
 
 module _ {W : Type 0} (sem : Semantics W) (forest : List ℕ) (simple : Simple forest) where
   passed_kept : Passes (checks forest) → (o : ℕ × State) → intern_last (intern_forest (trees_of forest)) ≡ good o → (w : W) →
-      eval sem (root (trees_of forest)) [] ≡ some w → eval sem (tree_of o) [] ≡ some w
+      eval sem (root (trees_of forest)) [] ≡ Some w → eval sem (tree_of o) [] ≡ Some w
   passed_kept pass o is =
       tree_value sem (trees_of forest) (forest_each Allowed forest (λ p. (simple.no_lambda p, simple.no_field p)))
       ((closed forest pass).0 ∙ simple.one_tree) (checked-trees forest pass) o is (root_ready forest pass o is)

@@ -4,7 +4,7 @@
 -- Assumes nothing.
 use mathlib.Core.Path.{◌≡◌, refl, ap, sym, subst, ◌∙◌}
 use mathlib.Core.Bool.{Bool, true, false, not, ◌&&◌}
-use mathlib.Core.Option.{Option, none, some}
+use Rattle.std.specs.Prelude.{Option, None, Some}
 use mathlib.Core.List.{List, [], ◌∷◌, ◌++◌}
 use Prim.Native.Nat.{ℕ, suc, ◌≤◌}
 use native.Mathlib.Omega.{arith}
@@ -66,10 +66,10 @@ module _ {W : Type 0} (sem : Semantics W) (F : Final) where
   -- ---- a child, and then the others
 
   found_parts : (o : Option W) (m : Option (List W)) (ws : List W) →
-      (o >>= λ v. m >>= λ vs. some (v ∷ vs)) ≡ some ws → ((w : W) × (o ≡ some w)) × ((vs : List W) × (m ≡ some vs))
-  found_parts none m ws e = none_some e
-  found_parts (some w) none ws e = none_some e
-  found_parts (some w) (some vs) ws e = ((w, refl), (vs, refl))
+      (o >>= λ v. m >>= λ vs. Some (v ∷ vs)) ≡ Some ws → ((w : W) × (o ≡ Some w)) × ((vs : List W) × (m ≡ Some vs))
+  found_parts None m ws e = none_some e
+  found_parts (Some w) None ws e = none_some e
+  found_parts (Some w) (Some vs) ws e = ((w, refl), (vs, refl))
 
   module _ (op j cur : ℕ) (env : Env) (b : Bool) (t : Tree) (ts : Trees) (st : State)
       (def : is_def t ≡ (b && not (is_nil ts))) (o : ℕ × State) (os : Symbols)
@@ -132,7 +132,7 @@ module _ {W : Type 0} (sem : Semantics W) (F : Final) where
         abbrev rest : List (Option W)
         rest = eval_all sem ts ms
 
-        tail : (vs : List W) → found_from sem op (suc j) c rest ≡ some vs →
+        tail : (vs : List W) → found_from sem op (suc j) c rest ≡ Some vs →
             OperandsHave sem F o.1 os.2 cur op (suc j) c rest os.0 os.1
         tail vs q =
             let valued : Env → Type 0 = λ e. EnvValued sem F e ms cur in
@@ -141,8 +141,8 @@ module _ {W : Type 0} (sem : Semantics W) (F : Final) where
         cons-operands : (x : Bool) → skipped sem op j c ≡ x →
             elim x [
               | true ↦ found_from sem op (suc j) c rest
-              | false ↦ eval sem t ms >>= λ v. found_from sem op (suc j) c rest >>= λ vs. some (v ∷ vs)
-            ] ≡ some ws →
+              | false ↦ eval sem t ms >>= λ v. found_from sem op (suc j) c rest >>= λ vs. Some (v ∷ vs)
+            ] ≡ Some ws →
             OperandsHave sem F st os.2 cur op j c (eval sem t ms ∷ rest) (s ∷ os.0) brs
         cons-operands true e q =
             let z = tail ws q in
@@ -166,19 +166,19 @@ module _ {W : Type 0} (sem : Semantics W) (F : Final) where
 
       -- ---- as a block's children
 
-      bound-more : (a x : ℕ) (u : W) (e : Env) (ms : Values W) → value_at sem F x ≡ some u → In (home F x) (outwards F cur) →
+      bound-more : (a x : ℕ) (u : W) (e : Env) (ms : Values W) → value_at sem F x ≡ Some u → In (home F x) (outwards F cur) →
           EnvValued sem F e ms cur → EnvValued sem F ((a, x) ∷ e) ((a, u) ∷ ms) cur
       unfolding value_in resolve
       bound-more a x u e ms v p ev y w q = go (eqb a y) q
         where
-          go : (z : Bool) → elim z [ true ↦ some u | false ↦ value_in ms y ] ≡ some w →
-              (value_at sem F (elim z [ true ↦ x | false ↦ resolve e y ]) ≡ some w)
+          go : (z : Bool) → elim z [ true ↦ Some u | false ↦ value_in ms y ] ≡ Some w →
+              (value_at sem F (elim z [ true ↦ x | false ↦ resolve e y ]) ≡ Some w)
               × In (home F (elim z [ true ↦ x | false ↦ resolve e y ])) (outwards F cur)
           go true q = (v ∙ q, p)
           go false q = ev y w q
 
       cons_result : NoThunks sem F op → (b ≡ false → many (cons t ts) ≡ 1) → (ms : Values W) (w : W) →
-          EnvValued sem F env ms cur → eval_last sem (cons t ts) ms ≡ some w →
+          EnvValued sem F env ms cur → eval_last sem (cons t ts) ms ≡ Some w →
           HasValue sem F st os.2 cur (last (s ∷ os.0)) w
       unfolding many last eval_last
       cons_result nt one ms w ev q =
@@ -186,17 +186,17 @@ module _ {W : Type 0} (sem : Semantics W) (F : Final) where
         where
           -- what the others owe
           Rest : List ℕ → Trees → Type 0
-          Rest ks ts = (m : Values W) (u : W) → EnvValued sem F (bind_def t s env) m cur → eval_last sem ts m ≡ some u →
+          Rest ks ts = (m : Values W) (u : W) → EnvValued sem F (bind_def t s env) m cur → eval_last sem ts m ≡ Some u →
               HasValue sem F o.1 os.2 cur (last ks) u
 
-          head : (u : W) → eval sem t ms ≡ some u → HasValueIn sem F (thunked op j) st o.1 cur s u
+          head : (u : W) → eval sem t ms ≡ Some u → HasValueIn sem F (thunked op j) st o.1 cur s u
           head u p = h.valued mid at ms u ev p
 
           step : (v : Tree) (vs : Trees) (x : ℕ) (ks : List ℕ) (r : Option W) → eval sem t ms ≡ r → is_def t ≡ true →
-              Rest (x ∷ ks) (cons v vs) → (r >>= λ y. eval_last sem (cons v vs) ((id_of (top t), y) ∷ ms)) ≡ some w →
+              Rest (x ∷ ks) (cons v vs) → (r >>= λ y. eval_last sem (cons v vs) ((id_of (top t), y) ∷ ms)) ≡ Some w →
               HasValue sem F st os.2 cur (last (s ∷ x ∷ ks)) w
-          step v vs x ks none e d rest q = none_some q
-          step v vs x ks (some y) e d rest q =
+          step v vs x ks None e d rest q = none_some q
+          step v vs x ks (Some y) e d rest q =
               let a = head y e in
               let bound = bound-more (id_of (top t)) s y env ms a.found_is (a.plain_in (nt j)) ev in
               let valued : Env → Type 0 = λ e. EnvValued sem F e ((id_of (top t), y) ∷ ms) cur in
@@ -210,7 +210,7 @@ module _ {W : Type 0} (sem : Semantics W) (F : Final) where
 
           go : (ts : Trees) (ks : List ℕ) → length ks ≡ many ts → (b : Bool) → is_def t ≡ (b && not (is_nil ts)) →
               (b ≡ false → suc (many ts) ≡ 1) → (is_nil ts ≡ true → sym_count os.2 ≤ sym_count o.1) →
-              ((b ≡ false → many ts ≡ 1) → Rest ks ts) → eval_last sem (cons t ts) ms ≡ some w →
+              ((b ≡ false → many ts ≡ 1) → Rest ks ts) → eval_last sem (cons t ts) ms ≡ Some w →
               HasValue sem F st os.2 cur (last (s ∷ ks)) w
           go nil [] l b d f g rest q =
               let a = head w q in

@@ -5,7 +5,7 @@
 use mathlib.Core.Path.{◌≡◌, refl, ap, ap₂, sym, ◌∙◌, subst}
 use mathlib.Core.Logic.{◌⊎◌, inl, inr}
 use mathlib.Core.Bool.{Bool, true, false}
-use mathlib.Core.Option.{Option, none, some}
+use Rattle.std.specs.Prelude.{Option, None, Some}
 use mathlib.Core.List.{List, [], map}
 use Prim.Native.Nat.{ℕ, suc, ◌≤◌, ◌<◌}
 use native.Mathlib.Omega.{arith}
@@ -48,7 +48,7 @@ module _ (F : Final) where
         node_at F.syms x ≡ nd
 
   module _ (cur : ℕ) (r : Rec) (ks : List ℕ) (nd : Node) (st : State) where
-    found : (i : ℕ) → lookup st.syms r ks st.tables ≡ some i → HasKeyIn cur r ks nd st (i, st)
+    found : (i : ℕ) → lookup st.syms r ks st.tables ≡ Some i → HasKeyIn cur r ks nd st (i, st)
     found i e = record {
       grows = grow_none st;
       after = λ w h. after_none F st cur h;
@@ -82,8 +82,8 @@ module _ (F : Final) where
       where
         stop : Option (List ℕ) → ℕ
         stop o = elim o [
-          | none ↦ cur
-          | some xs ↦ elim (any_in xs deps) [ true ↦ cur | false ↦ climb st.scopes deps (around_at st.scopes cur) ]
+          | None ↦ cur
+          | Some xs ↦ elim (any_in xs deps) [ true ↦ cur | false ↦ climb st.scopes deps (around_at st.scopes cur) ]
         ]
 
     new : (deps : List ℕ) → HasKeyIn cur r ks nd st (sym_count st, push cur r ks deps true nd st)
@@ -155,17 +155,17 @@ module _ {W : Type 0} (sem : Semantics W) (F : Final) where
     pub after : Prefix F os.2 → Here F st cur → After F st os.2 cur
     pub empty : is_nil ts ≡ true → sym_count os.2 ≤ sym_count st
     pub operands : b ≡ false → Prefix F os.2 → Here F st cur → (ms : Values W) (c : Option W) (ws : List W) →
-        EnvValued sem F env ms cur → found_from sem op j c (eval_all sem ts ms) ≡ some ws →
+        EnvValued sem F env ms cur → found_from sem op j c (eval_all sem ts ms) ≡ Some ws →
         OperandsHave st os.2 cur op j c (eval_all sem ts ms) os.0 os.1
     pub result : NoThunks op → (b ≡ false → many ts ≡ 1) → Prefix F os.2 → Here F st cur → (ms : Values W) (w : W) →
-        EnvValued sem F env ms cur → eval_last sem ts ms ≡ some w → HasValue sem F st os.2 cur (last os.0) w
+        EnvValued sem F env ms cur → eval_last sem ts ms ≡ Some w → HasValue sem F st os.2 cur (last os.0) w
 
   -- ---- operations
 
-  some_parts : (r : Rec) (m : Option (List W)) (w : W) → (m >>= λ vs. sem.apply r vs) ≡ some w →
-      (ws : List W) × (m ≡ some ws)
-  some_parts r none w e = none_some e
-  some_parts r (some ws) w e = (ws, refl)
+  some_parts : (r : Rec) (m : Option (List W)) (w : W) → (m >>= λ vs. sem.apply r vs) ≡ Some w →
+      (ws : List W) × (m ≡ Some ws)
+  some_parts r None w e = none_some e
+  some_parts r (Some ws) w e = (ws, refl)
 
   module _ (cur : ℕ) (env : Env) (r : Rec) (ts : Trees) (st : State) (os : Symbols)
       (k : OwesAll st cur env r.opcode 0 false ts os) (nd : Node) (right : NodeFor os.0 os.1 nd)
@@ -186,33 +186,33 @@ module _ {W : Type 0} (sem : Semantics W) (F : Final) where
       op_after : After F st o.1 cur
       op_after = after_join F st os.2 o.1 cur k.grows f.grows first (f.after i here)
 
-      module _ (ms : Values W) (w : W) (ev : EnvValued sem F env ms cur) (q : op_of ms ≡ some w) where
+      module _ (ms : Values W) (w : W) (ev : EnvValued sem F env ms cur) (q : op_of ms ≡ Some w) where
         abbrev vals : List (Option W)
         vals = eval_all sem ts ms
 
         abbrev kids : List (Option W)
         kids = map (value_at sem F) os.0
 
-        got : (ws : List W) × (found_from sem r.opcode 0 (get_or vals 0 none) vals ≡ some ws)
+        got : (ws : List W) × (found_from sem r.opcode 0 (get_or vals 0 None) vals ≡ Some ws)
         unfolding applied
-        got = some_parts r (found_from sem r.opcode 0 (get_or vals 0 none) vals) w q
+        got = some_parts r (found_from sem r.opcode 0 (get_or vals 0 None) vals) w q
 
-        ops : OperandsHave st os.2 cur r.opcode 0 (get_or vals 0 none) vals os.0 os.1
-        ops = k.operands refl mid h ms (get_or vals 0 none) got.0 ev got.1
+        ops : OperandsHave st os.2 cur r.opcode 0 (get_or vals 0 None) vals os.0 os.1
+        ops = k.operands refl mid h ms (get_or vals 0 None) got.0 ev got.1
 
         -- a symbol with this record and these children
         found_of_lem : (s : ℕ) → s < length F.syms → rec_at F.syms s ≡ r → sym_kids F.syms s ≡ os.0 →
-            value_at sem F s ≡ some w
+            value_at sem F s ≡ Some w
         found_of_lem s l e d =
             value_is sem F.syms s (F.low s l)
             ∙ (ap₂ (λ (z : Rec) (y : List ℕ). applied sem z (map (value_at sem F) y)) e d
             ∙ (applied-agrees sem r vals kids ops.agree ∙ q))
 
-        kids_for : KidsLive sem F.syms (entered_from sem F cur ops.live) r.opcode 0 (get_or kids 0 none) os.0 (thunks_of nd)
-        kids_for = rw (first-agrees sem r.opcode (get_or vals 0 none) vals kids ops.agree) (go right.1)
+        kids_for : KidsLive sem F.syms (entered_from sem F cur ops.live) r.opcode 0 (get_or kids 0 None) os.0 (thunks_of nd)
+        kids_for = rw (first-agrees sem r.opcode (get_or vals 0 None) vals kids ops.agree) (go right.1)
           where
             Live : List ℕ → List ℕ → Type 0
-            Live ks brs = KidsLive sem F.syms (entered_from sem F cur ops.live) r.opcode 0 (get_or vals 0 none) ks brs
+            Live ks brs = KidsLive sem F.syms (entered_from sem F cur ops.live) r.opcode 0 (get_or vals 0 None) ks brs
 
             go : (thunks_of nd ≡ os.1) ⊎ (os.0 ≡ []) → Live os.0 (thunks_of nd)
             go (inl e) = rw e ops.kids_live

@@ -5,7 +5,7 @@
 use mathlib.Core.Path.{◌≡◌, refl, ap}
 use mathlib.Core.Logic.{◌⊎◌, inl, inr}
 use mathlib.Core.Bool.{Bool, true, false}
-use mathlib.Core.Option.{Option, none, some}
+use Rattle.std.specs.Prelude.{Option, None, Some}
 use mathlib.Core.List.{List, [], ◌∷◌}
 use Prim.Native.Nat.{ℕ, suc, ◌≤◌, ◌<◌}
 use native.Mathlib.Omega.{arith}
@@ -33,11 +33,11 @@ module _ {W : Type 0} (sem : Semantics W) (F : Final) where
 
   -- each id with a value is bound to a symbol with that value, in an open scope
   abbrev pub EnvValued : Env → Values W → ℕ → Type 0
-  EnvValued env ms cur = (i : ℕ) (w : W) → value_in ms i ≡ some w →
-      (value_at (resolve env i) ≡ some w) × In (home F (resolve env i)) (outwards F cur)
+  EnvValued env ms cur = (i : ℕ) (w : W) → value_in ms i ≡ Some w →
+      (value_at (resolve env i) ≡ Some w) × In (home F (resolve env i)) (outwards F cur)
 
   pub record HasValue (st st' : State) (cur s : ℕ) (w : W) : Type 0 where
-    pub found_is : value_at s ≡ some w
+    pub found_is : value_at s ≡ Some w
     pub scope_in : In (home F s) (outwards F cur)
     pub live : List ℕ
     pub living : Living sem F st st' cur live
@@ -46,14 +46,14 @@ module _ {W : Type 0} (sem : Semantics W) (F : Final) where
   pub record Owes (st : State) (cur : ℕ) (env : Env) (e : Values W → Option W) (o : ℕ × State) : Type 0 where
     pub grows : Grow st o.1
     pub after : Prefix F o.1 → Here F st cur → After F st o.1 cur
-    pub valued : Prefix F o.1 → Here F st cur → (ms : Values W) (w : W) → EnvValued env ms cur → e ms ≡ some w →
+    pub valued : Prefix F o.1 → Here F st cur → (ms : Values W) (w : W) → EnvValued env ms cur → e ms ≡ Some w →
         HasValue st o.1 cur o.0 w
 
   -- ---- a child, in its own thunk if t
 
   -- the scopes entered with it, among them the thunk
   pub record HasValueIn (t : Bool) (st st' : State) (cur s : ℕ) (w : W) : Type 0 where
-    pub found_is : value_at s ≡ some w
+    pub found_is : value_at s ≡ Some w
     pub live : List ℕ
     pub living : Living sem F st st' cur live
     pub scope_in : In (home F s) (entered_from sem F cur live)
@@ -65,7 +65,7 @@ module _ {W : Type 0} (sem : Semantics W) (F : Final) where
     pub grows : Grow st o.1
     pub after : Prefix F o.1 → Here F st cur → After F st o.1 cur
     pub unread : t ≡ true → Prefix F o.1 → Here F st cur → Living sem F st o.1 cur []
-    pub valued : Prefix F o.1 → Here F st cur → (ms : Values W) (w : W) → EnvValued env ms cur → e ms ≡ some w →
+    pub valued : Prefix F o.1 → Here F st cur → (ms : Values W) (w : W) → EnvValued env ms cur → e ms ≡ Some w →
         HasValueIn t st o.1 cur o.0 w
 
   module _ (cur : ℕ) (st : State) (env : Env) (e : Values W → Option W) where
@@ -93,15 +93,15 @@ module _ {W : Type 0} (sem : Semantics W) (F : Final) where
       closes = grow-same o.1 (close_thunk o.1) refl refl
 
       thunk_grows : Grow st (close_thunk o.1)
-      thunk_grows = grow_then (grow_then (open_grows cur none ([] ∷ st.tables) st) k.grows) closes
+      thunk_grows = grow_then (grow_then (open_grows cur None ([] ∷ st.tables) st) k.grows) closes
 
       module _ (i : Prefix F (close_thunk o.1)) (h : Here F st cur) where
         inner : Prefix F o.1
         inner = prefix_back o.1 (close_thunk o.1) closes i
 
-        is : get_or F.scopes (scope_count st) root_scope ≡ record { around = outwards F cur; args = none }
+        is : get_or F.scopes (scope_count st) root_scope ≡ record { around = outwards F cur; args = None }
         is =
-            open_is F.syms F.scopes cur none ([] ∷ st.tables) st (h.opens cur (inl refl))
+            open_is F.syms F.scopes cur None ([] ∷ st.tables) st (h.opens cur (inl refl))
             (prefix_back (open_thunk cur st) o.1 k.grows inner).fits
 
         around_is : around_at F.scopes (scope_count st) ≡ outwards F cur
@@ -146,7 +146,7 @@ module _ {W : Type 0} (sem : Semantics W) (F : Final) where
             lives x l m (inl w) = absurd (omega (arith, h.opens (home F x) w, new_scope_lem x l m))
             lives x l m (inr w) = absurd w
 
-        module _ (ms : Values W) (w : W) (env-is : EnvValued env ms cur) (q : e ms ≡ some w) where
+        module _ (ms : Values W) (w : W) (env-is : EnvValued env ms cur) (q : e ms ≡ Some w) where
           v : HasValue (open_thunk cur st) o.1 (scope_count st) o.0 w
           v = k.valued inner in_thunk ms w (λ i x p. let y = env-is i x p in (y.0, inr (rw around_is y.1))) q
 

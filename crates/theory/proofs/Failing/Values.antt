@@ -5,7 +5,7 @@
 use mathlib.Core.Path.{◌≡◌, refl, ap, ap₂, ◌∙◌}
 use mathlib.Core.Logic.{inl, inr}
 use mathlib.Core.Bool.{Bool, true, false, not, ◌&&◌, ◌||◌}
-use mathlib.Core.Option.{Option, none, some}
+use Rattle.std.specs.Prelude.{Option, None, Some}
 use mathlib.Core.List.{List, [], ◌∷◌, map}
 use Prim.Native.Nat.{ℕ, suc, ◌<◌}
 use lib.Dec.{eqb}
@@ -43,8 +43,8 @@ module _ {W : Type 0} (sem : Semantics W) where
 
   pub skipped-thunked : (op j : ℕ) (c : Option W) → skipped sem op j c ≡ true → thunked op j ≡ true
   unfolding skipped thunked
-  skipped-thunked op j none e = false_true e
-  skipped-thunked op j (some v) e =
+  skipped-thunked op j None e = false_true e
+  skipped-thunked op j (Some v) e =
       go (eqb op IfOp) (eqb op AndOp || eqb op OrOp) (eqb j 1) (eqb j 2) (sem.takes v) (sem.skips op v) e
     where
       go : (i e one two t k : Bool) → ((i && ((one && not t) || (two && t))) || (e && (one && k))) ≡ true →
@@ -67,8 +67,8 @@ module _ {W : Type 0} (sem : Semantics W) where
   -- operand 0, by which it is known what is skipped, never is
   first_found : (op : ℕ) (c : Option W) → skipped sem op 0 c ≡ false
   unfolding skipped
-  first_found op none = refl
-  first_found op (some v) = go (eqb op IfOp) (eqb op AndOp || eqb op OrOp)
+  first_found op None = refl
+  first_found op (Some v) = go (eqb op IfOp) (eqb op AndOp || eqb op OrOp)
     where
       go : (i e : Bool) → ((i && false) || (e && false)) ≡ false
       go true true = refl
@@ -97,7 +97,7 @@ module _ {W : Type 0} (sem : Semantics W) where
       rest l = found_from sem op (suc j) c l
 
       with_first : Option W → Option (List W) → Option (List W)
-      with_first o m = o >>= λ v. m >>= λ vs. some (v ∷ vs)
+      with_first o m = o >>= λ v. m >>= λ vs. Some (v ∷ vs)
 
       go : (b : Bool) → (b ≡ false → p ≡ o) → rest ps ≡ rest os →
           ◌≡◌ {A = Option (List W)} (elim b [ true ↦ rest ps | false ↦ with_first p (rest ps) ])
@@ -106,19 +106,19 @@ module _ {W : Type 0} (sem : Semantics W) where
       go false e f = ap₂ with_first (e refl) f
 
   pub first-agrees : (op : ℕ) (c : Option W) (os ps : List (Option W)) → AgreeFound op 0 c os ps →
-      get_or ps 0 none ≡ get_or os 0 none
+      get_or ps 0 None ≡ get_or os 0 None
   first-agrees op c [] [] h = refl
   first-agrees op c [] (p ∷ ps) h = absurd h
   first-agrees op c (o ∷ os) [] h = absurd h
   first-agrees op c (o ∷ os) (p ∷ ps) h = h.0 (first_found op c)
 
-  pub applied-agrees : (r : Rec) (os ps : List (Option W)) → AgreeFound r.opcode 0 (get_or os 0 none) os ps →
+  pub applied-agrees : (r : Rec) (os ps : List (Option W)) → AgreeFound r.opcode 0 (get_or os 0 None) os ps →
       applied sem r ps ≡ applied sem r os
   unfolding applied
   applied-agrees r os ps h =
       ap (λ (m : Option (List W)). m >>= λ vs. sem.apply r vs)
-      (ap (λ (c : Option W). found_from sem r.opcode 0 c ps) (first-agrees r.opcode (get_or os 0 none) os ps h)
-      ∙ found_agrees r.opcode 0 (get_or os 0 none) os ps h)
+      (ap (λ (c : Option W). found_from sem r.opcode 0 c ps) (first-agrees r.opcode (get_or os 0 None) os ps h)
+      ∙ found_agrees r.opcode 0 (get_or os 0 None) os ps h)
 
   -- ---- the value of a symbol
 
@@ -126,20 +126,20 @@ module _ {W : Type 0} (sem : Semantics W) where
   value_step fin f s = applied sem (rec_at fin s) (map f (sym_kids fin s))
 
   pub value : List Sym → ℕ → Option W
-  value fin = down none (value_step fin)
+  value fin = down None (value_step fin)
 
-  all_low : (f : ℕ → Option W) (s : ℕ) (ks : List ℕ) → ((k : ℕ) → In k ks → k < s) → map (under none s f) ks ≡ map f ks
+  all_low : (f : ℕ → Option W) (s : ℕ) (ks : List ℕ) → ((k : ℕ) → In k ks → k < s) → map (under None s f) ks ≡ map f ks
   all_low f s [] h = refl
   all_low f s (k ∷ ks) h =
       ap₂ (λ (x : Option W) (y : List (Option W)). x ∷ y)
-      (under_low none (λ g n. g n) s f k (lt-ltb k s (h k (inl refl))))
+      (under_low None (λ g n. g n) s f k (lt-ltb k s (h k (inl refl))))
       (all_low f s ks (λ j l. h j (inr l)))
 
   pub value_is : (fin : List Sym) (s : ℕ) → ((k : ℕ) → In k (sym_kids fin s) → k < s) →
       value fin s ≡ applied sem (rec_at fin s) (map (value fin) (sym_kids fin s))
   unfolding value value_step
   value_is fin s low =
-      down_step none (value_step fin) s
+      down_step None (value_step fin) s
       ∙ ap (applied sem (rec_at fin s)) (all_low (value fin) s (sym_kids fin s) low)
 
   -- ---- live symbols: M are the scopes that are entered
@@ -158,7 +158,7 @@ module _ {W : Type 0} (sem : Semantics W) where
 
     pub record SymLive (M : List ℕ) (x : ℕ) : Type 0 where
       pub found : W
-      pub found_is : value fin x ≡ some found
+      pub found_is : value fin x ≡ Some found
       pub node_is : OperationOrLeaf (node_at fin x)
-      pub kids_live : KidsLive M (rec_at fin x).opcode 0 (get_or (map (value fin) (sym_kids fin x)) 0 none) (sym_kids fin x)
+      pub kids_live : KidsLive M (rec_at fin x).opcode 0 (get_or (map (value fin) (sym_kids fin x)) 0 None) (sym_kids fin x)
           (thunks_of (node_at fin x))

@@ -6,7 +6,7 @@
 -- Assumes nothing.
 use mathlib.Core.Path.{◌≡◌, refl, ap, sym, ◌∙◌}
 use mathlib.Core.Bool.{Bool, true, false}
-use mathlib.Core.Option.{some}
+use Rattle.std.specs.Prelude.{Some}
 use mathlib.Core.List.{List, [], ◌∷◌, ◌++◌}
 use Prim.Native.Nat.{ℕ, suc, ◌<◌}
 use native.Mathlib.Omega.{arith}
@@ -55,14 +55,14 @@ args_done at cur r st A =
 
 -- the state in which the body is read
 abbrev pub opened : ℕ → Symbols → State
-opened cur md = open_scope cur (some md.0) md.2.tables md.2
+opened cur md = open_scope cur (Some md.0) md.2.tables md.2
 
 module _
     {st : State} {A : Args} {cur : ℕ} {r : Rec} {md : Symbols} (made : ArgsDone st A cur r md)
     {fin : List Sym} {scs : List Scope} (f : Fits fin scs (opened cur md)) (inv : Inv fin scs st A cur) where
   after_args : Inv fin scs md.2 A cur × ArgsMade fin (sym_count st) (sym_count md.2) md.0
   after_args =
-      let g = open_grows cur (some md.0) md.2.tables md.2 in
+      let g = open_grows cur (Some md.0) md.2.tables md.2 in
       made.step.keeps fin scs (fits_back fin scs md.2 (opened cur md) g f) inv tt
 
   -- no symbols but arguments have been made, and no scopes
@@ -80,7 +80,7 @@ module _
 
   pub opened_inv : Inv fin scs (opened cur md) (with_args r md.0 A) (scope_count md.2)
   opened_inv =
-      open_inv fin scs cur (some md.0) md.2.tables md.2 A (with_args r md.0 A) (sym_count st) f
+      open_inv fin scs cur (Some md.0) md.2.tables md.2 A (with_args r md.0 A) (sym_count st) f
       after_args.0 (λ i h. h) (λ a h. (after_args.1.fresh a h, after_args.1.low a h)) old_symbols old_scopes
       (λ i a h. bind_args_cases i a (bound_by r) md.0 A h)
 
@@ -162,7 +162,7 @@ module _
       many_args = made.many_args;
       inv = after_body.0;
       cur_low = low;
-      scope_is = open_is fin scs cur (some md.0) md.2.tables md.2 low fits_open;
+      scope_is = open_is fin scs cur (Some md.0) md.2.tables md.2 low fits_open;
       before = sym_count st;
       after = sym_count md.2;
       args_are = (after_args made fits_open inv).1;
@@ -189,7 +189,7 @@ module _
   lambda_kept {st} {md} {os} {o} made body done = record {
     grows =
         grow_then made.step.grows
-        (grow_then (open_grows cur (some md.0) md.2.tables md.2)
+        (grow_then (open_grows cur (Some md.0) md.2.tables md.2)
         (grow_then body.step.grows done.grows));
     keeps = λ fin scs f inv ok.
         let g = fits_back fin scs os.2 o.1 done.grows f in

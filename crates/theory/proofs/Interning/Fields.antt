@@ -7,7 +7,7 @@
 use mathlib.Core.Path.{◌≡◌, refl, sym, ◌∙◌, subst}
 use mathlib.Core.Logic.{◌⊎◌, inl, inr}
 use mathlib.Core.Bool.{Bool, true, false, ◌||◌}
-use mathlib.Core.Option.{Option, none, some}
+use Rattle.std.specs.Prelude.{Option, None, Some}
 use mathlib.Core.List.{List, [], ◌∷◌}
 use Prim.Native.Nat.{ℕ, ◌≤◌}
 use native.Mathlib.Omega.{arith}
@@ -67,7 +67,7 @@ remember_inv fin scs st A cur p a b h fa fb =
     inv_same st.tables ((p, a, b) ∷ st.memo) st.readings (λ i k. k)
     (λ q c d e. go q c d (recall_cases p a b st q c d e)) h
   where
-    go : (q c d : ℕ) → ((p ≡ q) × (a ≡ c) × (b ≡ d)) ⊎ (recall st.memo q ≡ some (c, d)) →
+    go : (q c d : ℕ) → ((p ≡ q) × (a ≡ c) × (b ≡ d)) ⊎ (recall st.memo q ≡ Some (c, d)) →
         FieldOk fin (sym_count st) q 1 c × FieldOk fin (sym_count st) q 2 d
     go q c d (inl e) = (rw (e.0, e.1) at fa, rw (e.0, e.2) at fb)
     go q c d (inr e) = h.memo_ok q c d e
@@ -97,7 +97,7 @@ module _ (at cur : ℕ) (A : Args) (p : ℕ) where
       P : ℕ × State → Type 0
       P o = Projected st A cur (field_rec i) p o
 
-      old : (ab : ℕ × ℕ) → recall st.memo p ≡ some ab → P (pick i ab, st)
+      old : (ab : ℕ × ℕ) → recall st.memo p ≡ Some ab → P (pick i ab, st)
       old ab f = record {
         grows = grow_none st;
         keeps = λ fin scs ft inv res.
@@ -124,9 +124,9 @@ module _ (at cur : ℕ) (A : Args) (p : ℕ) where
       }
 
       go : (o : Option (ℕ × ℕ)) → recall st.memo p ≡ o →
-          Holds P (elim o [ some ab ↦ good (pick i ab, st) | none ↦ new_projections at cur (field_rec i) i p st ])
-      go (some ab) f = old ab f
-      go none f =
+          Holds P (elim o [ Some ab ↦ good (pick i ab, st) | None ↦ new_projections at cur (field_rec i) i p st ])
+      go (Some ab) f = old ab f
+      go None f =
           holds_bind (Projected st A cur (field_rec 1) p) P _ _ (one_projection 1 st) λ a ha.
           holds_bind (Projected a.1 A cur (field_rec 2) p) P _ _ (one_projection 2 a.1) λ b hb.
           step_then (both a b ha hb) (remembered a.0 b.0 b.1) (λ fin scs res m. m) (λ fin scs inv m made. made)

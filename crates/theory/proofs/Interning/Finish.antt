@@ -8,7 +8,7 @@
 use mathlib.Core.Path.{◌≡◌, refl, ap, sym, ◌∙◌}
 use mathlib.Core.Logic.{inl, inr}
 use mathlib.Core.Bool.{Bool, true, false}
-use mathlib.Core.Option.{Option, none, some}
+use Rattle.std.specs.Prelude.{Option, None, Some}
 use mathlib.Core.List.{List, [], ◌∷◌}
 use Prim.Native.Nat.{ℕ, ◌≤◌, ◌<◌}
 use native.Mathlib.Omega.{arith}
@@ -36,28 +36,28 @@ use Rattle.theory.proofs.Interning.Push.{union_deps_covers, union_deps_from}
 -- ---- what a search finds
 
 module _ (ss : List Sym) (r : Rec) (ks : List ℕ) where
-  lookup_in_found : (t : List ℕ) (i : ℕ) → lookup_in ss r ks t ≡ some i → In i t × (is_key ss r ks i ≡ true)
+  lookup_in_found : (t : List ℕ) (i : ℕ) → lookup_in ss r ks t ≡ Some i → In i t × (is_key ss r ks i ≡ true)
   unfolding lookup_in
   lookup_in_found [] i e = none_some e
   lookup_in_found (j ∷ t) i e = go (is_key ss r ks j) refl (lookup_in_found t i) e
     where
-      go : (b : Bool) → is_key ss r ks j ≡ b → (lookup_in ss r ks t ≡ some i → In i t × (is_key ss r ks i ≡ true)) →
-          elim b [ true ↦ some j | false ↦ lookup_in ss r ks t ] ≡ some i → In i (j ∷ t) × (is_key ss r ks i ≡ true)
+      go : (b : Bool) → is_key ss r ks j ≡ b → (lookup_in ss r ks t ≡ Some i → In i t × (is_key ss r ks i ≡ true)) →
+          elim b [ true ↦ Some j | false ↦ lookup_in ss r ks t ] ≡ Some i → In i (j ∷ t) × (is_key ss r ks i ≡ true)
       go true k rest e = let p : i ≡ j = cc in (inl p, rw p k)
       go false k rest e = (inr (rest e).0, (rest e).1)
 
-  pub lookup_found : (ts : List (List ℕ)) (i : ℕ) → lookup ss r ks ts ≡ some i →
+  pub lookup_found : (ts : List (List ℕ)) (i : ℕ) → lookup ss r ks ts ≡ Some i →
       InAny i ts × (is_key ss r ks i ≡ true)
   unfolding lookup
   lookup_found [] i e = none_some e
   lookup_found (t ∷ ts) i e = go (lookup_in ss r ks t) refl (lookup_found ts i) e
     where
       go : (o : Option ℕ) → lookup_in ss r ks t ≡ o →
-          (lookup ss r ks ts ≡ some i → InAny i ts × (is_key ss r ks i ≡ true)) →
-          elim o [ some j ↦ some j | none ↦ lookup ss r ks ts ] ≡ some i →
+          (lookup ss r ks ts ≡ Some i → InAny i ts × (is_key ss r ks i ≡ true)) →
+          elim o [ Some j ↦ Some j | None ↦ lookup ss r ks ts ] ≡ Some i →
           InAny i (t ∷ ts) × (is_key ss r ks i ≡ true)
-      go (some j) k rest e = let w = lookup_in_found t i (k ∙ e) in (inl w.0, w.1)
-      go none k rest e = (inr (rest e).0, (rest e).1)
+      go (Some j) k rest e = let w = lookup_in_found t i (k ∙ e) in (inl w.0, w.1)
+      go None k rest e = (inr (rest e).0, (rest e).1)
 
   -- what has the key has its record and children
   pub is_key_true : (i : ℕ) → is_key ss r ks i ≡ true → (rec_at ss i ≡ r) × (sym_kids ss i ≡ ks)
@@ -68,7 +68,7 @@ module _ (ss : List Sym) (r : Rec) (ks : List ℕ) where
 
 -- so it is, seen from the end
 pub found_key : {fin : List Sym} {scs : List Scope} {st : State} {A : Args} {cur i : ℕ} {r : Rec} {ks : List ℕ} →
-    Fits fin scs st → Inv fin scs st A cur → lookup st.syms r ks st.tables ≡ some i →
+    Fits fin scs st → Inv fin scs st A cur → lookup st.syms r ks st.tables ≡ Some i →
     HasKey fin (sym_count st) r ks i
 found_key {st} {i} {r} {ks} f h e =
     let w = lookup_found st.syms r ks st.tables i e in
@@ -83,19 +83,19 @@ found_key {st} {i} {r} {ks} f h e =
 
 -- found, or made
 pub finish_cases : (P : ℕ × State → Type 0) (at cur : ℕ) (r : Rec) (ks own : List ℕ) (nd : Node) (st : State) →
-    ((i : ℕ) → lookup st.syms r ks st.tables ≡ some i → P (i, st)) →
-    (lookup st.syms r ks st.tables ≡ none → sym_count st < 512 →
+    ((i : ℕ) → lookup st.syms r ks st.tables ≡ Some i → P (i, st)) →
+    (lookup st.syms r ks st.tables ≡ None → sym_count st < 512 →
     P (sym_count st, push cur r ks (without (union_deps st.syms ks) own) true nd st)) →
     Holds P (finish at cur r ks own nd st)
 unfolding finish alloc
 finish_cases P at cur r ks own nd st found made = go (lookup st.syms r ks st.tables) refl
   where
     go : (o : Option ℕ) → lookup st.syms r ks st.tables ≡ o → Holds P (elim o as (λ z. Out) [
-      | some i ↦ good (i, st)
-      | none ↦ alloc at cur r ks (without (union_deps st.syms ks) own) true nd st
+      | Some i ↦ good (i, st)
+      | None ↦ alloc at cur r ks (without (union_deps st.syms ks) own) true nd st
     ])
-    go (some i) e = found i e
-    go none e = holds_guard P (ltb (sym_count st) 512) 12 at _ λ l. made e (ltb-true (sym_count st) 512 l)
+    go (Some i) e = found i e
+    go None e = holds_guard P (ltb (sym_count st) 512) 12 at _ λ l. made e (ltb-true (sym_count st) 512 l)
 
 -- ---- what a step owes
 
@@ -184,7 +184,7 @@ module _ (cur : ℕ) (r : Rec) (ks : List ℕ) (st : State) (A : Args) (fin : Li
     (plain-is : is_plain (kind r.shape) ≡ true) (h : Inv fin scs st A cur)
     (res : Results fin (sym_count st) A ks) where
   -- one that is there
-  found_made : Fits fin scs st → (i : ℕ) → lookup st.syms r ks st.tables ≡ some i →
+  found_made : Fits fin scs st → (i : ℕ) → lookup st.syms r ks st.tables ≡ Some i →
       Made fin (sym_count st) A r ks i
   found_made f i e =
       let key = found_key f h e in

@@ -10,7 +10,7 @@
 use mathlib.Core.Path.{◌≡◌, refl, ap, ◌∙◌}
 use mathlib.Core.Logic.{◌⊎◌, inl, inr}
 use mathlib.Core.Bool.{Bool, true, false}
-use mathlib.Core.Option.{Option, none, some}
+use Rattle.std.specs.Prelude.{Option, None, Some}
 use mathlib.Core.List.{List, [], ◌∷◌}
 use Prim.Native.Nat.{ℕ, suc, ◌≤◌, ◌<◌}
 use native.Mathlib.Omega.{arith}
@@ -100,14 +100,14 @@ pub key_later : {fin : List Sym} {n : ℕ} (m : ℕ) {r : Rec} {ks : List ℕ} {
 key_later m l h = record { low = omega (arith, h.low); rec_is = h.rec_is; kids_is = h.kids_is; made_is = h.made_is }
 
 -- once (a, b) is remembered of p: what is recalled is this, or was before
-pub recall_cases : (p a b : ℕ) (st : State) (q c d : ℕ) → recall (remember p a b st).memo q ≡ some (c, d) →
-    ((p ≡ q) × (a ≡ c) × (b ≡ d)) ⊎ (recall st.memo q ≡ some (c, d))
+pub recall_cases : (p a b : ℕ) (st : State) (q c d : ℕ) → recall (remember p a b st).memo q ≡ Some (c, d) →
+    ((p ≡ q) × (a ≡ c) × (b ≡ d)) ⊎ (recall st.memo q ≡ Some (c, d))
 unfolding recall
 recall_cases p a b st q c d = go (eqb p q) refl
   where
     go : (t : Bool) → eqb p q ≡ t →
-        ◌≡◌ {A = Option (ℕ × ℕ)} (elim t [ true ↦ some (a, b) | false ↦ recall st.memo q ]) (some (c, d)) →
-        ((p ≡ q) × (a ≡ c) × (b ≡ d)) ⊎ (recall st.memo q ≡ some (c, d))
+        ◌≡◌ {A = Option (ℕ × ℕ)} (elim t [ true ↦ Some (a, b) | false ↦ recall st.memo q ]) (Some (c, d)) →
+        ((p ≡ q) × (a ≡ c) × (b ≡ d)) ⊎ (recall st.memo q ≡ Some (c, d))
     go true t e =
         let same : ◌≡◌ {A = ℕ × ℕ} (a, b) (c, d) = cc in
         inl (eqb-true p q t, ap (λ (z : ℕ × ℕ). z.0) same, ap (λ (z : ℕ × ℕ). z.1) same)
@@ -116,7 +116,7 @@ recall_cases p a b st q c d = go (eqb p q) refl
 -- the invariant is of symbols and scopes, of tables that hold no more, and of what is remembered
 pub inv_same : {fin : List Sym} {scs : List Scope} {st : State} {A : Args} {cur : ℕ} (ts : List (List ℕ))
     (memo : List (ℕ × ℕ × ℕ)) (n : ℕ) → ((i : ℕ) → InAny i ts → InAny i st.tables) →
-    ((p a b : ℕ) → recall memo p ≡ some (a, b) →
+    ((p a b : ℕ) → recall memo p ≡ Some (a, b) →
     FieldOk fin (sym_count st) p 1 a × FieldOk fin (sym_count st) p 2 b) → Inv fin scs st A cur →
     Inv fin scs (record { syms = st.syms; tables = ts; scopes = st.scopes; memo = memo; readings = n }) A cur
 inv_same ts memo n tables memo_ok h = record {
@@ -167,7 +167,7 @@ module _ (scs : List Scope) (m : ℕ) (chain : (b : ℕ) → b < m → Chain scs
       step : (c : ℕ) → ((p : ℕ) → p < c → Stays p) → Stays c
       step c ih l h = go (get_or scs c root_scope).args refl
         where
-          some_args : (xs : List ℕ) → (get_or scs c root_scope).args ≡ some xs → (t : Bool) → any_in xs deps ≡ t →
+          some_args : (xs : List ℕ) → (get_or scs c root_scope).args ≡ Some xs → (t : Bool) → any_in xs deps ≡ t →
               In b (out scs c) → In b (out scs (elim t [ true ↦ c | false ↦ climb scs deps (around_at scs c) ]))
           some_args xs e true t k = k
           some_args xs e false t (inl p) = absurd (any_in_false a xs deps t (rw e at (rw p at hb)) ha)
@@ -175,11 +175,11 @@ module _ (scs : List Scope) (m : ℕ) (chain : (b : ℕ) → b < m → Chain scs
 
           go : (o : Option (List ℕ)) → (get_or scs c root_scope).args ≡ o →
               In b (out scs (elim o [
-                | none ↦ c
-                | some xs ↦ elim (any_in xs deps) [ true ↦ c | false ↦ climb scs deps (around_at scs c) ]
+                | None ↦ c
+                | Some xs ↦ elim (any_in xs deps) [ true ↦ c | false ↦ climb scs deps (around_at scs c) ]
               ]))
-          go none e = h
-          go (some xs) e = some_args xs e (any_in xs deps) refl h
+          go None e = h
+          go (Some xs) e = some_args xs e (any_in xs deps) refl h
 
 -- climbing looks only at the scopes on its way
 pub climb-same : (s t : List Scope) (deps l : List ℕ) →
@@ -191,4 +191,4 @@ climb-same s t deps (c ∷ l) h =
     ∙ ap (stop (get_or t c root_scope).args) (climb-same s t deps l (λ b k. h b (inr k)))
   where
     stop : Option (List ℕ) → ℕ → ℕ
-    stop o rest = elim o [ none ↦ c | some xs ↦ elim (any_in xs deps) [ true ↦ c | false ↦ rest ] ]
+    stop o rest = elim o [ None ↦ c | Some xs ↦ elim (any_in xs deps) [ true ↦ c | false ↦ rest ] ]

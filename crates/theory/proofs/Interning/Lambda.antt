@@ -12,7 +12,7 @@
 use mathlib.Core.Path.{◌≡◌, refl, ap, sym, ◌∙◌}
 use mathlib.Core.Logic.{◌⊎◌, inl, inr}
 use mathlib.Core.Bool.{true, false}
-use mathlib.Core.Option.{some}
+use Rattle.std.specs.Prelude.{Some}
 use mathlib.Core.List.{List, [], ◌∷◌}
 use Prim.Native.Nat.{ℕ, suc, ◌≤◌, ◌<◌}
 use native.Mathlib.Omega.{arith}
@@ -74,7 +74,7 @@ pub record BodyRead
   pub many_args : length as' ≡ length (bound_by r)
   pub inv : Inv fin scs st (with_args r as' A) sc
   pub cur_low : cur < sc
-  pub scope_is : get_or scs sc root_scope ≡ record { around = out scs cur; args = some as' }
+  pub scope_is : get_or scs sc root_scope ≡ record { around = out scs cur; args = Some as' }
   -- how many symbols there were before the arguments, and after them
   pub before : ℕ
   pub after : ℕ

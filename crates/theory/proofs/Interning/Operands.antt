@@ -7,7 +7,7 @@
 use mathlib.Core.Path.{◌≡◌, refl, ap, ap₂, sym, ◌∙◌}
 use mathlib.Core.Logic.{inl, inr}
 use mathlib.Core.Bool.{Bool, true, false, not, ◌&&◌}
-use mathlib.Core.Option.{none}
+use Rattle.std.specs.Prelude.{None}
 use mathlib.Core.List.{List, [], ◌∷◌, ◌++◌}
 use Prim.Native.Nat.{ℕ, suc, ◌≤◌}
 use native.Mathlib.Omega.{arith}
@@ -46,7 +46,7 @@ module _ (cur : ℕ) (st : State) (A : Args) where
   pub thunk_opens : (fin : List Sym) (scs : List Scope) → Fits fin scs (open_thunk cur st) → Inv fin scs st A cur →
       Inv fin scs (open_thunk cur st) A (scope_count st)
   thunk_opens fin scs f inv =
-      open_inv fin scs cur none ([] ∷ st.tables) st A A (sym_count st) f inv
+      open_inv fin scs cur None ([] ∷ st.tables) st A A (sym_count st) f inv
       (λ i h. any_opened i st.tables h) (λ a h. absurd h) (λ x l n. l) (λ b a l h. inv.args_low b a l h)
       (λ i a h. inl h)
 
@@ -58,8 +58,8 @@ module _ (cur : ℕ) (st : State) (A : Args) where
       (leave_inv fin scs cur (scope_count st) s A A h (omega (arith, inv.cur_low)) (ap (λ (z : Scope). z.around) is)
       (λ i a h. h) (λ i a h g. rw is at g))
     where
-      is : get_or scs (scope_count st) root_scope ≡ record { around = out scs cur; args = none }
-      is = open_is fin scs cur none ([] ∷ st.tables) st inv.cur_low f
+      is : get_or scs (scope_count st) root_scope ≡ record { around = out scs cur; args = None }
+      is = open_is fin scs cur None ([] ∷ st.tables) st inv.cur_low f
 
 module _ (cur : ℕ) (st : State) (A : Args) (env : Env) (u : Unfolding) where
   thunk_kept : (o : ℕ × State) → KeepsMeaning (open_thunk cur st) A (scope_count st) env u o →
@@ -75,7 +75,7 @@ module _ (cur : ℕ) (st : State) (A : Args) (env : Env) (u : Unfolding) where
   }
     where
       grows : Grow st o.1
-      grows = grow_then (open_grows cur none ([] ∷ st.tables) st) k.grows
+      grows = grow_then (open_grows cur None ([] ∷ st.tables) st) k.grows
 
       closes : Grow o.1 (close_thunk o.1)
       closes = grow-same o.1 (close_thunk o.1) refl refl

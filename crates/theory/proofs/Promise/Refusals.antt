@@ -5,7 +5,7 @@
 use mathlib.Core.Logic.{◌⊎◌, inl, inr}
 use mathlib.Core.Path.{◌≡◌, refl}
 use mathlib.Core.Bool.{Bool, true, false, ◌||◌}
-use mathlib.Core.Option.{Option, none, some}
+use Rattle.std.specs.Prelude.{Option, None, Some}
 use mathlib.Core.List.{List, [], ◌∷◌}
 use Prim.Native.Nat.{ℕ, suc, ◌+◌, ◌<◌, ◌≤◌}
 use native.Mathlib.Omega.{arith}
@@ -51,11 +51,11 @@ module _ (end at cur : ℕ) (r : Rec) (low : at < end) where
   finish_limited ks own nd st = go (lookup st.syms r ks st.tables)
     where
       go : (f : Option ℕ) → Limited {A = ℕ × State} end (elim f as (λ z. Out) [
-        | some i ↦ good (i, st)
-        | none ↦ alloc at cur r ks (without (union_deps st.syms ks) own) true nd st
+        | Some i ↦ good (i, st)
+        | None ↦ alloc at cur r ks (without (union_deps st.syms ks) own) true nd st
       ])
-      go (some i) = tt
-      go none = alloc_limited ks (without (union_deps st.syms ks) own) true nd st
+      go (Some i) = tt
+      go None = alloc_limited ks (without (union_deps st.syms ks) own) true nd st
 
   args_limited : (xs : List (ℕ × List ℕ)) (st : State) → Limited end (alloc_args at cur r xs st)
   unfolding alloc_args
@@ -74,11 +74,11 @@ unfolding pair_projection new_projections
 projection_limited end at cur r low i p st = go (recall st.memo p)
   where
     go : (f : Option (ℕ × ℕ)) → Limited {A = ℕ × State} end (elim f as (λ z. Out) [
-      | some ab ↦ good (pick i ab, st)
-      | none ↦ new_projections at cur r i p st
+      | Some ab ↦ good (pick i ab, st)
+      | None ↦ new_projections at cur r i p st
     ])
-    go (some ab) = tt
-    go none =
+    go (Some ab) = tt
+    go None =
         limited_bind end _ _ (finish_limited end at cur (rec r.shape r.opcode 0 (1 ∷ [])) low (p ∷ []) []
         (operation []) st) λ a.
         limited_bind end _ _ (finish_limited end at cur (rec r.shape r.opcode 0 (2 ∷ [])) low (p ∷ []) []

@@ -3,7 +3,7 @@
 -- Assumes nothing.
 use mathlib.Core.Path.{◌≡◌, refl, ap, ap₂, sym, ◌∙◌}
 use mathlib.Core.Bool.{Bool, true, false, not, ◌&&◌}
-use mathlib.Core.Option.{Option, none, some}
+use Rattle.std.specs.Prelude.{Option, None, Some}
 use mathlib.Core.List.{List, [], ◌∷◌, map}
 use Prim.Native.Nat.{ℕ, suc, ◌+◌}
 use lib.Dec.{eqb}
@@ -91,7 +91,7 @@ module _ (f : Filling) where
     member_kept : (sc : ℕ) (env : Env) (s : ℕ) → member (fill_graph f g) sc env s ≡ member g sc env s
     unfolding member usage
     member_kept sc env s =
-        ap (λ (b : Bool). b && elim (id_given env s) as (λ z. Bool) [ none ↦ true | some i ↦ false ])
+        ap (λ (b : Bool). b && elim (id_given env s) as (λ z. Bool) [ None ↦ true | Some i ↦ false ])
         (ap₂ ◌&&◌ (ap₂ (λ (a : ℕ) (b : Bool). eqb a sc && not b) (scope_kept f g s) (is_arg_kept f g s))
         (should_hoist_kept f g s (usage g s)))
 
@@ -198,11 +198,11 @@ module _ (f : Filling) where
           made h b y = build_node h b y y.node sc env last
 
           by : Graph → Builder → Option ℕ → Tree
-          by h b o = elim o [ some i ↦ val_use_of i | none ↦ made h b (sym_of h s) ]
+          by h b o = elim o [ Some i ↦ val_use_of i | None ↦ made h b (sym_of h s) ]
 
           go : (o : Option ℕ) → by (fill_graph f g) build' o ≡ fill_tree f (by g build o)
-          go (some i) = refl
-          go none =
+          go (Some i) = refl
+          go None =
               at_related f (λ y' y. made (fill_graph f g) build' y' ≡ fill_tree f (made g build y))
               (λ y. node_fills y y.node sc env last) refl g.syms s
 

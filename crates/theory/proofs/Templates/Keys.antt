@@ -3,7 +3,7 @@
 -- Assumes nothing.
 use mathlib.Core.Path.{◌≡◌, refl, ap, ap₂, sym, ◌∙◌, subst}
 use mathlib.Core.Bool.{Bool, true, false, ◌&&◌}
-use mathlib.Core.Option.{Option, none, some}
+use Rattle.std.specs.Prelude.{Option, None, Some}
 use mathlib.Core.List.{List, [], ◌∷◌, ◌++◌, map}
 use Prim.Native.Nat.{ℕ, zero, suc, ◌<◌}
 use native.Mathlib.Omega.{arith}
@@ -98,7 +98,7 @@ module _ (f : Filling) (v : ℕ → List ℕ) where
     unfolding lookup_in
     lookup_in_kept [] h = refl
     lookup_in_kept (i ∷ t) h =
-        ap₂ (λ (b : Bool) (o : Option ℕ). elim b as (λ z. Option ℕ) [ true ↦ some i | false ↦ o ])
+        ap₂ (λ (b : Bool) (o : Option ℕ). elim b as (λ z. Option ℕ) [ true ↦ Some i | false ↦ o ])
         (is_key_kept i h.0) (lookup_in_kept t h.1)
 
     pub lookup_kept : (ts : List (List ℕ)) → Sound ss ts →
@@ -106,5 +106,5 @@ module _ (f : Filling) (v : ℕ → List ℕ) where
     unfolding lookup
     lookup_kept [] h = refl
     lookup_kept (t ∷ ts) h =
-        ap₂ (λ (o rest : Option ℕ). elim o as (λ z. Option ℕ) [ some i ↦ some i | none ↦ rest ])
+        ap₂ (λ (o rest : Option ℕ). elim o as (λ z. Option ℕ) [ Some i ↦ Some i | None ↦ rest ])
         (lookup_in_kept t h.0) (lookup_kept ts h.1)

@@ -4,7 +4,7 @@
 use mathlib.Core.Path.{◌≡◌, refl, ap, sym, ◌∙◌}
 use mathlib.Core.Logic.{◌⊎◌, inl, inr, ◌↔◌, ◌≢◌}
 use mathlib.Core.Bool.{Bool, true, false, not, ◌&&◌}
-use mathlib.Core.Option.{Option, none, some}
+use Rattle.std.specs.Prelude.{Option, None, Some}
 use mathlib.Core.List.{List, map}
 use Prim.Native.Nat.{ℕ, ◌<◌, ◌≤◌}
 use native.Mathlib.Omega.{arith}
@@ -117,14 +117,14 @@ module _ (forest : List ℕ) where
 
   -- ---- a template
 
-  two_exactly : (p : ℕ) → (two_values forest ≡ some p) ↔ First (HadAnother forest) p
+  two_exactly : (p : ℕ) → (two_values forest ≡ Some p) ↔ First (HadAnother forest) p
   unfolding two_values
   two_exactly p =
       let w = first_of Differs tests faulty_differs p in
       let v = first-same p in
       (λ e. v.0 (w.0 e), λ h. w.1 (v.1 h))
 
-  none_template : Accepted forest → two_values forest ≡ none → Template forest
+  none_template : Accepted forest → two_values forest ≡ None → Template forest
   unfolding two_values
   none_template ok e = record { accepted = ok; one_value = λ a p q x y. go a p q (differs_or p a x) (differs_or q a y) }
     where
@@ -138,12 +138,12 @@ module _ (forest : List ℕ) where
       go a p q (inr x) (inl d) = absurd (no q d)
       go a p q (inr x) (inr y) = x ∙ sym y
 
-  template_none : Template forest → two_values forest ≡ none
+  template_none : Template forest → two_values forest ≡ None
   template_none h = go (two_values forest) refl
     where
-      go : (o : Option ℕ) → two_values forest ≡ o → two_values forest ≡ none
-      go none e = e
-      go (some p) e =
+      go : (o : Option ℕ) → two_values forest ≡ o → two_values forest ≡ None
+      go None e = e
+      go (Some p) e =
           let had = ((two_exactly p).0 e).0 in
           absurd (had.5 (h.one_value had.0 had.1 p had.3 had.4))
 
@@ -159,7 +159,7 @@ module _ (forest : List ℕ) where
       let tree : tree_of v.1.0 ≡ w.tree = ap (λ (z : Written). z.tree) (good_inj (sym v.1.2 ∙ e)) in
       (passes_accepted forest v.0, ap unfolded (sym tree) ∙ meaning_kept forest v.0 v.1.0 v.1.1)
 
-the_clause : (forest : List ℕ) (w : Written) → run (ample forest) ≡ good w → two_values forest ≡ none → (f : Filling) →
+the_clause : (forest : List ℕ) (w : Written) → run (ample forest) ≡ good w → two_values forest ≡ None → (f : Filling) →
     length (fill_forest f forest) ≤ 65535 → length (fill_forest f w.bytes) ≤ 65535 → Clause forest w f
 the_clause forest w e none-two f short fits =
     let all = every_filling f forest (none_template forest (good_means forest w e).0 none-two) short in

@@ -4,7 +4,7 @@
 use mathlib.Core.Path.{◌≡◌, refl, ap, sym, ◌∙◌, subst}
 use mathlib.Core.Logic.{◌⊎◌, inl, inr}
 use mathlib.Core.Bool.{Bool, true, false, ◌||◌}
-use mathlib.Core.Option.{Option, none, some}
+use Rattle.std.specs.Prelude.{Option, None, Some}
 use mathlib.Core.List.{List, [], ◌∷◌, ◌++◌}
 use Prim.Native.Nat.{ℕ, ◌≤◌}
 use native.Mathlib.Omega.{arith}
@@ -52,8 +52,8 @@ checked_maps g (c ∷ cs) a = go c.1 (checked_maps g cs a)
   where
     go : (o : Option ℕ) → checked cs (g a) ≡ map_answer g (checked cs a) →
         unless c.0 o (checked cs (g a)) ≡ map_answer g (unless c.0 o (checked cs a))
-    go none h = h
-    go (some p) h = refl
+    go None h = h
+    go (Some p) h = refl
 
 module _ (f : Filling) where
   -- ---- interning
@@ -110,7 +110,7 @@ module _ (f : Filling) where
       ap at0 (or_none (ltb 256 (size (tree_of o))) _ _ (le-ltb 65535 (length (bytes_of o)) h.short)
       (le-ltb room (length (bytes_of o)) h.fits_in))
 
-  passed-fits : (room : ℕ) (o : ℕ × State) → check13 room o ≡ none → BytesFit room (bytes_of o)
+  passed-fits : (room : ℕ) (o : ℕ × State) → check13 room o ≡ None → BytesFit room (bytes_of o)
   unfolding check13
   passed-fits room o e =
       let a = or_neither (ltb 256 (size (tree_of o)) || ltb 65535 (length (bytes_of o))) _ (at0_none _ e) in
@@ -159,9 +159,9 @@ module _ (f : Filling) where
       deep = (14, check14 o) ∷ []
 
       go : (x y : Option ℕ) → Alike (by o x) (by (fill_interned f o) y)
-      go (some p) y = inl refl
-      go none (some p) = inr (inl refl)
-      go none none =
+      go (Some p) y = inl refl
+      go None (Some p) = inr (inl refl)
+      go None None =
           rw (check_14_kept o, written_filled o)
           (subst (Alike (checked deep (written_of o))) (sym (checked_maps (fill_written f) deep (written_of o)))
           (filled_alike (checked deep (written_of o))))
@@ -206,10 +206,10 @@ module _ (f : Filling) where
         by x e = checked ((1, e) ∷ []) x >>= written
 
         go : (e : Option ℕ) → by c' e ≡ map_answer (fill_written f) (by c e)
-        go none =
+        go None =
             ap (λ (m : Out). m >>= measured c'.room) interns
             ∙ rest_filled c.room c'.room (interned c.forest) h
-        go (some p) = refl
+        go (Some p) = refl
 
     zero-fits : (w : Written) → run c ≡ good w → BytesFit c'.room (fill_forest f w.bytes) → BothFit
     unfolding run lent_checks checked unless ◌>>=◌ written
@@ -217,10 +217,10 @@ module _ (f : Filling) where
       where
         go : (x : Option ℕ) → (checked ((1, x) ∷ []) c >>= written) ≡ good w →
             BytesFit c.room (bytes_of o) × BytesFit c'.room (fill_forest f (bytes_of o))
-        go none e =
+        go None e =
             let z = rest_good c.room (interned c.forest) w e o d in
             (z.0, subst (λ (bs : List ℕ). BytesFit c'.room (fill_forest f bs)) (sym z.1) k)
-        go (some p) e = refused_good e
+        go (Some p) e = refused_good e
 
     numbers_alike : Alike (run c) (run c')
     unfolding run lent_checks checked unless ◌>>=◌ written numbers_of
@@ -230,10 +230,10 @@ module _ (f : Filling) where
         by x e = checked ((1, e) ∷ []) x >>= written
 
         go : (e : Option ℕ) → Alike (by c e) (by c' e)
-        go none =
+        go None =
             subst (λ (m : Out). Alike (interned c.forest >>= measured c.room) (m >>= measured c'.room))
             (sym interns) (rest_alike c.room c'.room (interned c.forest))
-        go (some p) = inr (inr (refl, refl))
+        go (Some p) = inr (inr (refl, refl))
 
     only_13 : ((numbers c).number ≡ 13) ⊎ ((numbers c').number ≡ 13) ⊎
         (((numbers c').number ≡ (numbers c).number) × ((numbers c').place ≡ (numbers c).place))

@@ -4,7 +4,7 @@
 -- Assumes nothing.
 use mathlib.Core.Path.{◌≡◌, refl, ap, sym, subst, subst₂}
 use mathlib.Core.Bool.{Bool, true, false, ◌||◌}
-use mathlib.Core.Option.{Option, none, some}
+use Rattle.std.specs.Prelude.{Option, None, Some}
 use mathlib.Core.List.{List, [], ◌∷◌, map, map-append}
 use Prim.Native.Nat.{ℕ}
 use native.Mathlib.Omega.{arith}
@@ -111,13 +111,13 @@ module _ (f : Filling) (v : ℕ → List ℕ) where
       (go (lookup st.syms r ks st.tables))
     where
       body : Rec → State → Option ℕ → List ℕ → Out
-      body z s m us = elim m [ some i ↦ good (i, s) | none ↦ alloc at cur z ks (without us own) true nd s ]
+      body z s m us = elim m [ Some i ↦ good (i, s) | None ↦ alloc at cur z ks (without us own) true nd s ]
 
       go : (m : Option ℕ) →
           FillsOut (body (fill_rec f r) (fill_state f st) m (union_deps st.syms ks))
           (body r st m (union_deps st.syms ks))
-      go (some i) = (refl, h)
-      go none = alloc_fills at cur r ks (without (union_deps st.syms ks) own) true nd st k h
+      go (Some i) = (refl, h)
+      go None = alloc_fills at cur r ks (without (union_deps st.syms ks) own) true nd st k h
 
   -- a record that is no parameter, as it stands
   finish_other : (at cur : ℕ) (r : Rec) (ks own : List ℕ) (nd : Node) (st : State) → Other r → SoundState st →
@@ -174,10 +174,10 @@ module _ (f : Filling) (v : ℕ → List ℕ) where
   pair_projection_fills at cur r i p st o h = go (recall st.memo p)
     where
       go : (m : Option (ℕ × ℕ)) → FillsOut
-          (elim m [ some ab ↦ good (pick i ab, fill_state f st) | none ↦ new_projections at cur r i p (fill_state f st) ])
-          (elim m [ some ab ↦ good (pick i ab, st) | none ↦ new_projections at cur r i p st ])
-      go (some ab) = (refl, h)
-      go none = new_projections_fills at cur r i p st o h
+          (elim m [ Some ab ↦ good (pick i ab, fill_state f st) | None ↦ new_projections at cur r i p (fill_state f st) ])
+          (elim m [ Some ab ↦ good (pick i ab, st) | None ↦ new_projections at cur r i p st ])
+      go (Some ab) = (refl, h)
+      go None = new_projections_fills at cur r i p st o h
 
   -- ---- kinds of record
 
@@ -241,14 +241,14 @@ module _ (f : Filling) (v : ℕ → List ℕ) where
         let xs = args_of r.aux r.lit in
         outs_out _ (alloc_args at cur r xs st) _
         (λ made. kids (length made.2.scopes) (bind_args xs made.0 env)
-        (open_scope cur (some made.0) made.2.tables made.2) >>=
+        (open_scope cur (Some made.0) made.2.tables made.2) >>=
         λ os. finish at cur r os.0 made.0 (func (with_opts xs made.0) (length made.2.scopes)) os.2)
         (alloc_args_fills at cur r xs st o h) λ made s.
         outs_out _ (kids (length made.2.scopes) (bind_args xs made.0 env)
-        (open_scope cur (some made.0) made.2.tables made.2)) _
+        (open_scope cur (Some made.0) made.2.tables made.2)) _
         (λ os. finish at cur r os.0 made.0 (func (with_opts xs made.0) (length made.2.scopes)) os.2)
         (fill (length made.2.scopes) (bind_args xs made.0 env)
-        (open_scope cur (some made.0) made.2.tables made.2) s) λ os t.
+        (open_scope cur (Some made.0) made.2.tables made.2) s) λ os t.
         finish_other at cur r os.0 made.0 (func (with_opts xs made.0) (length made.2.scopes)) os.2 o t
 
     -- a record that is no parameter, by its kind

@@ -3,7 +3,7 @@
 -- Assumes nothing.
 use mathlib.Core.Path.{◌≡◌, refl, sym, ◌∙◌}
 use mathlib.Core.Bool.{Bool, true, false}
-use mathlib.Core.Option.{Option, none, some}
+use Rattle.std.specs.Prelude.{Option, None, Some}
 use mathlib.Core.List.{List, map}
 use Prim.Native.Nat.{ℕ, ◌<◌, ◌≤◌}
 use native.Mathlib.Omega.{arith}
@@ -60,8 +60,8 @@ first_of a rs p e = go (stands_at a rs) refl
     lower q h false x = ltb-false p q x
 
     go : (o : Option ℕ) → stands_at a rs ≡ o → FirstOf a rs p
-    go none x = absurd (none_faulty (map (is_of a) rs) x p (tested p ∙ e))
-    go (some q) x =
+    go None x = absurd (none_faulty (map (is_of a) rs) x p (tested p ∙ e))
+    go (Some q) x =
         let w = (faulty.first_of (λ i. is_of a (get_or rs i no_record) ≡ true) (map (is_of a) rs)
         (λ i. (λ m. sym (tested i) ∙ m, λ m. tested i ∙ m)) q).0 x in
         record { at = q; early = lower q w.1 (ltb p q) refl; is = w.0; value = rw (x, value_of) }

@@ -4,7 +4,7 @@
 use mathlib.Core.Path.{◌≡◌, refl, ap, sym, ◌∙◌}
 use mathlib.Core.Logic.{inl, inr}
 use mathlib.Core.Bool.{Bool, true, false, ◌&&◌}
-use mathlib.Core.Option.{Option, none, some}
+use Rattle.std.specs.Prelude.{Option, None, Some}
 use mathlib.Core.List.{List, [], ◌∷◌, ◌++◌}
 use Prim.Native.Nat.{ℕ, suc, ◌≤◌, ◌<◌}
 use native.Mathlib.Omega.{arith}
@@ -30,10 +30,10 @@ use Rattle.theory.proofs.Interning.Reread.Later.{Tabled, Later, later_none, Calm
 
 -- what a search gives, by what its first place gives
 abbrev here : Bool → ℕ → Option ℕ → Option ℕ
-here b i rest = elim b [ true ↦ some i | false ↦ rest ]
+here b i rest = elim b [ true ↦ Some i | false ↦ rest ]
 
 abbrev or_else : Option ℕ → Option ℕ → Option ℕ
-or_else o rest = elim o [ some i ↦ some i | none ↦ rest ]
+or_else o rest = elim o [ Some i ↦ Some i | None ↦ rest ]
 
 module _ (ss : List Sym) (y : Sym) (r : Rec) (ks : List ℕ) where
   is_key-more : (i : ℕ) → i < length ss → is_key (ss ++ (y ∷ [])) r ks i ≡ is_key ss r ks i
@@ -74,7 +74,7 @@ is_key-own ss y =
 
 -- entered in the newest table it is found
 own_found : (ss : List Sym) (y : Sym) (ts : List (List ℕ)) → 0 < length ts →
-    lookup (ss ++ (y ∷ [])) y.rec y.kids (enter (length ss) ts) ≡ some (length ss)
+    lookup (ss ++ (y ∷ [])) y.rec y.kids (enter (length ss) ts) ≡ Some (length ss)
 unfolding lookup lookup_in
 own_found ss y [] l = absurd (omega arith)
 own_found ss y (t ∷ ts) l =
@@ -93,8 +93,8 @@ enter-passed ss r ks n (t ∷ ts) e =
 
 -- what was found before a symbol of no key in the tables is found after it
 old_found : (ss : List Sym) (y : Sym) (ts : List (List ℕ)) → ((i : ℕ) → InAny i ts → i < length ss) →
-    lookup ss y.rec y.kids ts ≡ none → (r : Rec) (ks : List ℕ) (i : ℕ) → lookup ss r ks ts ≡ some i →
-    lookup (ss ++ (y ∷ [])) r ks (enter (length ss) ts) ≡ some i
+    lookup ss y.rec y.kids ts ≡ None → (r : Rec) (ks : List ℕ) (i : ℕ) → lookup ss r ks ts ≡ Some i →
+    lookup (ss ++ (y ∷ [])) r ks (enter (length ss) ts) ≡ Some i
 old_found ss y ts low new r ks i e =
     enter-passed (ss ++ (y ∷ [])) r ks (length ss) ts (other (is_key (ss ++ (y ∷ [])) r ks (length ss)) refl)
     ∙ lookup-more ss y r ks ts low
@@ -121,10 +121,10 @@ pub record Found (s : State) (r : Rec) (ks : List ℕ) (o : ℕ × State) : Type
   pub few : sym_count o.1 ≤ suc (sym_count s)
   pub tabled : Tabled s → Tabled o.1
   pub later : Tabled s → Later s o.1
-  pub found : Tabled s → lookup o.1.syms r ks o.1.tables ≡ some o.0
+  pub found : Tabled s → lookup o.1.syms r ks o.1.tables ≡ Some o.0
 
 push_found : (cur : ℕ) (r : Rec) (ks deps : List ℕ) (nd : Node) (s : State) →
-    lookup s.syms r ks s.tables ≡ none →
+    lookup s.syms r ks s.tables ≡ None →
     Found s r ks (length s.syms, push cur r ks deps true nd s)
 unfolding push
 push_found cur r ks deps nd s e = record {

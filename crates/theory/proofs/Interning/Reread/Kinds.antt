@@ -5,7 +5,7 @@
 -- Assumes nothing.
 use mathlib.Core.Path.{◌≡◌, refl, ap, sym, ◌∙◌, subst}
 use mathlib.Core.Bool.{Bool, true, false, ◌||◌}
-use mathlib.Core.Option.{some}
+use Rattle.std.specs.Prelude.{Some}
 use mathlib.Core.List.{List, [], ◌∷◌}
 use Prim.Native.Nat.{ℕ, ◌≤◌, ◌<◌}
 use native.Mathlib.Omega.{arith}
@@ -243,13 +243,13 @@ lambda_rises at cur r env kids s keep =
     holds_bind (λ (os : List ℕ × List ℕ × State). os.2.scopes ≡ s.scopes) More _ _ (args_scopes at cur r xs s)
     λ made e.
     let sc : ℕ = scope_count made.2 in
-    let inner : State = open_scope cur (some made.0) made.2.tables made.2 in
+    let inner : State = open_scope cur (Some made.0) made.2.tables made.2 in
     holds_bind (RereadsAll _ (λ v. kids sc (bind_args xs made.0 env) v) inner) More _ _
     (keep sc (bind_args xs made.0 env) inner) λ os w.
     let nd : Node = func (with_opts xs made.0) sc in
     holds_map (Found os.2 r os.0) More (finish at cur r os.0 made.0 nd os.2)
     (finish_found at cur r os.0 made.0 nd os.2) λ o v.
-    let one = open_more cur (some made.0) made.2.tables made.2 in
+    let one = open_more cur (Some made.0) made.2.tables made.2 in
     omega (arith, ap length e, one, w.rises, ap length v.scopes_are)
 
 -- ---- all kinds

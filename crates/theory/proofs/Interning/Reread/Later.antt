@@ -4,7 +4,7 @@
 -- taken again, alone and one after the other.
 -- Assumes nothing.
 use mathlib.Core.Path.{◌≡◌, refl, ap, ◌∙◌}
-use mathlib.Core.Option.{some}
+use Rattle.std.specs.Prelude.{Some}
 use mathlib.Core.List.{List}
 use Prim.Native.Nat.{ℕ, ◌+◌, ◌-◌, ◌≤◌, ◌<◌}
 use native.Mathlib.Omega.{arith}
@@ -27,7 +27,7 @@ with_readings u n = record { syms = u.syms; tables = u.tables; scopes = u.scopes
 pub record Tabled (s : State) : Type 0 where
   pub some_table : 0 < length s.tables
   pub entries_low : (i : ℕ) → InAny i s.tables → i < sym_count s
-  pub memo_low : (p a b : ℕ) → recall s.memo p ≡ some (a, b) → (a < sym_count s) × (b < sym_count s)
+  pub memo_low : (p a b : ℕ) → recall s.memo p ≡ Some (a, b) → (a < sym_count s) × (b < sym_count s)
 
 pub tabled_with : (s : State) (n : ℕ) → Tabled s → Tabled (with_readings s n)
 tabled_with s n h =
@@ -43,9 +43,9 @@ Low n x = x ≤ n - 1
 pub record Later (s u : State) : Type 0 where
   pub more : sym_count s ≤ sym_count u
   pub same : (i : ℕ) → i < sym_count s → sym_at s.syms i ≡ sym_at u.syms i
-  pub finds : (r : Rec) (ks : List ℕ) (i : ℕ) → lookup s.syms r ks s.tables ≡ some i →
-      lookup u.syms r ks u.tables ≡ some i
-  pub recalls : (p : ℕ) (ab : ℕ × ℕ) → recall s.memo p ≡ some ab → recall u.memo p ≡ some ab
+  pub finds : (r : Rec) (ks : List ℕ) (i : ℕ) → lookup s.syms r ks s.tables ≡ Some i →
+      lookup u.syms r ks u.tables ≡ Some i
+  pub recalls : (p : ℕ) (ab : ℕ × ℕ) → recall s.memo p ≡ Some ab → recall u.memo p ≡ Some ab
 
 pub later_none : (s : State) → Later s s
 later_none s =

@@ -4,7 +4,7 @@
 -- Assumes nothing.
 use mathlib.Core.Path.{◌≡◌, refl, ap, sym, ◌∙◌}
 use mathlib.Core.Bool.{Bool, true, false}
-use mathlib.Core.Option.{Option, none, some}
+use Rattle.std.specs.Prelude.{Option, None, Some}
 use mathlib.Core.List.{[], ◌∷◌}
 use Prim.Native.Nat.{ℕ, ◌<◌}
 use native.Mathlib.Omega.{arith}
@@ -26,10 +26,10 @@ use Rattle.theory.proofs.Interning.Reread.Finds.{Found, finish_found, found_low}
 
 -- what a search gives, by whether its first place is that of the symbol
 abbrev first : Bool → ℕ × ℕ → Option (ℕ × ℕ) → Option (ℕ × ℕ)
-first t ab rest = elim t [ true ↦ some ab | false ↦ rest ]
+first t ab rest = elim t [ true ↦ Some ab | false ↦ rest ]
 
 module _ (p a b : ℕ) (s : State) where
-  remember-own : recall (remember p a b s).memo p ≡ some (a, b)
+  remember-own : recall (remember p a b s).memo p ≡ Some (a, b)
   unfolding recall
   remember-own = ap (λ (t : Bool). first t (a, b) (recall s.memo p)) (eq-eqb p p refl)
 
@@ -41,7 +41,7 @@ module _ (p a b : ℕ) (s : State) where
   }
 
   -- nothing was remembered of the symbol before
-  remember_later : recall s.memo p ≡ none → Later s (remember p a b s)
+  remember_later : recall s.memo p ≡ None → Later s (remember p a b s)
   unfolding recall
   remember_later n = record {
     more = omega arith;
@@ -50,8 +50,8 @@ module _ (p a b : ℕ) (s : State) where
     recalls = λ q ab e. go q ab (eqb p q) refl e;
   }
     where
-      go : (q : ℕ) (ab : ℕ × ℕ) (t : Bool) → eqb p q ≡ t → recall s.memo q ≡ some ab →
-          first t (a, b) (recall s.memo q) ≡ some ab
+      go : (q : ℕ) (ab : ℕ × ℕ) (t : Bool) → eqb p q ≡ t → recall s.memo q ≡ Some ab →
+          first t (a, b) (recall s.memo q) ≡ Some ab
       go q ab true t e =
           let z : p ≡ q = eqb-true p q t in
           none_some {a = ab} (sym n ∙ ap (recall s.memo) z ∙ e)
@@ -78,7 +78,7 @@ module _ (at cur : ℕ) (r : Rec) (i p : ℕ) where
   field_rec j = rec r.shape r.opcode 0 (j ∷ [])
 
   -- remembered
-  old_paired : (s : State) (ab : ℕ × ℕ) → recall s.memo p ≡ some ab → Paired at cur r i p s (pick i ab, s)
+  old_paired : (s : State) (ab : ℕ × ℕ) → recall s.memo p ≡ Some ab → Paired at cur r i p s (pick i ab, s)
   unfolding pair_projection
   old_paired s ab e = record {
     scopes_are = refl;
@@ -91,7 +91,7 @@ module _ (at cur : ℕ) (r : Rec) (i p : ℕ) where
   }
 
   -- new
-  module _ (s : State) (a b : ℕ × State) (none_is : recall s.memo p ≡ none) (w : Found s (field_rec 1) (p ∷ []) a)
+  module _ (s : State) (a b : ℕ × State) (none_is : recall s.memo p ≡ None) (w : Found s (field_rec 1) (p ∷ []) a)
       (v : Found a.1 (field_rec 2) (p ∷ []) b) where
     abbrev end : State
     end = remember p a.0 b.0 b.1
@@ -148,9 +148,9 @@ module _ (at cur : ℕ) (r : Rec) (i p : ℕ) where
     where
       go : (f : Option (ℕ × ℕ)) → recall s.memo p ≡ f →
           Holds (Paired at cur r i p s) (elim f as (λ z. Out)
-          [ some ab ↦ good (pick i ab, s) | none ↦ new_projections at cur r i p s ])
-      go (some ab) e = old_paired s ab e
-      go none e =
+          [ Some ab ↦ good (pick i ab, s) | None ↦ new_projections at cur r i p s ])
+      go (Some ab) e = old_paired s ab e
+      go None e =
           holds_bind (Found s (field_rec 1) (p ∷ [])) (Paired at cur r i p s) _ _
           (finish_found at cur (field_rec 1) (p ∷ []) [] (operation []) s) λ a w.
           holds_bind (Found a.1 (field_rec 2) (p ∷ [])) (Paired at cur r i p s) _ _

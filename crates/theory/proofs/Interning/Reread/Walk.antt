@@ -4,7 +4,7 @@
 -- Assumes nothing.
 use mathlib.Core.Path.{◌≡◌, refl, ap, ◌∙◌}
 use mathlib.Core.Bool.{Bool, true, false}
-use mathlib.Core.Option.{none}
+use Rattle.std.specs.Prelude.{None}
 use mathlib.Core.List.{List, [], ◌∷◌}
 use Prim.Native.Nat.{ℕ, suc, ◌+◌, ◌<◌}
 use native.Mathlib.Omega.{arith}
@@ -89,7 +89,7 @@ module _ (t : Tree) (env : Env) (cur : ℕ) (child : ℕ → State → Out) (res
       (RereadsAll Bound (then_rest true cur child rest) s) _ _
       (holds_bind (Rereads (EnvFits env (sym_count inner)) (λ v. child (scope_count s) v) inner)
       (λ (o : ℕ × State). scope_count s < scope_count o.1) _ _
-      (first (scope_count s) inner) λ o w. omega (arith, open_more cur none ([] ∷ s.tables) s, w.rises)) λ o l.
+      (first (scope_count s) inner) λ o w. omega (arith, open_more cur None ([] ∷ s.tables) s, w.rises)) λ o l.
       holds_bind (RereadsAll (EnvFits (bind_def t o.0 env) (sym_count o.1)) (λ v. rest o.0 v) o.1)
       (RereadsAll Bound (then_rest true cur child rest) s) _ _ (others o.0 o.1) λ os w.
       record { rises = omega (arith, w.rises); calm = λ p h e. absurd (omega (arith, w.rises)) }
