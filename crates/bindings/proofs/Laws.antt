@@ -40,6 +40,8 @@ module _ (id : ℕ) where
     unfolding env_of
     resolve_miss = search_miss (entry_at ws) (λ bs. resolve bs id) (λ b. b.0 ≡ id) (λ b. b.1) here there k
 
+pub ruleset resolving = (resolve_none, resolve_hit, resolve_miss)
+
 -- ---- which words
 
 pub env_words : (us ws : List ℕ) (n : ℕ) → Agree ws us BINDINGS.first (BINDINGS.first + 2 * n)

@@ -17,13 +17,12 @@ ghost use Rattle.bindings.specs.Made.{ArgsBound, DefBound};
 use shape::VAL_DEF;
 
 // The symbol of an id among the first n entries, by the newest that has it. Rules out: by the oldest; the id itself.
+#[tactic(auto, using(crate::proofs::Laws::resolving))]
 pub fn resolve(work: &[u32], n: usize, id: u32) -> u32
     requires { (2 * n ≤ BINDINGS.size) × (WORDS ≤ length work.now) }
     ensures { result ≡ resolve (env_of work.now n) id }
 {
-    let mut k = n;
-    while 0 < k {
-        k -= 1;
+    for k in (0..n).rev() {
         if work[regions::BINDINGS + 2 * k] == id {
             return work[regions::BINDINGS + 2 * k + 1];
         }
@@ -51,10 +50,8 @@ fn bind_all(lit: &[u8], work: &mut [u32], n: usize, top: usize, first: u32)
         ≡ bound_all work.old top (arg_bindings (args_of n lit.now) (range first n)) }
 {
     let mut at = 0;
-    let mut k = n;
     let mut symbol = first;
-    while 0 < k {
-        k -= 1;
+    for k in (0..n).rev() {
         let id = shape::id_at(lit, at);
         bind(work, top + k, id, symbol);
         at = shape::arg_end(lit, at);
@@ -70,7 +67,7 @@ pub fn bind_args(forest: &[u8], work: &mut [u32], i: usize, top: usize, first: u
     requires top_bound { (top + 15 ≤ 1200) × (WORDS ≤ length work.old) × (first ≤ 512) }
     ensures { ArgsBound forest.now i top first work.old work.new result }
 {
-    let n = record::wide(record::aux(forest, i));
+    let n = usize::from(record::aux(forest, i));
     let lit = record::literal(forest, i);
     bind_all(lit, work, n, top, first);
     top + n

@@ -1,8 +1,8 @@
--- Check 3, pair by pair. In order: one pair; the directory's pairs by number; what is left gives the whole.
+-- Check 3, pair by pair. In order: the directory's pairs by number; what is left gives the whole.
 -- Assumes nothing.
 use Prim.Native.Nat.{ℕ, zero, suc, ◌+◌, ◌-◌, ◌*◌, ◌<◌, ◌≤◌}
 use mathlib.Core.Path.{◌≡◌, sym, ap, ◌∙◌}
-use mathlib.Core.Bool.{Bool, true, false, not}
+use mathlib.Core.Bool.{Bool, true, false}
 use Rattle.std.specs.Prelude.{Option, None, Some}
 use mathlib.Core.List.{List, ◌∷◌}
 use native.Mathlib.Omega.{arith}
@@ -15,24 +15,10 @@ use Rattle.model.specs.Lists.{first}
 use Rattle.model.specs.Bytes.{u16}
 use Rattle.model.specs.Shape.{Pairs}
 use Rattle.model.specs.Forest.{record_count, body_start, pairs_at, pairs_of, bad_pairs, check3}
+use Rattle.laws.proofs.Header.{header_of}
 use Rattle.walk.specs.Walk.{shift}
 use Rattle.walk.proofs.Steps.{shift_zero, shift_hit, shift_miss}
 use Rattle.codec.specs.Codec.{bad_pair}
-
--- ---- one pair
-
-module _ (total from at size : ℕ) where
-  pub pair_moved : (last : Bool) → (at ≡ from → ⊥) → true ≡ bad_pair total from at size last
-  pair_moved last h = rw (ne_eqb at from h)
-
-  pub pair_short : (last : Bool) → at ≡ from → size < 5 → true ≡ bad_pair total from at size last
-  pair_short last e h = rw (eq-eqb at from e, lt-ltb size 5 h)
-
-  pub pair_last : at ≡ from → 5 ≤ size → not (eqb (at + size) total) ≡ bad_pair total from at size true
-  pair_last e h = rw (eq-eqb at from e, le-ltb size 5 h)
-
-  pub pair_inner : at ≡ from → 5 ≤ size → false ≡ bad_pair total from at size false
-  pair_inner e h = rw (eq-eqb at from e, le-ltb size 5 h)
 
 -- ---- the directory's pairs by number
 
@@ -66,23 +52,24 @@ last_is n i l = elim (dec_lt (i + 1) n) [
 -- ---- what is left gives the whole
 
 -- the faults from pair i on, the one before it ending at `from`
-abbrev pub pairs_left : List ℕ → ℕ → ℕ → ℕ → Option ℕ
+unfoldable pub pairs_left : List ℕ → ℕ → ℕ → ℕ → Option ℕ
 pairs_left bs n from i = shift i (first (bad_pairs (length bs) from (pairs_from bs n i)))
 
 module _ (bs : List ℕ) where
-  pub directory_short : length bs < body_start bs → Some 0 ≡ check3 bs
-  unfolding check3
+  pub directory_short : length bs < 4 + 4 * record_count bs → check3 bs ≡ Some 0
+  unfolding check3 body_start
   directory_short h = rw (check3, lt-ltb (length bs) (body_start bs) h)
 
-  pub directory-start : body_start bs ≤ length bs → pairs_left bs (record_count bs) (body_start bs) 0 ≡ check3 bs
-  unfolding check3 pairs_of
-  directory-start h =
+  pub directory_start : 4 + 4 * record_count bs ≤ length bs →
+      pairs_left bs (record_count bs) (4 + 4 * record_count bs) 0 ≡ check3 bs
+  unfolding pairs_left check3 pairs_of body_start
+  directory_start h =
       let e : record_count bs - 0 ≡ record_count bs = omega arith in
       rw (check3, le-ltb (length bs) (body_start bs) h, e) (shift_zero _)
 
-  pub directory-end : (n from i : ℕ) → n ≤ i → pairs_left bs n from i ≡ None
-  unfolding pairs_at bad_pairs first
-  directory-end n from i h = let e : n - i ≡ 0 = omega arith in rw e
+  pub directory_end : (n from i : ℕ) → n ≤ i → pairs_left bs n from i ≡ None
+  unfolding pairs_left pairs_at bad_pairs first
+  directory_end n from i h = let e : n - i ≡ 0 = omega arith in rw e
 
   module _ (n from i : ℕ) (lt : i < n) where
     pairs_split : bad_pairs (length bs) from (pairs_from bs n i) ≡
@@ -94,13 +81,19 @@ module _ (bs : List ℕ) where
         let g : 4 + (4 + 4 * i) ≡ 4 + 4 * (i + 1) = omega arith in
         rw e (pairs_first (length bs) from (n - (i + 1)) bs (4 + 4 * i) ∙ rw (last_is n i lt, f, g))
 
-    pub directory_hit : (at size : ℕ) → at ≡ u16 (drop (4 + 4 * i) bs) → size ≡ u16 (drop (6 + 4 * i) bs) →
-        (b : Bool) → b ≡ bad_pair (length bs) from at size (eqb (i + 1) n) → b ≡ true → pairs_left bs n from i ≡ Some i
-    directory_hit at size a s b e h =
-        ap (λ (z : List Bool). shift i (first z)) pairs_split ∙ shift_hit i _ _ (rw (← a, ← s) (sym e ∙ h))
+    abbrev at : ℕ
+    at = u16 (drop (4 + 4 * i) bs)
 
-    pub directory_miss : (at size : ℕ) → at ≡ u16 (drop (4 + 4 * i) bs) → size ≡ u16 (drop (6 + 4 * i) bs) →
-        (b : Bool) → b ≡ bad_pair (length bs) from at size (eqb (i + 1) n) → b ≡ false →
+    abbrev size : ℕ
+    size = u16 (drop (6 + 4 * i) bs)
+
+    pub directory_hit : bad_pair (length bs) from at size (eqb (i + 1) n) ≡ true → pairs_left bs n from i ≡ Some i
+    unfolding pairs_left
+    directory_hit e = ap (λ (z : List Bool). shift i (first z)) pairs_split ∙ shift_hit i _ _ e
+
+    pub directory_miss : bad_pair (length bs) from at size (eqb (i + 1) n) ≡ false →
         pairs_left bs n from i ≡ pairs_left bs n (at + size) (i + 1)
-    directory_miss at size a s b e h =
-        rw (a, s) (ap (λ (z : List Bool). shift i (first z)) pairs_split ∙ shift_miss i _ _ (rw (← a, ← s) (sym e ∙ h)))
+    unfolding pairs_left
+    directory_miss e = ap (λ (z : List Bool). shift i (first z)) pairs_split ∙ shift_miss i _ _ e
+
+pub ruleset directory = (header_of, directory_short, directory_start, directory_end, directory_hit, directory_miss)

@@ -1,5 +1,4 @@
--- Laws of checks 2 to 6. Assumes nothing.
-pub mod Header
+-- Laws of checks 2 to 10. Assumes nothing.
 pub mod Directory
 pub mod Rows
 pub mod Closing

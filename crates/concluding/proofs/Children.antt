@@ -1,9 +1,8 @@
 -- A symbol that is there already: the last of some pending children, or what an id stands for. In order: the last; that
--- it is a symbol; an id; such a symbol as an answer; an answer, seen otherwise. The second and the fourth are for
--- callers.
+-- it is a symbol, for callers; an id.
 -- Assumes nothing.
 use Prim.Native.Nat.{ℕ, zero, suc, ◌+◌, ◌-◌, ◌<◌}
-use mathlib.Core.Path.{◌≡◌, ap, ◌∙◌, subst, sym}
+use mathlib.Core.Path.{◌≡◌, ap, ◌∙◌}
 use mathlib.Core.List.{List}
 use native.Mathlib.Omega.{arith}
 use lib.ListN.{get_or, drop}
@@ -12,15 +11,7 @@ use Rattle.model.specs.Bytes.{u32}
 use Rattle.model.specs.Lists.{last}
 use Rattle.model.specs.Tree.{Rec}
 use Rattle.model.specs.Binding.{id_of}
-use Rattle.model.specs.Answer.{good}
-use Rattle.model.specs.Intern.{Out}
 use Rattle.symbols.specs.Words.{words_from, pending_from}
-use Rattle.tables.specs.declared.Tables.{Tables}
-use Rattle.interner.specs.declared.State.{State}
-use Rattle.interner.specs.declared.Step.{Step}
-use Rattle.interner.specs.State.{abs_of, Rep}
-use Rattle.interner.specs.Step.{given, Answers}
-use Rattle.interner.proofs.Sharing.{leaves_none, out-given}
 
 -- ---- the last
 
@@ -47,16 +38,3 @@ last_low ws held (suc m) n lt h = rw (last_word ws (PENDING.first + held) m) (h 
 pub use_id : (r : Rec) (lit : List ℕ) (id : ℕ) → id ≡ u32 (drop 0 lit) → lit ≡ r.lit → id ≡ id_of r
 unfolding id_of
 use_id r lit id e f = e ∙ ap u32 f
-
--- ---- such a symbol as an answer
-
-pub given_answers : (bs ws : List ℕ) (t : Tables) (st : State) (s : ℕ) (r : Step) → Rep bs ws st → s < st.symbols →
-    r ≡ given st s → Answers bs ws t st (good (s, abs_of bs ws t st)) ws r
-given_answers bs ws t st s r rep low e =
-    subst (Answers bs ws t st (good (s, abs_of bs ws t st)) ws) (sym e)
-    (record { rep = rep; leaves = leaves_none ws st; low = low; is = out-given bs ws t st s })
-
--- an answer, seen otherwise
-pub answers_as : {bs ws : List ℕ} {t : Tables} {st : State} {o o' : Out} {ws' : List ℕ} {r : Step} →
-    o ≡ o' → Answers bs ws t st o ws' r → Answers bs ws t st o' ws' r
-answers_as {bs} {ws} {t} {st} {ws' = ws'} {r} e = subst (λ (z : Out). Answers bs ws t st z ws' r) e

@@ -17,7 +17,7 @@ use Rattle.shape.proofs.Fitting.{fitting}
 use Rattle.walk.specs.Walk.{WellFormed}
 use Rattle.walk.proofs.Bridge.{row_fits}
 use Rattle.key.specs.declared.Node.{Node}
-use Rattle.key.specs.declared.Node.TheVariants.{Const, Unparsed, Lambda, Op}
+use Rattle.key.specs.declared.Node.TheVariants.{Const, Unparsed, Lambda}
 use Rattle.key.specs.Key.{choose, parts_of}
 use Rattle.symbols.specs.Words.{pending_from}
 use Rattle.symbols.specs.Symbols.{key_rec}
@@ -28,8 +28,9 @@ use Rattle.symbols.specs.Sourced.{Sourced}
 use Rattle.interner.specs.State.{abs_of, Rep}
 use Rattle.interner.specs.Step.{Answers, BodyOf, Fresh, Ready, finish_of}
 use Rattle.concluding.specs.declared.Branches.{Branches}
-use Rattle.concluding.specs.Concluding.{branches_of, general_node, Concludes, Branched}
-use Rattle.concluding.proofs.Children.{answers_as}
+use Rattle.concluding.specs.declared.Branches.TheVariants.{Zero, One, Two}
+use Rattle.concluding.specs.Concluding.{op_node, branches_of, general_node, Concludes, Branched}
+use Rattle.interner.proofs.Sharing.{answers_as}
 
 -- ---- a record's node, by its shape
 
@@ -39,19 +40,7 @@ const_node i = Const (record { source = i })
 abbrev unparsed_node : ℕ → Node
 unparsed_node i = Unparsed (record { source = i })
 
-abbrev op_node : ℕ → Branches → Node
-op_node i b = Op (record { source = i; field = 0; branches = b.count; first = b.first; second = b.second })
-
 module _ (s i : ℕ) (b : Branches) where
-  pub node_const : s ≡ 0 → const_node i ≡ general_node s i b
-  node_const e = rw (eq-eqb s 0 e)
-
-  pub node_unparsed : (s ≡ 0 → ⊥) → s ≡ 1 → unparsed_node i ≡ general_node s i b
-  node_unparsed n e = rw (ne_eqb s 0 n, eq-eqb s 1 e)
-
-  pub node_op : (s ≡ 0 → ⊥) → (s ≡ 1 → ⊥) → op_node i b ≡ general_node s i b
-  node_op n m = rw (ne_eqb s 0 n, ne_eqb s 1 m)
-
   node_cases : (P : Node → Type 0) → (s ≡ 0 → P (const_node i)) → ((s ≡ 0 → ⊥) → s ≡ 1 → P (unparsed_node i)) →
       ((s ≡ 0 → ⊥) → (s ≡ 1 → ⊥) → P (op_node i b)) → P (general_node s i b)
   node_cases P c u o = go (eqb s 0) (eqb s 1) (eqb-true s 0) (eqb-false s 0) (eqb-true s 1) (eqb-false s 1)
@@ -98,10 +87,31 @@ module _ {bs ws : List ℕ} {st : State} {i cur inner held count : ℕ}
 abbrev shape_of : List ℕ → ℕ → ℕ
 shape_of bs i = (row_at bs i).rec.shape
 
-pub general_ready : {bs ws : List ℕ} {st : State} {i cur held count : ℕ} {b : Branches} {node : Node} →
+op_ready : {bs ws : List ℕ} {st : State} {i cur held count : ℕ} → Concludes bs ws st i cur cur held count →
+    (b : Branches) → Branched b → Ready bs ws st cur (op_node i b) held count
+op_ready {i = i} h Zero br = record {
+  fresh = fresh_from h (op_node i Zero) refl refl (omega arith) (omega arith) (omega arith)
+      (record { plain = λ e. h.children; made = λ z. absurd (z refl) });
+  keyed = tt;
+  forced = h.forced;
+}
+op_ready {i = i} h (One a) br = record {
+  fresh = fresh_from h (op_node i (One a)) refl refl (omega arith) br (omega arith)
+      (record { plain = λ e. h.children; made = λ z. absurd (z refl) });
+  keyed = tt;
+  forced = h.forced;
+}
+op_ready {i = i} h (Two a b) br = record {
+  fresh = fresh_from h (op_node i (Two a b)) refl refl (omega arith) br.0 br.1
+      (record { plain = λ e. h.children; made = λ z. absurd (z refl) });
+  keyed = tt;
+  forced = h.forced;
+}
+
+pub general_ready : {bs ws : List ℕ} {st : State} {i cur held count : ℕ} (b : Branches) {node : Node} →
     node ≡ general_node (shape_of bs i) i b → WellFormed bs → Concludes bs ws st i cur cur held count → Branched b →
     Ready bs ws st cur node held count
-general_ready {bs} {ws} {st} {i} {cur} {held} {count} {b} is sound h br =
+general_ready {bs} {ws} {st} {i} {cur} {held} {count} b is sound h br =
     let fit = row_fits bs i sound.fit h.from in
     subst (λ (n : Node). Ready bs ws st cur n held count) (sym is)
     (node_cases (shape_of bs i) i b (λ n. Ready bs ws st cur n held count)
@@ -116,18 +126,23 @@ general_ready {bs} {ws} {st} {i} {cur} {held} {count} {b} is sound h br =
       keyed = tt;
       forced = h.forced;
     })
-    (λ n m. record {
-      fresh = fresh_from h (op_node i b) refl refl (omega (arith, br.few)) br.first br.second
-          (record { plain = λ e. h.children; made = λ z. absurd (z refl) });
-      keyed = tt;
-      forced = h.forced;
-    }))
+    (λ n m. op_ready h b br))
 
 module _ (bs ws : List ℕ) (t : Tables) (st : State) (i cur held count : ℕ) (b : Branches) where
-  abbrev general_of : Out
-  general_of =
-      finish i cur (row_at bs i).rec (pending_from ws held count) [] (node_of (row_at bs i).rec (branches_of b))
+  abbrev of_branches : Branches → Out
+  of_branches z =
+      finish i cur (row_at bs i).rec (pending_from ws held count) [] (node_of (row_at bs i).rec (branches_of z))
       (abs_of bs ws t st)
+
+  abbrev general_of : Out
+  general_of = of_branches b
+
+  op_is : (b : Branches) → (shape_of bs i ≡ 0 → ⊥) → (shape_of bs i ≡ 1 → ⊥) →
+      finish_of bs ws t st cur (op_node i b) held count ≡ of_branches b
+  unfolding key_rec node_of
+  op_is Zero n m = rw (ne_eqb (shape_of bs i) 0 n, ne_eqb (shape_of bs i) 1 m, node_of)
+  op_is (One a) n m = rw (ne_eqb (shape_of bs i) 0 n, ne_eqb (shape_of bs i) 1 m, node_of)
+  op_is (Two a b) n m = rw (ne_eqb (shape_of bs i) 0 n, ne_eqb (shape_of bs i) 1 m, node_of)
 
   general_is : finish_of bs ws t st cur (general_node (shape_of bs i) i b) held count ≡ general_of
   unfolding key_rec node_of
@@ -135,11 +150,11 @@ module _ (bs ws : List ℕ) (t : Tables) (st : State) (i cur held count : ℕ) (
       node_cases (shape_of bs i) i b (λ n. finish_of bs ws t st cur n held count ≡ general_of)
       (λ e. rw (eq-eqb (shape_of bs i) 0 e, node_of))
       (λ n e. rw (ne_eqb (shape_of bs i) 0 n, eq-eqb (shape_of bs i) 1 e, node_of))
-      (λ n m. rw (ne_eqb (shape_of bs i) 0 n, ne_eqb (shape_of bs i) 1 m, node_of))
+      (λ n m. op_is b n m)
 
   pub general_answers : {node : Node} → node ≡ general_node (shape_of bs i) i b → {ws' : List ℕ} {r : Step} →
       Answers bs ws t st (finish_of bs ws t st cur node held count) ws' r → Answers bs ws t st general_of ws' r
-  general_answers e = answers_as (ap (λ (n : Node). finish_of bs ws t st cur n held count) e ∙ general_is)
+  general_answers e a = answers_as a (ap (λ (n : Node). finish_of bs ws t st cur n held count) e ∙ general_is)
 
 -- ---- a lambda
 

@@ -6,7 +6,7 @@ use mathlib.Core.Path.{◌≡◌, refl, sym, ap, ◌∙◌}
 use mathlib.Core.Bool.{Bool, true, false, ◌&&◌, ◌||◌}
 use mathlib.Core.List.{List, []}
 use native.Mathlib.Omega.{arith}
-use borrow.Author.Tests.{eq-eqb, ne_eqb}
+use borrow.Author.Tests.{ne_eqb}
 use lib.Dec.{eqb}
 use lib.ListN.{length, get_or}
 use Rattle.regions.specs.Regions.{PENDING}
@@ -31,8 +31,8 @@ use Rattle.interner.specs.declared.State.{State}
 use Rattle.interner.specs.declared.Step.{Step}
 use Rattle.interner.specs.State.{abs_of, Rep}
 use Rattle.interner.specs.Step.{Answers, Projects}
-use Rattle.concluding.specs.Concluding.{field_at, reads_again, Branched, Selects, HasSymbol, Input}
-use Rattle.concluding.proofs.Children.{answers_as}
+use Rattle.concluding.specs.Concluding.{field_at, reads_again, Selects, HasSymbol, Input}
+use Rattle.interner.proofs.Sharing.{answers_as}
 
 -- ---- its input
 
@@ -92,12 +92,6 @@ symbol_shape bs ws s n lt e f =
 -- field 1 or 2
 abbrev of_pair : ℕ → Bool
 of_pair f = eqb f 1 || eqb f 2
-
-pub pair_first : (f : ℕ) → f ≡ 1 → true ≡ of_pair f
-pair_first f e = rw (eq-eqb f 1 e)
-
-pub pair_second : (f : ℕ) → (f ≡ 1 → ⊥) → eqb f 2 ≡ of_pair f
-pair_second f n = rw (ne_eqb f 1 n)
 
 module _ (bs ws : List ℕ) (n i held : ℕ) {f : ℕ} (is : f ≡ field_at bs i) {t : Bool} (told : t ≡ of_pair f) where
   abbrev tupled : Bool
@@ -162,8 +156,8 @@ module _ (bs ws : List ℕ) (t : Tables) (st : State) (i cur held : ℕ) where
           Answers bs ws t st (pair_projection i cur (row_at bs i).rec f input (abs_of bs ws t st)) ws' r →
           Answers bs ws t st field_of ws' r
       unfolding reads_again
-      pair_answers once e =
-          answers_as (ap (λ (z : ℕ). pair_projection i cur (row_at bs i).rec z input (abs_of bs ws t st)) is
+      pair_answers once e a =
+          answers_as a (ap (λ (z : ℕ). pair_projection i cur (row_at bs i).rec z input (abs_of bs ws t st)) is
           ∙ sym (field_tests ∙ go (of_pair (field_at bs i)) is_tuple once (told_here ∙ e)))
         where
           go : (u v : Bool) → u && v ≡ false → u ≡ true → by_tests u v ≡ by_tests true false
@@ -175,10 +169,7 @@ module _ (bs ws : List ℕ) (t : Tables) (st : State) (i cur held : ℕ) where
           Answers bs ws t st
           (finish i cur (row_at bs i).rec (pending_from ws held 1) [] (node_of (row_at bs i).rec []) (abs_of bs ws t st))
           ws' r → Answers bs ws t st field_of ws' r
-      other_answers shape e =
-          answers_as (ap (λ n. finish i cur (row_at bs i).rec (pending_from ws held 1) [] n (abs_of bs ws t st))
+      other_answers shape e a =
+          answers_as a (ap (λ n. finish i cur (row_at bs i).rec (pending_from ws held 1) [] n (abs_of bs ws t st))
           (node_field (row_at bs i).rec shape)
           ∙ sym (field_tests ∙ ap (λ (u : Bool). by_tests u is_tuple) (told_here ∙ e)))
-
-pub no_branches : Branched (record { count = 0; first = 0; second = 0 })
-no_branches = record { few = omega arith; first = omega arith; second = omega arith }

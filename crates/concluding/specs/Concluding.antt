@@ -1,7 +1,7 @@
 -- What a record gives once its children's symbols are pending: bs are the forest's bytes, ws the work words. In order:
 -- thunks and nodes; what a symbol asks; a SelectField; a use.
 -- Assumes nothing.
-use Rattle.std.specs.Prelude.{ℕ, ◌+◌, ◌*◌, ◌<◌, ◌≤◌, ◌≡◌, Bool, ◌&&◌, ◌||◌, List, [], ◌∷◌, eqb, length, get_or, take}
+use Rattle.std.specs.Prelude.{ℕ, ◌+◌, ◌*◌, ◌<◌, ◌≤◌, ◌≡◌, Bool, ◌&&◌, ◌||◌, List, [], ◌∷◌, eqb, length, get_or}
 use Rattle.regions.specs.Regions.{SLOTS, PENDING, BINDINGS, WORDS}
 use Rattle.model.specs.Forest.{record_count}
 use Rattle.model.specs.Intern.{union_deps, sym_at}
@@ -15,19 +15,27 @@ use Rattle.scopes.specs.Scopes.{scopes_of}
 use Rattle.interner.specs.declared.State.{State}
 use Rattle.interner.specs.Levels.{InForce}
 use Rattle.concluding.specs.declared.Branches.{Branches}
+use Rattle.concluding.specs.declared.Branches.TheVariants.{Zero, One, Two}
 
 -- ---- thunks and nodes
 
 -- the scopes of a record's thunks, in order
 abbrev pub branches_of : Branches → List ℕ
-branches_of b = take b.count (b.first ∷ b.second ∷ [])
+branches_of Zero = []
+branches_of (One a) = a ∷ []
+branches_of (Two a b) = a ∷ b ∷ []
+
+-- the node of record i with these thunks
+abbrev pub op_node : ℕ → Branches → Node
+op_node i Zero = Op (record { source = i; field = 0; branches = 0; first = 0; second = 0 })
+op_node i (One a) = Op (record { source = i; field = 0; branches = 1; first = a; second = 0 })
+op_node i (Two a b) = Op (record { source = i; field = 0; branches = 2; first = a; second = b })
 
 -- the node of record i, by its shape
 abbrev pub general_node : ℕ → ℕ → Branches → Node
 general_node shape i b =
     choose (eqb shape 0) (Const (record { source = i }))
-    (choose (eqb shape 1) (Unparsed (record { source = i }))
-    (Op (record { source = i; field = 0; branches = b.count; first = b.first; second = b.second })))
+    (choose (eqb shape 1) (Unparsed (record { source = i })) (op_node i b))
 
 -- ---- what a symbol asks
 
@@ -43,11 +51,11 @@ pub record Concludes (bs ws : List ℕ) (st : State) (i cur inner held count : �
   pub forced : InForce (scopes_of ws st.scopes) inner
       (union_deps (syms_of bs ws st.symbols) (pending_from ws held count))
 
--- at most two thunks, whose scopes fit a symbol's words
-pub record Branched (b : Branches) : Type 0 where
-  pub few : b.count ≤ 2
-  pub first : b.first < 4096
-  pub second : b.second < 4096
+-- the scopes of thunks fit a symbol's words
+abbrev pub Branched : Branches → Type 0
+Branched Zero = Unit {0}
+Branched (One a) = a < 4096
+Branched (Two a b) = (a < 4096) × (b < 4096)
 
 -- ---- a SelectField
 

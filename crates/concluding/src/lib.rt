@@ -1,9 +1,9 @@
 // What a record gives once its children's symbols are pending (intern.rs): the symbol of its key, a lambda's, a
 // projection's, a use's, or that of its last child. The pending symbols of the children start `held` words into their
-// region. All but `reads_again` give a step: the symbol and the state after it, or refusal 12 at the record, as the
-// definition has it. Then the words hold the state of the step (`Answers`), after a refusal the one in which it was met;
-// the words of symbols, slots, entries and remembered pairs may have changed, and no others (`Leaves`). A function that
-// only reads the words gives the state as it was, and refuses nothing.
+// region. All but `reads_again` give a step: the symbol and the state after it, or a refusal at the record, where there
+// is no room for a symbol, as the definition has it. Then the words hold the state of the step (`Answers`), after a
+// refusal the one in which it was met; the words of symbols, slots, entries and remembered pairs may have changed, and
+// no others (`Leaves`). A function that only reads the words gives the state as it was, and refuses nothing.
 #![tactic(auto)]
 
 ghost use Rattle.std.specs.Prelude.{◌≡◌, false, ◌||◌, [], ℕ, ◌+◌, ◌<◌, ◌≤◌, eqb, length, get_or};
@@ -29,12 +29,12 @@ use key::{Func, Leaf, Node, Operation};
 use shape::{CONST, TUPLE, UNPARSED};
 use tables::Tables;
 
-// The scopes of a record's thunks, of which there are `count`.
+// The scopes of a record's thunks, of which there are two at most.
 #[derive(Clone, Copy)]
-pub struct Branches {
-    pub count: u32,
-    pub first: u32,
-    pub second: u32,
+pub enum Branches {
+    Zero,
+    One(u32),
+    Two(u32, u32),
 }
 
 // The node of record i, which is no lambda.
@@ -44,23 +44,27 @@ fn node_for(forest: &[u8], i: usize, b: Branches) -> Node
     ensures { result ≡ general_node (row_at forest.now i).rec.shape i b }
 {
     let source = i as u32;
-    let shape = record::shape(forest, i);
-    if shape == CONST {
-        return Node::Const(Leaf { source });
+    match record::shape(forest, i) {
+        CONST => Node::Const(Leaf { source }),
+        UNPARSED => Node::Unparsed(Leaf { source }),
+        _ => {
+            let (branches, first, second) = match b {
+                Branches::Zero => (0, 0, 0),
+                Branches::One(first) => (1, first, 0),
+                Branches::Two(first, second) => (2, first, second),
+            };
+            Node::Op(Operation {
+                source,
+                field: 0,
+                branches,
+                first,
+                second,
+            })
+        }
     }
-    if shape == UNPARSED {
-        return Node::Unparsed(Leaf { source });
-    }
-    Node::Op(Operation {
-        source,
-        field: 0,
-        branches: b.count,
-        first: b.first,
-        second: b.second,
-    })
 }
 
-// Gives the symbol of record i's key, whose thunks have the scopes b, or refusal 12. Rules out: an unparsed record's
+// Gives the symbol of record i's key, whose thunks have the scopes b, or a refusal. Rules out: an unparsed record's
 // symbol as a constant's; a symbol whose thunks are in the scope of its parent.
 pub fn general(
     forest: &[u8],
@@ -88,7 +92,7 @@ pub fn general(
 }
 
 // Gives the symbol of the lambda of record i, whose arguments are the symbols from `first` on, and whose body was read in
-// scope `body`, or refusal 12. Rules out: a lambda that depends on its own arguments; one whose body's scope is that of
+// scope `body`, or a refusal. Rules out: a lambda that depends on its own arguments; one whose body's scope is that of
 // the record.
 pub fn lambda(
     forest: &[u8],
@@ -129,17 +133,14 @@ fn field_of(forest: &[u8], i: usize) -> u32
     ensures { result ≡ field_at forest.now i }
 {
     let lit = record::literal(forest, i);
-    symbols::wide(lit[0])
+    u32::from(lit[0])
 }
 
 // Whether a field is one of a pair.
 fn of_pair(field: u32) -> bool
     ensures { result ≡ (eqb field 1 || eqb field 2) }
 {
-    if field == 1 {
-        return true;
-    }
-    field == 2
+    field == 1 || field == 2
 }
 
 // Whether symbol s is a Tuple.
@@ -150,10 +151,8 @@ fn is_tuple(forest: &[u8], work: &[u32], s: usize) -> bool
         result ≡ eqb (sym_at (syms_of forest.now work.now n) s).rec.shape 16 }
 {
     let y = key::load(work, s);
-    let node = y.node;
-    let p = key::parts_of(node);
-    let from = p.source as usize;
-    record::shape(forest, from) == TUPLE
+    let p = key::parts_of(y.node);
+    record::shape(forest, p.source as usize) == TUPLE
 }
 
 // Whether the input of the SelectField of record i, pending at `held`, is read a second time. Rules out: a Tuple read
@@ -165,13 +164,10 @@ pub fn reads_again(forest: &[u8], work: &[u32], i: usize, held: usize) -> bool
         result ≡ reads_again forest.now work.now n i held }
 {
     let s = work[regions::PENDING + held] as usize;
-    if of_pair(field_of(forest, i)) {
-        return is_tuple(forest, work, s);
-    }
-    false
+    of_pair(field_of(forest, i)) && is_tuple(forest, work, s)
 }
 
-// Gives the symbol of the SelectField of record i, whose input is not read again, or refusal 12. Rules out: field 1 of a
+// Gives the symbol of the SelectField of record i, whose input is not read again, or a refusal. Rules out: field 1 of a
 // pair made without field 2; the other field.
 pub fn field(
     forest: &[u8],
@@ -195,12 +191,7 @@ pub fn field(
     if of_pair(f) {
         return interner::pair_projection(forest, work, t, st, cur, i as u32, f, held);
     }
-    let none = Branches {
-        count: 0,
-        first: 0,
-        second: 0,
-    };
-    general(forest, work, t, st, i, cur, held, 1, none)
+    general(forest, work, t, st, i, cur, held, 1, Branches::Zero)
 }
 
 // Gives the symbol of the last of `count` pending children. Rules out: that of a block's first definition; a new symbol.

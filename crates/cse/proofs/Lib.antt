@@ -1,8 +1,7 @@
--- Laws that the functions' proofs cite: work words; answers; places; demand 3; symbols that a tree can be
--- built from; a planned tree. Told is for those that call. Assumes nothing.
+-- Laws that the functions' proofs cite: work words; answers; demand 3; symbols that a tree can be built from; a planned
+-- tree. Told is for those that call. Assumes nothing.
 pub mod Words
 pub mod Telling
-pub mod Places
 pub mod Demanding
 pub mod Buildable
 pub mod Planning

@@ -1,11 +1,12 @@
 -- From counting and planning to a planned tree, and to symbols that are held. Assumes nothing.
-use Prim.Native.Nat.{ℕ, ◌+◌, ◌≤◌}
+use Prim.Native.Nat.{ℕ, ◌+◌, ◌≤◌, ◌<◌}
 use mathlib.Core.Path.{◌≡◌, sym, ◌∙◌, subst}
 use mathlib.Core.List.{List}
+use Rattle.std.specs.Prelude.{Result, Ok, Err, Option, None, Some, MatchOption, IfSome}
 use native.Mathlib.Omega.{arith}
 use lib.ListN.{length}
 use Rattle.regions.specs.Regions.{SYMBOLS, SLOTS, USES, WORDS}
-use Rattle.model.specs.Tree.{Tree, rows}
+use Rattle.model.specs.Tree.{Tree, size, depth, rows}
 use Rattle.model.specs.Materialize.{materialize}
 use Rattle.model.specs.Answer.{good}
 use Rattle.model.specs.Forest.{trees_of}
@@ -26,11 +27,12 @@ use Rattle.graph.specs.Graph.{Arena}
 use Rattle.graph.proofs.Laws.{Still, still_above, arena_agree}
 use Rattle.plan.specs.Plan.{plan_from, rows_for}
 use Rattle.planner.specs.declared.Plan.{Plan}
-use Rattle.planner.specs.Grew.{Grown}
+use Rattle.planner.specs.Grew.{Grew, Over, Grown}
+use Rattle.planner.proofs.Growing.{grows_kept}
 use Rattle.materialize.specs.Materialize.{Counted, Materialized}
-use Rattle.cse.specs.declared.Answer.{Answer}
-use Rattle.cse.specs.declared.Answer.TheVariants.{Written, Refused}
-use Rattle.cse.specs.Call.{PlanOf, Planned, Held, Counts, HeldAfter}
+use Rattle.refusal.specs.declared.Refusal.{Refusal}
+use Rattle.cse.specs.declared.Written.{Written}
+use Rattle.cse.specs.Call.{PlanOf, PlanWritable, Planned, Held, Counts, HeldAfter}
 
 -- words ws₁ with the uses counted, and ws₂ with the tree planned too
 module _ (bs ws : List ℕ) (st : State) (rep : Rep bs ws st) (root : ℕ) (ws₁ : List ℕ)
@@ -51,31 +53,39 @@ module _ (bs ws : List ℕ) (st : State) (rep : Rep bs ws st) (root : ℕ) (ws�
   pub uses_counted : Counted bs ws₁ graph root
   uses_counted s l = rw syms_same (reached.uses bs (scopes_of ws₁ st.scopes) s l)
 
-  module _ (ws₂ : List ℕ) (r : Plan) (long : WORDS ≤ length ws₂)
+  module _ (ws₂ : List ℕ) (r : Option Plan) (long : WORDS ≤ length ws₂)
       (grown : Materialized bs ws₁ graph root ws₂ r) where
     tree_same : materialize (syms_of bs ws₁ st.symbols) (scopes_of ws₁ st.scopes) root
         ≡ tree_of (root, abs_of bs ws new_tables st)
     unfolding tree_of
     tree_same = rw (syms_same, scopes_same)
 
-    tree_planned : (t : Tree) → Grown bs ws₁ (record { rows = 0; deepest = 0 }) 0 t ws₂ r → PlanOf bs ws₂ t r
-    unfolding plan_from rows_for
-    tree_planned t g = record {
-      count = omega (arith, g.count, size_rows t);
-      plan = λ l. g.plan l;
-      deepest = λ l. omega (arith, g.deepest l);
-    }
-
     pub planned_tree : Planned bs ws ws₂ (root, abs_of bs ws new_tables st) r
-    unfolding plan_from
+    unfolding plan_from rows_for
     planned_tree = record {
-      tree = tree_planned (tree_of (root, abs_of bs ws new_tables st))
-          (subst (λ (t : Tree). Grown bs ws₁ (record { rows = 0; deepest = 0 }) 0 t ws₂ r) tree_same grown);
-      ready = record { words = long; writable = λ l. grown.writable l tt };
+      tree = (go r g.is).0;
+      ready = (go r g.is).1;
       kept = frame_then SYMBOLS.first WORDS ws ws₁ ws₂
           (frame_wider _ _ _ _ ws ws₁ reached.kept (omega arith) (omega arith))
-          (frame_wider _ _ _ _ ws₁ ws₂ grown.kept (omega arith) (omega arith));
+          (frame_wider _ _ _ _ ws₁ ws₂ (grows_kept grown) (omega arith) (omega arith));
     }
+      where
+        none : Plan
+        none = record { rows = 0; deepest = 0 }
+
+        t : Tree
+        t = tree_of (root, abs_of bs ws new_tables st)
+
+        g : Grown bs ws₁ none 0 t ws₂ r
+        g = subst (λ (x : Tree). Grown bs ws₁ none 0 x ws₂ r) tree_same grown
+
+        go : (r : Option Plan) → MatchOption r (Over ws₁ none (rows t) ws₂) (λ p. Grew bs ws₁ none (rows t) (0 + depth t) ws₂ p)
+            → MatchOption r (256 < size t) (λ p. PlanOf bs ws₂ t p) × IfSome r (λ p. PlanWritable bs ws₂ p)
+        go None h = (omega (arith, h.more, size_rows t), tt)
+        go (Some p) h = (
+          record { count = omega (arith, h.count, size_rows t); plan = h.plan; deepest = omega (arith, h.deepest) },
+          record { words = long; few = h.few; writable = h.writable tt },
+        )
 
     -- planning leaves symbols, scopes and uses as they are
     pub held : accept bs ≡ good (trees_of bs) → interned bs ≡ good (root, abs_of bs ws new_tables st) →
@@ -84,7 +94,7 @@ module _ (bs ws : List ℕ) (st : State) (rep : Rep bs ws st) (root : ℕ) (ws�
         let a : Arena bs ws₁ st.symbols st.scopes =
         arena_agree still bs (λ i l. (rep.arena.sound i l).slots) rep.arena in
         let still₂ : Still ws₁ ws₂ SLOTS.size st.symbols st.scopes =
-        still_above grown.kept (omega arith) (omega arith) a.scoped in
+        still_above (grows_kept grown) (omega arith) (omega arith) a.scoped in
         record {
           made = (root, abs_of bs ws new_tables st);
           accepted = accepted;
@@ -93,9 +103,9 @@ module _ (bs ws : List ℕ) (st : State) (rep : Rep bs ws st) (root : ℕ) (ws�
           arena = arena_agree still₂ bs (λ i l. (a.sound i l).slots) a;
           syms = syms_agree bs ws₁ ws₂ SLOTS.size still₂.slots st.symbols still₂.own a.sound ∙ syms_same;
           uses = λ s l.
-              grown.kept.after (USES.first + s) (omega arith) ∙ reached.uses bs (scopes_of ws st.scopes) s l;
+              (grows_kept grown).after (USES.first + s) (omega arith) ∙ reached.uses bs (scopes_of ws st.scopes) s l;
         }
 
-pub held_by : {bs ws : List ℕ} (n : ℕ) (r : Answer) → Counts n r → Held bs ws n → HeldAfter bs ws r
-held_by {bs} {ws} n (Written len symbols readings) e h = subst (Held bs ws) (sym e) h
-held_by n (Refused m p) e h = tt
+pub held_by : {bs ws : List ℕ} (n : ℕ) (r : Result Written Refusal) → Counts n r → Held bs ws n → HeldAfter bs ws r
+held_by {bs} {ws} n (Ok w) e h = subst (Held bs ws) (sym e) h
+held_by n (Err d) e h = tt

@@ -1,19 +1,19 @@
--- Answers as the definitions have them. In order: a refusal or a success told; the answers for a tree, from its plan;
--- a forest; the call.
+-- Answers as the definitions have them. In order: a refusal or a success told; the answers for a tree; refusals without
+-- a place; a tree from its plan; the call.
 -- Assumes nothing.
-use Prim.Native.Nat.{ℕ, ◌+◌, ◌≤◌, ◌<◌}
+use Prim.Native.Nat.{ℕ, ◌≤◌, ◌<◌}
 use mathlib.Core.Path.{◌≡◌, refl, sym, ap, ◌∙◌}
 use mathlib.Core.Bool.{Bool, true, false, ◌||◌}
-use Rattle.std.specs.Prelude.{Some, None}
-use mathlib.Core.List.{List, ◌++◌, append-nil}
+use mathlib.Core.Logic.{◌⊎◌, ⊎_elim}
+use Rattle.std.specs.Prelude.{Some, None, Ok, Err}
+use mathlib.Core.List.{List, append-nil}
 use native.Mathlib.Omega.{arith}
-use borrow.Author.Tests.{lt-ltb, le-ltb, eq-eqb, ne_eqb}
+use borrow.Author.Tests.{lt-ltb, le-ltb}
 use lib.Dec.{ltb}
-use lib.ListN.{length, drop}
+use lib.ListN.{length}
 use Rattle.model.specs.Answer.{refused, good, ◌>>=◌, unless, checked, at0}
 use Rattle.model.specs.Answer as answer
 use Rattle.model.specs.Tree.{many, size, depth, rows, rows_of, forest_of, serialise}
-use Rattle.model.specs.Forest.{trees_of}
 use Rattle.model.specs.Accept.{accept}
 use Rattle.model.specs.Intern.{State}
 use Rattle.model.specs.Call.{Call, check1, lent_checks, interned, tree_of, bytes_of, check13, check14, tree_checks}
@@ -21,35 +21,31 @@ use Rattle.model.specs.Call.{written_of, measured, written, run, numbers_of, out
 use Rattle.model.specs.Call as call
 use Rattle.regions.specs.Regions.{PLAN, WORDS}
 use Rattle.output.specs.Output.{over}
+use Rattle.output.proofs.Over.{over_front}
 use Rattle.serialise.specs.Serialise.{planned_bytes}
 use Rattle.planner.specs.declared.Plan.{Plan}
 use Rattle.interner.specs.declared.Step.{Step}
 use Rattle.tables.specs.Tables.{new_tables}
 use Rattle.interner.specs.State.{abs_of}
 use Rattle.interner.specs.Step.{out_of}
-use Rattle.codec.specs.declared.Verdict.{Verdict}
-use Rattle.codec.specs.declared.Verdict.TheVariants.{Accepted, Refused}
-use Rattle.codec.specs.Codec.{answer_of}
-use Rattle.cse.specs.declared.Answer.TheVariants as variants
+use Rattle.interner.proofs.Sharing.{out_good, out_refused}
+use Rattle.refusal.specs.declared.Check.TheVariants.{Words, Room, Nesting}
+use Rattle.refusal.specs.declared.Refusal.{Refusal}
+use Rattle.refusal.specs.Refusal.{number_of}
+use Rattle.cse.specs.declared.Written.{Written}
 use Rattle.cse.specs.Call.{Tells, PlanOf}
 
 -- ---- told
 
 module _ (a : answer.Answer call.Written) (out : List ℕ) where
-  pub tells_refused : (n p : ℕ) → a ≡ refused n p → Tells a out (variants.Refused n p) out
+  pub tells_refused : (e : Refusal) → a ≡ refused (number_of e.check) e.place → Tells a out (Err e) out
   unfolding numbers_of out_with
-  tells_refused n p e = rw e (record { numbers = refl; output = refl })
+  tells_refused e is = rw is (record { numbers = refl; output = refl })
 
-  over-start : (bytes : List ℕ) → over out 0 bytes ≡ bytes ++ drop (length bytes) out
-  unfolding over
-  over-start bytes = let e : 0 + length bytes ≡ length bytes = omega arith in rw e
-
-  tells_written : (w : call.Written) (len symbols readings : ℕ) (out' : List ℕ) → a ≡ good w →
-      len ≡ length w.bytes → w.symbols ≡ symbols → w.readings ≡ readings → out' ≡ over out 0 w.bytes →
-      Tells a out (variants.Written len symbols readings) out'
+  tells_written : (w : call.Written) (r : Written) (out' : List ℕ) → a ≡ good w → r.length ≡ length w.bytes →
+      w.symbols ≡ r.symbols → w.readings ≡ r.readings → out' ≡ over out 0 w.bytes → Tells a out (Ok r) out'
   unfolding numbers_of out_with
-  tells_written w len symbols readings out' e l s r o =
-      rw e (record { numbers = rw (l, s, r); output = o ∙ over-start w.bytes })
+  tells_written w r out' e l y d o = rw e (record { numbers = rw (l, y, d); output = o ∙ over_front out w.bytes })
 
 -- ---- a tree
 
@@ -91,7 +87,8 @@ module _ (room : ℕ) (o : ℕ × State) where
   unfolding check13
   measured-over h = at_13 (any_third large long past (lt-ltb room (length (bytes_of o)) h))
 
-  module _ (few : size (tree_of o) ≤ 256) (short : length (bytes_of o) ≤ 65535) (fits : length (bytes_of o) ≤ room) where
+  module _ (few : size (tree_of o) ≤ 256) (short : length (bytes_of o) ≤ 65535)
+      (fits : length (bytes_of o) ≤ room) where
     past_13 : check13 room o ≡ None
     unfolding check13
     past_13 = rw (
@@ -108,71 +105,72 @@ module _ (room : ℕ) (o : ℕ × State) where
     unfolding measured tree_checks checked unless check14
     measured_good h = rw (past_13, le-ltb 64 (depth (tree_of o)) h)
 
--- from its plan p, with `size` bytes, over the output `out`
-module _ (bs ws : List ℕ) (o : ℕ × State) (p : Plan) (h : PlanOf bs ws (tree_of o) p) (out : List ℕ) where
-  pub tells_many : 256 < p.rows → Tells (measured (length out) o) out (variants.Refused 13 0) out
-  tells_many l = tells_refused _ out 13 0 (measured-many (length out) o (omega (arith, h.count)))
+-- ---- the refusals that have no place of their own
 
+abbrev pub no_words : Refusal
+no_words = record { check = Words; place = 0 }
+
+abbrev pub no_room : Refusal
+no_room = record { check = Room; place = 0 }
+
+abbrev too_deep : Refusal
+too_deep = record { check = Nesting; place = 0 }
+
+-- ---- a tree from its plan p, with `size` bytes, over the output `out`
+
+-- too many rows
+pub tells_many : (o : ℕ × State) (out : List ℕ) → 256 < size (tree_of o) → Tells (measured (length out) o) out (Err no_room) out
+tells_many o out l = tells_refused _ out no_room (measured-many (length out) o l)
+
+module _ (bs ws : List ℕ) (o : ℕ × State) (p : Plan) (h : PlanOf bs ws (tree_of o) p) (out : List ℕ) where
   module _ (size : ℕ) (few : p.rows ≤ 256) (long : size ≡ length (planned_bytes bs ws PLAN.first p.rows)) where
     bytes_are : bytes_of o ≡ planned_bytes bs ws PLAN.first p.rows
     unfolding bytes_of serialise many rows_of
-    bytes_are = ap (forest_of 1) (append-nil (rows (tree_of o)) ∙ sym (h.plan few))
+    bytes_are = ap (forest_of 1) (append-nil (rows (tree_of o)) ∙ sym h.plan)
 
     length_is : length (bytes_of o) ≡ size
     length_is = ap length bytes_are ∙ sym long
 
-    pub tells_long : 65535 < size → Tells (measured (length out) o) out (variants.Refused 13 0) out
-    tells_long l = tells_refused _ out 13 0 (measured_long (length out) o (omega (arith, length_is)))
-
-    pub tells_over : length out < size → Tells (measured (length out) o) out (variants.Refused 13 0) out
-    tells_over l = tells_refused _ out 13 0 (measured-over (length out) o (omega (arith, length_is)))
+    -- too many bytes, or more than the output has
+    pub tells_long : (65535 < size) ⊎ ((size ≤ 65535) × (length out < size)) →
+        Tells (measured (length out) o) out (Err no_room) out
+    tells_long =
+        ⊎_elim
+        (λ l. tells_refused _ out no_room (measured_long (length out) o (omega (arith, length_is))))
+        (λ l. tells_refused _ out no_room (measured-over (length out) o (omega (arith, length_is))))
 
     module _ (short : size ≤ 65535) (fits : size ≤ length out) where
-      pub tells_deep : 64 < p.deepest → Tells (measured (length out) o) out (variants.Refused 14 0) out
+      pub tells_deep : 64 < p.deepest → Tells (measured (length out) o) out (Err too_deep) out
       tells_deep l =
-          tells_refused _ out 14 0
+          tells_refused _ out too_deep
           (measured-deep (length out) o (omega (arith, h.count)) (omega (arith, length_is)) (omega (arith, length_is))
-          (omega (arith, h.deepest few)))
+          (omega (arith, h.deepest)))
 
-      pub tells_good : (symbols readings : ℕ) (out' : List ℕ) → p.deepest ≤ 64 → length o.1.syms ≡ symbols →
-          o.1.readings ≡ readings → out' ≡ over out 0 (planned_bytes bs ws PLAN.first p.rows) →
-          Tells (measured (length out) o) out (variants.Written size symbols readings) out'
+      pub tells_good : (r : Written) (out' : List ℕ) → r.length ≡ size → p.deepest ≤ 64 → length o.1.syms ≡ r.symbols →
+          o.1.readings ≡ r.readings → out' ≡ over out 0 (planned_bytes bs ws PLAN.first p.rows) →
+          Tells (measured (length out) o) out (Ok r) out'
       unfolding written_of
-      tells_good symbols readings out' l s r e =
-          tells_written _ out (written_of o) size symbols readings out'
+      tells_good r out' z l y d e =
+          tells_written _ out (written_of o) r out'
           (measured_good (length out) o (omega (arith, h.count)) (omega (arith, length_is)) (omega (arith, length_is))
-          (omega (arith, h.deepest few)))
-          (sym length_is) s r (e ∙ ap (over out 0) (sym bytes_are))
-
--- ---- a forest
-
-module _ (bs : List ℕ) where
-  -- the checks' answer
-  pub verdict_refused : (r : Verdict) (n p : ℕ) → answer_of r (trees_of bs) ≡ accept bs → r ≡ Refused n p →
-      accept bs ≡ refused n p
-  verdict_refused r n p e is = sym e ∙ ap (λ (v : Verdict). answer_of v (trees_of bs)) is
-
-  pub verdict_accepted : (r : Verdict) → answer_of r (trees_of bs) ≡ accept bs → r ≡ Accepted →
-      accept bs ≡ good (trees_of bs)
-  verdict_accepted r e is = sym e ∙ ap (λ (v : Verdict). answer_of v (trees_of bs)) is
-
-  -- interning's answer
-  pub intern_good : (ws : List ℕ) (r : Step) → out_of bs ws new_tables r ≡ interned bs → r.number ≡ 0 →
-      interned bs ≡ good (r.symbol, abs_of bs ws new_tables r.st)
-  unfolding out_of
-  intern_good ws r is h = sym is ∙ rw (out_of, eq-eqb r.number 0 h)
+          (omega (arith, h.deepest)))
+          (z ∙ sym length_is) y d (e ∙ ap (over out 0) (sym bytes_are))
 
 -- ---- the call
 
 module _ (c : Call) where
-  pub check_refused : (n p : ℕ) → accept c.forest ≡ refused n p → written c ≡ refused n p
+  pub check_tells : (out : List ℕ) (e : Refusal) → refused (number_of e.check) e.place ≡ accept c.forest →
+      Tells (written c) out (Err e) out
   unfolding written interned ◌>>=◌
-  check_refused n p e = rw e
+  check_tells out e is = tells_refused _ out e (rw (sym is))
 
-  pub intern_refused : (ws : List ℕ) (r : Step) → out_of c.forest ws new_tables r ≡ interned c.forest →
-      (r.number ≡ 0 → ⊥) → written c ≡ refused r.number r.place
-  unfolding written ◌>>=◌ out_of
-  intern_refused ws r is h = rw (← is, out_of, ne_eqb r.number 0 h)
+  module _ (ws : List ℕ) (r : Step) (is : out_of c.forest ws new_tables r ≡ interned c.forest) where
+    pub intern_good : (s : ℕ) → r.symbol ≡ Ok s → interned c.forest ≡ good (s, abs_of c.forest ws new_tables r.st)
+    intern_good s e = sym is ∙ out_good c.forest ws new_tables r e
+
+    pub intern_tells : (out : List ℕ) (e : Refusal) → r.symbol ≡ Err e → Tells (written c) out (Err e) out
+    unfolding written ◌>>=◌
+    intern_tells out e f = tells_refused _ out e (rw (sym is ∙ out_refused c.forest ws new_tables r f))
 
   pub written-measured : (o : ℕ × State) → interned c.forest ≡ good o → written c ≡ measured c.room o
   unfolding written ◌>>=◌

@@ -4,6 +4,7 @@ use Prim.Native.Nat.{ℕ, ◌≤◌}
 use mathlib.Core.Path.{◌≡◌, refl, sym, ap, ◌∙◌, subst}
 use mathlib.Core.Logic.{inl}
 use mathlib.Core.List.{List}
+use Rattle.std.specs.Prelude.{Result, Ok, Err}
 use native.Mathlib.Omega.{arith}
 use lib.ListN.{length, replicate, length-replicate}
 use Rattle.model.specs.Lists.{is_in}
@@ -22,11 +23,13 @@ use Rattle.theory.proofs.Demand3.{demand_3}
 use Rattle.theory.proofs.Demand3.Counted.{interned_exactly}
 use Rattle.theory.proofs.Demand3.Order.{call_passes, accepted_exactly}
 use Rattle.theory.proofs.Demand3.Exactly.{zero_passes}
-use Rattle.cse.specs.declared.Answer.{Answer}
-use Rattle.cse.specs.declared.Answer.TheVariants.{Written, Refused}
+use Rattle.refusal.specs.declared.Refusal.{Refusal}
+use Rattle.refusal.specs.Refusal.{number_of}
+use Rattle.cse.specs.declared.Written.{Written}
 use Rattle.cse.specs.Call.{five, numbers_in}
 
--- after number 0 the forest is accepted and its symbols are made; the written bytes fit, and read again they are the tree
+-- after number 0 the forest is accepted and its symbols are made; the written bytes fit, and read again they are the
+-- tree
 pub record Made (c : Call) : Type 0 where
   pub out : ℕ × State
   pub accepts : accept c.forest ≡ good (trees_of c.forest)
@@ -35,7 +38,7 @@ pub record Made (c : Call) : Type 0 where
   pub fits : length (bytes_of out) ≤ c.room
   pub rereads : accept (bytes_of out) ≡ good (cons (tree_of out) nil)
 
-module _ (c : Call) (r : Answer) (is : numbers_in r ≡ numbers c) where
+module _ (c : Call) (r : Result Written Refusal) (is : numbers_in r ≡ numbers c) where
   -- ---- a refusal
 
   -- its numbers are not those of a tree, whose bytes are accepted and so not none
@@ -46,18 +49,19 @@ module _ (c : Call) (r : Answer) (is : numbers_in r ≡ numbers c) where
       w.accepted (ample (bytes_of w.interned)) refl 2 0 refl
       (at_2 (inl (omega (arith, ap (λ (z : Numbers). z.len) w.answers, none))))
 
-  pub told_refused : (out : List ℕ) → length out ≡ c.room → (n p : ℕ) → r ≡ Refused n p → run c ≡ refused n p
+  pub told_refused : (out : List ℕ) → length out ≡ c.room → (d : Refusal) → r ≡ Err d →
+      run c ≡ refused (number_of d.check) d.place
   unfolding numbers numbers_of
-  told_refused out l n p e = go (run c) refl
+  told_refused out l d e = go (run c) refl
     where
-      told : five n p 0 0 0 ≡ numbers_of (run c)
+      told : five (number_of d.check) d.place 0 0 0 ≡ numbers_of (run c)
       told = ap numbers_in (sym e) ∙ is
 
-      go : (a : answer.Answer call.Written) → run c ≡ a → run c ≡ refused n p
+      go : (a : answer.Answer call.Written) → run c ≡ a → run c ≡ refused (number_of d.check) d.place
       go (refused m q) f =
           let same = told ∙ ap numbers_of f in
-          let x : n ≡ m = ap (λ (z : Numbers). z.number) same in
-          let y : p ≡ q = ap (λ (z : Numbers). z.place) same in
+          let x : number_of d.check ≡ m = ap (λ (z : Numbers). z.number) same in
+          let y : d.place ≡ q = ap (λ (z : Numbers). z.place) same in
           rw (f, x, y)
       go (good w) f =
           absurd (not_written out l (ap (λ (a : answer.Answer call.Written). (numbers_of a).number) f)
@@ -65,9 +69,9 @@ module _ (c : Call) (r : Answer) (is : numbers_in r ≡ numbers c) where
 
   -- ---- a tree
 
-  pub told_written : (len symbols readings : ℕ) → r ≡ Written len symbols readings → Made c
+  pub told_written : (w : Written) → r ≡ Ok w → Made c
   unfolding interned ◌>>=◌ accept
-  told_written len symbols readings e =
+  told_written y e =
       let zero : (numbers c).number ≡ 0 = sym (ap (λ (z : Numbers). z.number) (ap numbers_in (sym e) ∙ is)) in
       let w = call_passes c (zero_passes c zero) in
       let accepts : accept c.forest ≡ good (trees_of c.forest) = passes_checked _ (trees_of c.forest) w.0 in

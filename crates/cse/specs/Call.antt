@@ -1,7 +1,7 @@
 -- What the main call answers, as model has it. In order: the five numbers; an answer and the output after it; the words
 -- after it; a tree that is planned; what is left in the words for a caller that does not clear them.
 -- Assumes nothing.
-use Rattle.std.specs.Prelude.{ℕ, ◌≤◌, ◌<◌, min, ◌≡◌, List, ◌++◌, length, drop, replicate}
+use Rattle.std.specs.Prelude.{ℕ, ◌≤◌, ◌<◌, ◌≡◌, Option, MatchOption, IfSome, List, ◌++◌, length, drop, replicate, Result, Ok, Err}
 use Rattle.model.specs.Answer.{good}
 use Rattle.model.specs.Answer as answer
 use Rattle.model.specs.Tree.{Tree, size, depth, rows}
@@ -18,8 +18,9 @@ use Rattle.gate.specs.Gate.{uses_at}
 use Rattle.graph.specs.Graph.{Arena}
 use Rattle.plan.specs.Plan.{plan_from, AllWritable, planned_rows}
 use Rattle.planner.specs.declared.Plan.{Plan}
-use Rattle.cse.specs.declared.Answer.{Answer}
-use Rattle.cse.specs.declared.Answer.TheVariants.{Written, Refused}
+use Rattle.refusal.specs.declared.Refusal.{Refusal}
+use Rattle.refusal.specs.Refusal.{number_of}
+use Rattle.cse.specs.declared.Written.{Written}
 
 -- ---- the five numbers
 
@@ -28,16 +29,17 @@ five number place len symbols readings =
     record { number = number; place = place; len = len; symbols = symbols; readings = readings }
 
 -- "A refusal gives zero for the last three"
-abbrev pub numbers_in : Answer → Numbers
-numbers_in (Written len symbols readings) = five 0 0 len symbols readings
-numbers_in (Refused n p) = five n p 0 0 0
+abbrev pub numbers_in : Result Written Refusal → Numbers
+numbers_in (Ok w) = five 0 0 w.length w.symbols w.readings
+numbers_in (Err r) = five (number_of r.check) r.place 0 0 0
 
 -- ---- an answer
 
 -- r tells answer a, and the output is as it says
-pub record Tells (a : answer.Answer call.Written) (out : List ℕ) (r : Answer) (out' : List ℕ) : Type 0 where
-  pub numbers : numbers_in r ≡ numbers_of a
-  pub output : out' ≡ out_with a out
+pub record Tells (a : answer.Answer call.Written) (out : List ℕ) (r : Result Written Refusal) (out' : List ℕ) : Type 0
+  where
+    pub numbers : numbers_in r ≡ numbers_of a
+    pub output : out' ≡ out_with a out
 
 -- ---- words
 
@@ -51,21 +53,22 @@ LentOnly ws ws' = Frame SYMBOLS.first WORDS ws ws'
 
 -- ---- a planned tree
 
--- tree t is planned in the words from PLAN on, as p says. Past 256 rows it is only known that there are more
+-- tree t is planned in the words from PLAN on, as p says
 pub record PlanOf (bs ws : List ℕ) (t : Tree) (p : Plan) : Type 0 where
-  pub count : p.rows ≡ min 257 (size t)
-  pub plan : p.rows ≤ 256 → planned_rows bs ws PLAN.first p.rows ≡ rows t
-  pub deepest : p.rows ≤ 256 → p.deepest ≡ depth t
+  pub count : p.rows ≡ size t
+  pub plan : planned_rows bs ws PLAN.first p.rows ≡ rows t
+  pub deepest : p.deepest ≡ depth t
 
 -- its rows can be written
 pub record PlanWritable (bs ws : List ℕ) (p : Plan) : Type 0 where
   pub words : WORDS ≤ length ws
-  pub writable : p.rows ≤ 256 → AllWritable bs (plan_from ws PLAN.first p.rows)
+  pub few : p.rows ≤ 256
+  pub writable : AllWritable bs (plan_from ws PLAN.first p.rows)
 
--- the tree that document 01 defines for o is planned, and can be written
-pub record Planned (bs ws ws' : List ℕ) (o : ℕ × State) (p : Plan) : Type 0 where
-  pub tree : PlanOf bs ws' (tree_of o) p
-  pub ready : PlanWritable bs ws' p
+-- the tree that document 01 defines for o is planned, and can be written, or it has more than 256 records
+pub record Planned (bs ws ws' : List ℕ) (o : ℕ × State) (r : Option Plan) : Type 0 where
+  pub tree : MatchOption r (256 < size (tree_of o)) (λ p. PlanOf bs ws' (tree_of o) p)
+  pub ready : IfSome r (λ p. PlanWritable bs ws' p)
   pub kept : LentOnly ws ws'
 
 -- ---- what is left in the words
@@ -81,11 +84,11 @@ pub record Held (bs ws : List ℕ) (n : ℕ) : Type 0 where
   pub uses : (s : ℕ) → s < n → uses_at ws s ≡ usage (reached_of made) s
 
 -- n is the answer's count of symbols, where a tree was written
-abbrev pub Counts : ℕ → Answer → Type 0
-Counts n (Written len symbols readings) = symbols ≡ n
-Counts n (Refused m p) = Unit {0}
+abbrev pub Counts : ℕ → Result Written Refusal → Type 0
+Counts n (Ok w) = w.symbols ≡ n
+Counts n (Err r) = Unit {0}
 
 -- the answer's symbols are held, where a tree was written
-abbrev pub HeldAfter : List ℕ → List ℕ → Answer → Type 0
-HeldAfter bs ws (Written len symbols readings) = Held bs ws symbols
-HeldAfter bs ws (Refused m p) = Unit {0}
+abbrev pub HeldAfter : List ℕ → List ℕ → Result Written Refusal → Type 0
+HeldAfter bs ws (Ok w) = Held bs ws w.symbols
+HeldAfter bs ws (Err r) = Unit {0}

@@ -1,6 +1,6 @@
 // The main call (mod.rs): checks, interning, planning and writing, in their order; and the work memory cleared.
-// In order: the words cleared; a planned tree written; a tree planned; an accepted forest; any forest, which is the stage
-// that the call and the lister have in common; the call; the call as other programs make it.
+// In order: the words cleared; a planned tree written; a tree planned; an accepted forest; any forest, which is the
+// stage that the call and the lister have in common; the call; the call as other programs make it.
 #![tactic(auto)]
 
 ghost use Rattle.std.specs.Prelude.{◌≡◌, ℕ, ◌≤◌, length};
@@ -17,29 +17,31 @@ ghost use Rattle.interner.specs.State.{abs_of, Rep};
 ghost use Rattle.cse.specs.Call.{five, numbers_in, Tells, cleared, LentOnly, PlanOf, PlanWritable, Planned};
 ghost use Rattle.cse.specs.Call.{Held, Counts, HeldAfter};
 
-use codec::Verdict;
 use graph::Graph;
 use interner::State;
 use planner::Plan;
+use refusal::{Check, Refusal};
 
-// What the call gives: how many bytes were written, how many symbols and readings there were; or the number and the
-// place of a refusal.
+// What the call gives for a tree that it wrote: how many bytes, and how many symbols and readings there were.
 #[derive(Clone, Copy)]
-pub enum Answer {
-    Written(u32, u32, u32),
-    Refused(u32, u32),
+pub struct Written {
+    pub length: u32,
+    pub symbols: u32,
+    pub readings: u32,
 }
+
+// The written tree has more than 256 records, more than 65,535 bytes, or more than the output has room for.
+const NO_ROOM: Refusal = Refusal {
+    check: Check::Room,
+    place: 0,
+};
 
 // The first 16,384 words set to 0. Rules out: the last of them left; a later word touched.
 fn clear(work: &mut [u32])
     requires { WORDS ≤ length work.old }
     ensures { work.new ≡ cleared WORDS work.old }
 {
-    let mut k = 0;
-    while k < regions::WORDS {
-        work[k] = 0;
-        k += 1;
-    }
+    work[..regions::WORDS].fill(0);
 }
 
 // The planned tree's bytes over the output's start, once it is known that they fit: 13 and 14 come before any byte.
@@ -48,38 +50,37 @@ fn write(
     forest: &[u8],
     work: &[u32],
     p: Plan,
+    st: State,
     out: &mut [u8],
-    symbols: u32,
-    readings: u32,
-) -> Answer
+) -> Result<Written, Refusal>
     requires laid { Laid forest.now }
     requires plan_writable { PlanWritable forest.now work.now p }
     ensures by_index { (o : ℕ × intern.State) → PlanOf forest.now work.now (tree_of o) p
-        → length o.1.syms ≡ symbols → o.1.readings ≡ readings
+        → length o.1.syms ≡ st.symbols → o.1.readings ≡ st.readings
         → Tells (measured (length out.old) o) out.old result out.new }
-    ensures counts { Counts symbols result }
+    ensures counts { Counts st.symbols result }
 {
-    let rows = p.rows;
-    if 256 < rows {
-        return Answer::Refused(13, 0);
-    }
-    let size = serialise::tree_length(forest, work, regions::PLAN, rows);
-    if 65535 < size {
-        return Answer::Refused(13, 0);
-    }
-    if out.len() < size {
-        return Answer::Refused(13, 0);
+    let size = serialise::tree_length(forest, work, regions::PLAN, p.rows);
+    if 65535 < size || out.len() < size {
+        return Err(NO_ROOM);
     }
     if 64 < p.deepest {
-        return Answer::Refused(14, 0);
+        return Err(Refusal {
+            check: Check::Nesting,
+            place: 0,
+        });
     }
-    serialise::write_tree(forest, work, regions::PLAN, rows, out);
-    Answer::Written(size as u32, symbols, readings)
+    serialise::write_tree(forest, work, regions::PLAN, p.rows, out);
+    Ok(Written {
+        length: size as u32,
+        symbols: st.symbols,
+        readings: st.readings,
+    })
 }
 
 // The tree of the root's symbol planned, its uses counted first.
 // Rules out: a plan by the uses of symbols that the root does not reach; the tree of another symbol.
-fn planned(forest: &[u8], work: &mut [u32], st: State, root: usize) -> Plan
+fn planned(forest: &[u8], work: &mut [u32], st: State, root: usize) -> Option<Plan>
     requires forest_value { accept forest.now ≡ good (trees_of forest.now) }
     requires rep { Rep forest.now work.old st }
     requires forest_value_2 { interned forest.now ≡ good (root, abs_of forest.now work.old new_tables st) }
@@ -98,7 +99,7 @@ fn planned(forest: &[u8], work: &mut [u32], st: State, root: usize) -> Plan
 
 // An accepted forest: its symbols are made, then its tree is planned, then it is written.
 // Rules out: 13 where interning meets 11; symbols or readings of the written tree instead of the forest's.
-fn accepted(forest: &[u8], out: &mut [u8], work: &mut [u32]) -> Answer
+fn accepted(forest: &[u8], out: &mut [u8], work: &mut [u32]) -> Result<Written, Refusal>
     requires forest_value { accept forest.now ≡ good (trees_of forest.now) }
     requires in_bounds { WORDS ≤ length work.old }
     ensures tells { Tells (written (call_of forest.now out.old work.old))
@@ -107,39 +108,37 @@ fn accepted(forest: &[u8], out: &mut [u8], work: &mut [u32]) -> Answer
     ensures held_after { HeldAfter forest.now work.new result }
 {
     let step = intern::forest(forest, work);
-    if step.number != 0 {
-        return Answer::Refused(step.number, step.place);
-    }
+    let root = step.symbol?;
     let st = step.st;
-    let p = planned(forest, work, st, step.symbol as usize);
-    write(forest, work, p, out, st.symbols, st.readings)
+    match planned(forest, work, st, root as usize) {
+        Some(p) => write(forest, work, p, st, out),
+        None => Err(NO_ROOM),
+    }
 }
 
 // Any forest, once the work words suffice: the call, but that it leaves the words as they are, so that after a tree is
 // written its symbols, scopes and uses can still be read in them.
 // Rules out: a forest interned that a check refuses; another place; symbols of another forest left in the words.
-pub fn pass(forest: &[u8], out: &mut [u8], work: &mut [u32]) -> Answer
+pub fn pass(forest: &[u8], out: &mut [u8], work: &mut [u32]) -> Result<Written, Refusal>
     requires { WORDS ≤ length work.old }
     ensures tells { Tells (written (call_of forest.now out.old work.old))
         out.old result out.new }
     ensures lent_only { LentOnly work.old work.new }
     ensures held_after { HeldAfter forest.now work.new result }
 {
-    match codec::check(forest, work) {
-        Verdict::Refused(n, p) => Answer::Refused(n, p as u32),
-        Verdict::Accepted => accepted(forest, out, work),
-    }
+    codec::check(forest, work)?;
+    accepted(forest, out, work)
 }
 
 // The main call. On success the output begins with the bytes of the tree that the definitions give for the forest; on
 // any refusal it is as it was. It has demand 3: it gives 0 exactly when no refusal applies, and then the written tree
 // is accepted and unfolds to what the forest's root unfolds to. Where operations may fail, the tree read back from the
 // written bytes has the root's value, if the root has one and the forest is one tree with no lambda and no SelectField:
-// `CallKeepsValue` (model, Failing) says so of `numbers` and `out_after`, and theory proves it of values of any type, of
-// which a promise can't speak.
+// `CallKeepsValue` (model, Failing) says so of `numbers` and `out_after`, and theory proves it of values of any type,
+// of which a promise can't speak.
 // Rules out: a refusal where none applies; the root's own bytes; a byte past the written length touched; work words
 // that keep what a refused call left there.
-pub fn cse(forest: &[u8], out: &mut [u8], work: &mut [u32]) -> Answer
+pub fn cse(forest: &[u8], out: &mut [u8], work: &mut [u32]) -> Result<Written, Refusal>
     ensures result_value { numbers_in result
         ≡ numbers (call_of forest.now out.old work.old) }
     ensures out_after { out.new
@@ -150,14 +149,18 @@ pub fn cse(forest: &[u8], out: &mut [u8], work: &mut [u32]) -> Answer
         (numbers_in result) out.new }
 {
     if work.len() < regions::WORDS {
-        return Answer::Refused(1, 0);
+        return Err(Refusal {
+            check: Check::Words,
+            place: 0,
+        });
     }
     let r = pass(forest, out, work);
     clear(work);
     r
 }
 
-// The call as C programs make it (crate cse_c exports it): the answer's numbers are stored one by one. It adds nothing to `cse`.
+// The call as C programs make it (crate cse_c exports it): the answer's numbers are stored one by one. It adds nothing
+// to `cse`.
 // Rules out: a number left as it was; symbols and readings swapped.
 pub fn cse_call(
     forest: &[u8],
@@ -181,16 +184,16 @@ pub fn cse_call(
         readings.new) out.new }
 {
     match cse(forest, out, work) {
-        Answer::Written(bytes, made, read) => {
+        Ok(w) => {
             *number = 0;
             *place = 0;
-            *len = bytes;
-            *symbols = made;
-            *readings = read;
+            *len = w.length;
+            *symbols = w.symbols;
+            *readings = w.readings;
         }
-        Answer::Refused(n, p) => {
-            *number = n;
-            *place = p;
+        Err(r) => {
+            *number = r.check.number();
+            *place = r.place;
             *len = 0;
             *symbols = 0;
             *readings = 0;

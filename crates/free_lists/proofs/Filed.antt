@@ -1,15 +1,12 @@
--- Lists that are stored, as their readers find them. In order: entries; where a list is found; what is stored; what is
--- filed.
+-- Lists that are stored, as their readers find them. In order: entries; what is stored; what is filed.
 -- Assumes nothing.
-use Prim.Native.Nat.{ℕ, zero, suc, ◌+◌, ◌-◌, ◌<◌, ◌≤◌}
+use Prim.Native.Nat.{ℕ, zero, suc, ◌<◌, ◌≤◌}
 use mathlib.Core.Path.{◌≡◌, sym, subst}
 use mathlib.Core.List.{List}
 use mathlib.Core.Logic.{⊎_elim}
 use native.Mathlib.Omega.{arith}
 use native.Mathlib.Decide.{dec_lt}
 use native.Mathlib.Nat.{eq-or-lt_of_le}
-use native.Mathlib.Numerals.{add-one}
-use borrow.Author.Tests.{lt-ltb, le-ltb}
 use Rattle.model.specs.Gate.{Graph, sym_of}
 use Rattle.model.specs.Schedule.{free_vars}
 use Rattle.laws.specs.Members.{Under}
@@ -17,8 +14,7 @@ use Rattle.laws.specs.Gather.{gather_step}
 use Rattle.laws.proofs.Falls.{free_falls}
 use Rattle.laws.proofs.Gather.{stored_gathers}
 use Rattle.regions.specs.Regions.{FREE_LISTS}
-use Rattle.free_lists.specs.FreeLists.{entries_to, end_at, list_at, Lists, run_of, Filed}
-use Rattle.free_lists.specs.declared.Run.TheVariants.{Words, Unstored}
+use Rattle.free_lists.specs.FreeLists.{entries_to, end_at, list_at, Lists, Filed}
 
 -- ---- entries
 
@@ -32,25 +28,11 @@ entries_rise g s (suc t) le =
     ⊎_elim (λ e. rw e (omega arith))
     (λ l. omega (arith, entries_rise g s t (omega arith), entries_next g t)) (eq-or-lt_of_le le)
 
--- ---- where a list is found
-
-module _ (ws : List ℕ) (s first last : ℕ) (e : first ≡ end_at ws s) (f : last ≡ end_at ws (s + 1)) where
-  here : last ≡ end_at ws (suc s)
-  here = rw (add-one s) at f
-
-  pub run_words : last ≤ (FREE_LISTS).size → Words ((FREE_LISTS).first + first) (last - first) ≡ run_of ws s
-  unfolding run_of
-  run_words le = rw (e, here, le-ltb (FREE_LISTS).size (end_at ws (suc s)) (rw here at le), run_of)
-
-  pub run_unstored : (FREE_LISTS).size < last → Unstored ≡ run_of ws s
-  unfolding run_of
-  run_unstored lt = rw (lt-ltb (FREE_LISTS).size (end_at ws (suc s)) (rw here at lt), run_of)
-
 -- ---- what is stored
 
 module _ {g : Graph} {ws : List ℕ} {n : ℕ} (h : Lists g ws n) where
   -- an end that is not past the last entry
-  pub stored_few : (s : ℕ) → s ≤ n → end_at ws s ≤ (FREE_LISTS).size → entries_to g s ≤ (FREE_LISTS).size
+  stored_few : (s : ℕ) → s ≤ n → end_at ws s ≤ (FREE_LISTS).size → entries_to g s ≤ (FREE_LISTS).size
   stored_few s le few = elim (dec_lt (FREE_LISTS).size (entries_to g s)) [
     | yes p ↦ absurd (omega (arith, h.past s le p))
     | no p ↦ omega arith
@@ -63,12 +45,6 @@ module _ {g : Graph} {ws : List ℕ} {n : ℕ} (h : Lists g ws n) where
     | no p ↦ absurd (omega (arith, h.ends s le (omega arith)))
   ]
 
-  pub stored_small : (s : ℕ) → s ≤ n → end_at ws s ≤ suc (FREE_LISTS).size
-  stored_small s le = elim (dec_lt (FREE_LISTS).size (entries_to g s)) [
-    | yes p ↦ omega (arith, h.past s le p)
-    | no p ↦ omega (arith, h.ends s le (omega arith))
-  ]
-
   pub stored_rising : (s : ℕ) → s < n → end_at ws (suc s) ≤ (FREE_LISTS).size → end_at ws s ≤ end_at ws (suc s)
   stored_rising s lt few =
       let f = stored_few (suc s) (omega arith) few in
@@ -79,7 +55,7 @@ module _ {g : Graph} {ws : List ℕ} {n : ℕ} (h : Lists g ws n) where
   stored_is s lt few = h.lists s lt (stored_few (suc s) (omega arith) few)
 
   -- where the last end is not past the last entry, none is
-  pub stored_all : end_at ws n ≤ (FREE_LISTS).size → (s : ℕ) → s ≤ n → end_at ws s ≤ (FREE_LISTS).size
+  stored_all : end_at ws n ≤ (FREE_LISTS).size → (s : ℕ) → s ≤ n → end_at ws s ≤ (FREE_LISTS).size
   stored_all few s le =
       let f = stored_few n (omega arith) few in
       let r = entries_rise g s n le in

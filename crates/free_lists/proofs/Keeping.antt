@@ -1,5 +1,5 @@
--- The free list of the newest symbol. In order: worked out; none of a symbol in the outermost scope; none of one without
--- children; the end that is stored.
+-- The free list of the newest symbol. In order: worked out; none of a symbol in the outermost scope; none of one
+-- without children; the end that is stored.
 -- Assumes nothing.
 use Prim.Native.Nat.{ℕ, suc, ◌+◌, ◌<◌, ◌≤◌}
 use mathlib.Core.Path.{◌≡◌, sym, ap, ◌∙◌}
@@ -7,7 +7,7 @@ use mathlib.Core.Bool.{true, false}
 use mathlib.Core.List.{List, []}
 use native.Mathlib.Omega.{arith}
 use native.Mathlib.Decide.{dec_lt}
-use lib.ListN.{take, set}
+use lib.ListN.{set}
 use Rattle.model.specs.Lists.{is_in}
 use Rattle.model.specs.Intern.{scope_at}
 use Rattle.model.specs.Gate.{Graph, sym_of}
@@ -39,11 +39,9 @@ module _ (bs ws : List ℕ) (c m : ℕ) (arena : Arena bs ws (c + 1) m) (h : Lis
   pub files : Filed ws c
   files = filed h few (kids_low bs ws (c + 1) m arena [])
 
-  pub worked : (l : List ℕ) (k : ℕ) (l' : List ℕ) (r : ℕ) (ws' : List ℕ) →
-      Listed bs ws (c + 1) m (λ g _. gather_step g (list_at ws) c) l k l' r → ws' ≡ with_list ws c (take r l') →
-      ws' ≡ with_list ws c (free_vars (graph bs ws c m) c)
-  worked l k l' r ws' list e =
-      e ∙ ap (with_list ws c) (list.is [] ∙ filed_gathers h few (kids_low bs ws (c + 1) m arena []))
+  pub worked : (list : List ℕ) → Listed bs ws (c + 1) m (λ g _. gather_step g (list_at ws) c) [] list →
+      list ≡ free_vars (graph bs ws c m) c
+  worked list l = l.is [] ∙ filed_gathers h few (kids_low bs ws (c + 1) m arena [])
 
 -- ---- none of a symbol in the outermost scope
 
@@ -98,7 +96,8 @@ module _ (g : Graph) (ws : List ℕ) (c first : ℕ) (e : first ≡ end_at ws c)
   place = omega arith
 
   -- the lists are past the last entry already
-  pub keep_past : (xs : List ℕ) → (FREE_LISTS).size < first → set ws ((FREE_ENDS).first + c + 1) first ≡ with_list ws c xs
+  pub keep_past : (xs : List ℕ) → (FREE_LISTS).size < first →
+      set ws ((FREE_ENDS).first + c + 1) first ≡ with_list ws c xs
   keep_past xs p =
       let past : first ≡ suc (FREE_LISTS).size = e ∙ stored_past h c (omega arith) (omega arith) in
       rw (place, past) (sym (with_past ws c xs (omega arith)))

@@ -1,5 +1,5 @@
--- Lists of the first symbols in the words. In order: none; the words that lists hang on; the graph that they hang on; one
--- list more, and what it leaves alone.
+-- Lists of the first symbols in the words. In order: none; the words that lists hang on; the graph that they hang on;
+-- one list more, and what it leaves alone.
 -- Assumes nothing.
 use Prim.Native.Nat.{ℕ, zero, suc, ◌+◌, ◌-◌, ◌<◌, ◌≤◌}
 use mathlib.Core.Path.{◌≡◌, refl, sym, ap, ap₂, subst, ◌∙◌}
@@ -8,10 +8,10 @@ use mathlib.Core.Logic.{⊎_elim}
 use native.Mathlib.Omega.{arith}
 use native.Mathlib.Decide.{dec_lt}
 use native.Mathlib.Nat.{eq-or-lt_of_le}
-use native.Mathlib.Numerals.{add-one}
 use borrow.Author.Tests.{lt-ltb, le-ltb}
 use lib.ListN.{length, get_or, set, take}
-use lib.Seq.{sets, length-sets, length-take-le, take-suc, get_or-set_same, get_or-set_other}
+use lib.Seq.{sets, length-sets, length-take-le, take_all, get_or-set_same, get_or-set_other}
+use Rattle.std.proofs.lemmas.List.{take_more}
 use Rattle.model.specs.Gate.{Graph}
 use Rattle.model.specs.Schedule.{free_vars}
 use Rattle.laws.specs.Frame.{Agree, Frame}
@@ -66,7 +66,8 @@ module _ (g : Graph) (ws ws' : List ℕ) (n : ℕ) (ends : (s : ℕ) → s ≤ n
           let r = entries_next g s in
           let eb = h.ends (suc s) (omega arith) few in
           let ea = h.ends s (omega arith) (omega arith) in
-          ap₂ (λ (x y : ℕ). words_from ws' ((FREE_LISTS).first + x) (y - x)) (ends s (omega arith)) (ends (suc s) (omega arith))
+          ap₂ (λ (x y : ℕ). words_from ws' ((FREE_LISTS).first + x) (y - x)) (ends s (omega arith))
+          (ends (suc s) (omega arith))
           ∙ words_agree ws ws' ((FREE_LISTS).first + a) (b - a)
           (λ k lo hi. entries k (omega arith) (omega arith) (omega arith))
 
@@ -78,7 +79,8 @@ lists_agree g ws ws' n few e =
 
 -- ---- the graph that lists hang on
 
-entries-same : (g h : Graph) (n : ℕ) → ((s : ℕ) → s < n → free_vars g s ≡ free_vars h s) → entries_to g n ≡ entries_to h n
+entries-same : (g h : Graph) (n : ℕ) → ((s : ℕ) → s < n → free_vars g s ≡ free_vars h s) →
+    entries_to g n ≡ entries_to h n
 unfolding entries_to
 entries-same g h zero e = refl
 entries-same g h (suc n) e =
@@ -109,16 +111,20 @@ module _ (ws : List ℕ) (c : ℕ) (xs : List ℕ) where
   unfolding with_list
   with_past p = rw (lt-ltb (FREE_LISTS).size (end_at ws c + length xs) p, with_list)
 
-  pub with_room : end_at ws c + length xs ≤ (FREE_LISTS).size → with_list ws c xs ≡ ended (end_at ws c + length xs) filled
+  pub with_room : end_at ws c + length xs ≤ (FREE_LISTS).size →
+      with_list ws c xs ≡ ended (end_at ws c + length xs) filled
   unfolding with_list
   with_room p = rw (le-ltb (FREE_LISTS).size (end_at ws c + length xs) p, with_list)
 
   -- what holds of both
-  either : (P : List ℕ → Type 0) → ((FREE_LISTS).size < end_at ws c + length xs → P (ended (suc (FREE_LISTS).size) ws)) →
+  either : (P : List ℕ → Type 0) →
+      ((FREE_LISTS).size < end_at ws c + length xs → P (ended (suc (FREE_LISTS).size) ws)) →
       (end_at ws c + length xs ≤ (FREE_LISTS).size → P (ended (end_at ws c + length xs) filled)) → P (with_list ws c xs)
   either P past room = elim (dec_lt (FREE_LISTS).size (end_at ws c + length xs)) [
     | yes p ↦ subst P (sym (with_past p)) (past p)
-    | no p ↦ let le : end_at ws c + length xs ≤ (FREE_LISTS).size = omega arith in subst P (sym (with_room le)) (room le)
+    | no p ↦
+        let le : end_at ws c + length xs ≤ (FREE_LISTS).size = omega arith in
+        subst P (sym (with_room le)) (room le)
   ]
 
   module _ (few : c < 512) where
@@ -176,37 +182,25 @@ module _ (ws : List ℕ) (c : ℕ) (xs : List ℕ) where
             (λ k lo hi. get_or-set_other filled ((FREE_ENDS).first + suc c) k v 0 (λ e. omega arith))
             ∙ words_stored ws at xs (omega arith)))
 
--- how `store` stores the first `count` of a list l
-module _ (ws l : List ℕ) (c first count : ℕ) (e : first ≡ end_at ws c) (le : count ≤ length l) where
-  own : length (take count l) ≡ count
-  own = length-take-le count l le
-
+-- how `store` stores a list l
+module _ (ws l : List ℕ) (c first : ℕ) (e : first ≡ end_at ws c) where
   place : (FREE_ENDS).first + c + 1 ≡ (FREE_ENDS).first + suc c
   place = omega arith
 
-  pub store_past : (FREE_LISTS).size < first + count →
-      set ws ((FREE_ENDS).first + c + 1) (suc (FREE_LISTS).size) ≡ with_list ws c (take count l)
-  store_past p = rw place (sym (with_past ws c (take count l) (omega (arith, own))))
+  pub store_past : (FREE_LISTS).size < first + length l →
+      set ws ((FREE_ENDS).first + c + 1) (suc (FREE_LISTS).size) ≡ with_list ws c l
+  store_past p = rw place (sym (with_past ws c l (omega arith)))
 
-  pub store_next : (ws' : List ℕ) (k : ℕ) → ws' ≡ sets ws ((FREE_LISTS).first + first) (take k l) → k < count →
+  pub store_next : (ws' : List ℕ) (k : ℕ) → ws' ≡ sets ws ((FREE_LISTS).first + first) (take k l) → k < length l →
       set ws' ((FREE_LISTS).first + first + k) (get_or l k 0) ≡ sets ws ((FREE_LISTS).first + first) (take (k + 1) l)
   store_next ws' k f lt =
       let at = (FREE_LISTS).first + first in
       let long : length (take k l) ≡ k = length-take-le k l (omega arith) in
-      rw (
-        f,
-        add-one k,
-        take-suc l k 0 (omega arith),
-        sets_more (take k l) ws at (get_or l k 0),
-        long,
-      )
+      rw (f, take_more l k 0 lt, sets_more (take k l) ws at (get_or l k 0), long)
 
-  pub store_room : (ws' : List ℕ) (k : ℕ) → ws' ≡ sets ws ((FREE_LISTS).first + first) (take k l) → k ≡ count →
-      first + count ≤ (FREE_LISTS).size →
-      set ws' ((FREE_ENDS).first + c + 1) (first + count) ≡ with_list ws c (take count l)
-  store_room ws' k f q few =
-      rw (place, f, q, e) (ap (λ (n : ℕ). set (filled ws c (take count l)) ((FREE_ENDS).first + suc c) (end_at ws c + n)) (sym own)
-      ∙ sym (with_room ws c (take count l) (omega (arith, own))))
+  pub store_room : (ws' : List ℕ) (k : ℕ) → ws' ≡ sets ws ((FREE_LISTS).first + first) (take k l) → length l ≤ k →
+      first + length l ≤ (FREE_LISTS).size → set ws' ((FREE_ENDS).first + c + 1) (first + length l) ≡ with_list ws c l
+  store_room ws' k f q few = rw (place, f, take_all k l q, e) (sym (with_room ws c l (omega arith)))
 
 -- the lists before it stay
 pub lists_kept : (g : Graph) (ws : List ℕ) (c : ℕ) (xs : List ℕ) → c < 512 → WORDS ≤ length ws → Lists g ws c →

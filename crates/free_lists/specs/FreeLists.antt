@@ -1,6 +1,5 @@
 -- Free lists in the work words, one after the other in symbol order. In order: how many entries they have; where they
--- stand; which of them are stored; where one is found; one list more; what is asked of lists to make one more of them,
--- and what they give.
+-- stand; which of them are stored; one list more; what is asked of lists to make one more of them, and what they give.
 -- Assumes nothing.
 use Rattle.std.specs.Prelude.{ℕ, zero, suc, ◌+◌, ◌-◌, ◌<◌, ◌≤◌, ◌≡◌, true, false, List, [], ltb, length, get_or, set}
 use Rattle.std.proofs.lemmas.List.Edits.{sets}
@@ -11,8 +10,6 @@ use Rattle.laws.specs.Gather.{give}
 use Rattle.regions.specs.Regions.{FREE_ENDS, FREE_LISTS}
 use Rattle.symbols.specs.Words.{words_from}
 use Rattle.graph.specs.Graph.{Arena, graph_of}
-use Rattle.free_lists.specs.declared.Run.{Run}
-use Rattle.free_lists.specs.declared.Run.TheVariants.{Words, Unstored}
 
 -- ---- entries
 
@@ -45,15 +42,6 @@ pub record Stocked (bs ws : List ℕ) (n m : ℕ) : Type 0 where
   pub arena : Arena bs ws n m
   pub lists : Lists (graph_of bs ws n m []) ws n
 
--- ---- where one is found
-
-unfoldable pub run_of : List ℕ → ℕ → Run
-run_of ws s =
-    elim (ltb (FREE_LISTS).size (end_at ws (suc s))) [
-      | true ↦ Unstored
-      | false ↦ Words ((FREE_LISTS).first + end_at ws s) (end_at ws (suc s) - end_at ws s)
-    ]
-
 -- ---- one list more
 
 -- list xs of symbol c, after those of the symbols below c, if there is room for it
@@ -61,7 +49,8 @@ unfoldable pub with_list : List ℕ → ℕ → List ℕ → List ℕ
 with_list ws c xs =
     elim (ltb (FREE_LISTS).size (end_at ws c + length xs)) [
       | true ↦ set ws ((FREE_ENDS).first + suc c) (suc (FREE_LISTS).size)
-      | false ↦ set (sets ws ((FREE_LISTS).first + end_at ws c) xs) ((FREE_ENDS).first + suc c) (end_at ws c + length xs)
+      | false ↦
+          set (sets ws ((FREE_LISTS).first + end_at ws c) xs) ((FREE_ENDS).first + suc c) (end_at ws c + length xs)
     ]
 
 -- ---- lists to make one more of

@@ -11,7 +11,7 @@ use Rattle.gate.specs.Gate.{uses_at, visited, visited_down, Lower, Countable, Sm
 use Rattle.laws.proofs.Frame.{frame_none, frame_then}
 use Rattle.laws.specs.Members.{Under}
 use Rattle.gate.proofs.Run.{kids_under, kids_short, kids_kept, countable_kept}
-use Rattle.gate.proofs.Visits.{visited_frame, visited-bound, visited_agree}
+use Rattle.gate.proofs.Visits.{visited_frame, visited-bound, visited_agree, down_step}
 
 -- the words of symbols are kept, and the counts are bounded by the turns
 pub record Going (ws ws' : List ℕ) (n turns : ℕ) : Type 0 where
@@ -43,9 +43,10 @@ module _ (ws : List ℕ) (n : ℕ) where
     turn_kids : kids_at ws' s ≡ kids_at ws s
     turn_kids = kids_kept ws ws' going.kept s below (st.kids s lt)
 
-    module _ (ws'' : List ℕ) where
-      pub visited_going : ws'' ≡ visited (kids_at ws') ws' s → Going ws ws'' n (turns + 1)
-      visited_going e = record {
+    -- a turn that makes ws'' of them
+    module _ (ws'' : List ℕ) (e : ws'' ≡ visited (kids_at ws') ws' s) where
+      pub visited_going : Going ws ws'' n (turns + 1)
+      visited_going = record {
         kept = rw e (frame_then _ _ ws ws' _ going.kept (visited_frame (kids_at ws') ws' s under));
         uses = rw e
             (λ t l. omega (
@@ -55,8 +56,8 @@ module _ (ws : List ℕ) (n : ℕ) where
             ));
       }
 
-      pub visited_as : ws'' ≡ visited (kids_at ws') ws' s → ws'' ≡ visited (kids_at ws) ws' s
-      visited_as e = e ∙ visited_agree (kids_at ws) (kids_at ws') ws' s turn_kids
+      pub visited_next : visited_down (kids_at ws) ws'' s ≡ visited_down (kids_at ws) ws' (suc s)
+      visited_next = down_step (kids_at ws) ws' ws'' s (e ∙ visited_agree (kids_at ws) (kids_at ws') ws' s turn_kids)
 
 -- no visit is left
 pub down-end : (kids : ℕ → List ℕ) (ws all : List ℕ) (s : ℕ) → s ≤ 0 → visited_down kids ws s ≡ all → ws ≡ all

@@ -1,7 +1,7 @@
 -- Symbols visited from the root downward: what is reached and counted is what model has. In order: one visit; visits
 -- downward; the whole, from words cleared and the root stored as reached; what `visit` requires and shows.
 -- Assumes nothing.
-use Prim.Native.Nat.{ℕ, zero, suc, ◌+◌, ◌-◌, ◌<◌, ◌≤◌}
+use Prim.Native.Nat.{ℕ, zero, suc, ◌+◌, ◌<◌, ◌≤◌}
 use mathlib.Core.Path.{◌≡◌, refl, sym, ap, ap₂, ◌∙◌}
 use mathlib.Core.Bool.{Bool, true, false, ◌||◌}
 use mathlib.Core.List.{List, [], ◌∷◌}
@@ -9,7 +9,7 @@ use native.Mathlib.Omega.{arith}
 use lib.Dec.{eqb}
 use lib.ListN.{length, set}
 use lib.Seq.{get_or-set_same, get_or-set_other}
-use borrow.Author.Tests.{eq-eqb, ne_eqb, eqb-true, eqb-false}
+use borrow.Author.Tests.{eqb-true, eqb-false}
 use Rattle.model.specs.Lists.{is_in, count, union}
 use Rattle.model.specs.Intern.{Sym, sym_at}
 use Rattle.model.specs.Gate.{reach, reachable, usage}
@@ -37,12 +37,6 @@ module _ (kids : ℕ → List ℕ) (ws : List ℕ) (s : ℕ) where
   visited_by : (t : Bool) (ks : List ℕ) → eqb (reached_at ws s) 1 ≡ t → kids s ≡ ks → visited kids ws s ≡ by_reached t ws ks
   unfolding visited
   visited_by t ks e f = ap₂ (λ (u : Bool) (z : List ℕ). by_reached u ws z) e f
-
-  pub visited_reached : reached_at ws s ≡ 1 → all_noted ws (kids s) ≡ visited kids ws s
-  visited_reached e = sym (visited_by true (kids s) (eq-eqb (reached_at ws s) 1 e) refl)
-
-  pub visited_other : (reached_at ws s ≡ 1 → ⊥) → ws ≡ visited kids ws s
-  visited_other h = sym (visited_by false (kids s) (ne_eqb (reached_at ws s) 1 h) refl)
 
   visited-below : (n : ℕ) → n ≤ 512 → Under n (kids s) → OnlyBelow n ws (visited kids ws s)
   unfolding visited
@@ -73,14 +67,10 @@ visited_agree kids kids' ws s e = visited_by kids' ws s (eqb (reached_at ws s) 1
 
 -- ---- visits downward
 
-pub down_step : (kids : ℕ → List ℕ) (ws ws' : List ℕ) (s : ℕ) → 0 < s → ws' ≡ visited kids ws (s - 1) →
-    visited_down kids ws' (s - 1) ≡ visited_down kids ws s
+pub down_step : (kids : ℕ → List ℕ) (ws ws' : List ℕ) (s : ℕ) → ws' ≡ visited kids ws s →
+    visited_down kids ws' s ≡ visited_down kids ws (suc s)
 unfolding visited_down
-down_step kids ws ws' zero l e = absurd (omega arith)
-down_step kids ws ws' (suc s) l e =
-    let q : suc s - 1 ≡ s = omega arith in
-    let f : ws' ≡ visited kids ws s = rw q at e in
-    rw (q, f)
+down_step kids ws ws' s e = rw e
 
 down-below : (kids : ℕ → List ℕ) (n : ℕ) → n ≤ 512 → (m : ℕ) → ((t : ℕ) → t < m → Under n (kids t)) → (ws : List ℕ) →
     OnlyBelow n ws (visited_down kids ws m)
@@ -145,7 +135,7 @@ module _ (ws : List ℕ) (n root : ℕ) (st : Countable ws n) (lt : root < n) wh
   rooted_below : OnlyBelow n ws rooted
   rooted_below =
       let few : root < 512 = omega (arith, st.few) in
-      below_then n ws (cleared ws n) rooted (cleared-below ws n n (omega arith) st.few)
+      below_then n ws (cleared ws n) rooted (cleared-below ws n st.few)
       (record {
         kept = frame_store _ _ (REACHED.first + root) 1 (cleared ws n) (omega arith) (omega arith);
         others = λ s ge l. (
@@ -158,7 +148,7 @@ module _ (ws : List ℕ) (n root : ℕ) (st : Countable ws n) (lt : root < n) wh
   rooted_uses s l =
       let few : s < 512 = omega (arith, st.few) in
       get_or-set_other (cleared ws n) (REACHED.first + root) (USES.first + s) 1 0 (λ e. omega arith)
-      ∙ (cleared-zero ws n s st.few st.words l).0
+      ∙ (cleared-zero ws n st.few s st.words l).0
 
   rooted_reached : (s : ℕ) → s < n → reached_at rooted s ≡ bit (is_in s (root ∷ []))
   unfolding is_in
@@ -170,11 +160,11 @@ module _ (ws : List ℕ) (n root : ℕ) (st : Countable ws n) (lt : root < n) wh
           let few : root < 512 = omega (arith, st.few) in
           rw q
           (get_or-set_same (cleared ws n) (REACHED.first + root) 1 0
-          (omega (arith, (cleared-below ws n n (omega arith) st.few).kept.long, st.words)))
+          (omega (arith, (cleared-below ws n st.few).kept.long, st.words)))
       go false e =
           let h : s ≡ root → ⊥ = eqb-false s root e in
           get_or-set_other (cleared ws n) (REACHED.first + root) (REACHED.first + s) 1 0 (λ q. h (omega arith))
-          ∙ (cleared-zero ws n s st.few st.words l).1
+          ∙ (cleared-zero ws n st.few s st.words l).1
 
   module _ (ws' : List ℕ) (is : ws' ≡ visited_down (kids_at rooted) rooted (suc root)) where
     same_kids : (bs : List ℕ) (t : ℕ) → t < n → kids_at rooted t ≡ (sym_at (syms_of bs ws n) t).kids

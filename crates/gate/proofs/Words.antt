@@ -2,19 +2,25 @@
 -- two words stored; words cleared; uses noted, of one symbol and of a list: the counts, what is reached, and all other
 -- words.
 -- Assumes nothing.
-use Prim.Native.Nat.{ℕ, zero, suc, ◌+◌, ◌<◌, ◌≤◌}
+use Prim.Native.Nat.{ℕ, suc, ◌+◌, ◌-◌, ◌<◌, ◌≤◌}
 use mathlib.Core.Path.{◌≡◌, refl, sym, ap, ◌∙◌}
 use mathlib.Core.Bool.{Bool, true, false}
-use mathlib.Core.Logic.{inl, inr, ⊎_elim}
+use mathlib.Core.Logic.{inl, inr}
 use mathlib.Core.List.{List, [], ◌∷◌, ◌++◌}
 use native.Mathlib.Omega.{arith}
-use native.Mathlib.Nat.{eq-or-lt_of_le}
 use lib.Dec.{eqb}
-use lib.ListN.{length, set, length-set}
-use lib.Seq.{get_or-set_same, get_or-set_other}
+use borrow.Rule.Slice.PartMut.{put_mid}
+use lib.ListN.{length, get_or, set, drop, replicate, length-set}
+use Rattle.std.specs.List.{slice_range}
+use lib.Seq.{sets, sets-eq, length-sets, get_or-set_same, get_or-set_other}
+use Rattle.std.proofs.lemmas.List.{append_assoc, get_or-replicate, length-replicate, length-take-le, length-drop}
+use Rattle.std.proofs.lemmas.List.Edits.{paste_all}
+use Rattle.std.proofs.lemmas.Slice.{put_mid-paste}
 use borrow.Author.Tests.{eqb-true, eqb-false}
 use Rattle.model.specs.Lists.{is_in, count, add, union}
-use Rattle.laws.proofs.Frame.{frame_none, frame_then, frame_store}
+use Rattle.laws.proofs.Frame.{frame_none, frame_then, frame_wider, frame_store}
+use Rattle.laws.specs.Frame.{Frame}
+use Rattle.laws.proofs.Runs.{sets_run, sets_before, sets_after}
 use Rattle.regions.specs.Regions.{USES, REACHED, WORDS}
 use Rattle.laws.proofs.Members.{in_is_in, in_right, is_in-last}
 use Rattle.laws.specs.Members.{Under}
@@ -93,28 +99,83 @@ module _ (ws : List ℕ) (s u m : ℕ) where
 abbrev pub Zero : List ℕ → ℕ → Type 0
 Zero ws s = (uses_at ws s ≡ 0) × (reached_at ws s ≡ 0)
 
-module _ (ws : List ℕ) where
-  pub cleared-below : (n m : ℕ) → m ≤ n → n ≤ 512 → OnlyBelow n ws (cleared ws m)
-  unfolding cleared
-  cleared-below n zero l few = below_none n ws
-  cleared-below n (suc m) l few =
-      below_then n ws (cleared ws m) (cleared ws (suc m)) (cleared-below n m (omega arith) few)
-      (two-below (cleared ws m) m 0 0 (omega arith) n (omega arith))
+-- n words from `at` on filled with 0
+abbrev zeros : ℕ → List ℕ
+zeros n = replicate n 0
 
-  pub cleared-zero : (n s : ℕ) → n ≤ 512 → WORDS ≤ length ws → s < n → Zero (cleared ws n) s
-  unfolding cleared
-  cleared-zero zero s l h lt = absurd (omega arith)
-  cleared-zero (suc n) s l h lt =
-      let le : s ≤ n = omega arith in
-      ⊎_elim here (λ lo. lower lo (cleared-zero n s (omega arith) h lo)) (eq-or-lt_of_le le)
-    where
-      here : s ≡ n → Zero (cleared ws (suc n)) s
-      here e = rw e (two-same (cleared ws n) n 0 0 (omega arith) (omega (arith, (cleared-below n n (omega arith) (omega arith)).kept.long)))
+module _ (ws : List ℕ) (at n : ℕ) where
+  long : length (zeros n) ≡ n
+  long = length-replicate n 0
 
-      lower : s < n → Zero (cleared ws n) s → Zero (cleared ws (suc n)) s
-      lower lo z =
-          let o = two_other (cleared ws n) n 0 0 (omega arith) s (omega arith) (λ e. omega arith) in
-          (o.0 ∙ z.0, o.1 ∙ z.1)
+  -- by what `fill` says of the slice of these words
+  abbrev Fills : List ℕ → Type 0
+  Fills ys = ((y : ℕ) → y ≡ 0 → y ≡ 0) → ys ≡ zeros (length (slice_range ws at (at + n)))
+
+  abbrev put : List ℕ → List ℕ
+  put ys = put_mid at (at + n - at) ws ys
+
+  filled : (ys : List ℕ) → at + n ≤ length ws → Fills ys → put ys ≡ sets ws at (zeros n)
+  filled ys h fills =
+      let e : n ≡ at + n - at = omega arith in
+      let run : length (slice_range ws at (at + n)) ≡ n =
+      rw (← e) (length-take-le n (drop at ws) (omega (arith, length-drop at ws))) in
+      put_mid-paste at (at + n - at) ws ys (zeros n) n (fills (λ y q. q) ∙ ap zeros run) e (sym long)
+      ∙ paste_all ws at (zeros n) n (sym long)
+      ∙ sym (sets-eq (zeros n) ws at (omega (arith, long)) ∙ rw (long, append_assoc))
+
+  filled_frame : Frame at (at + n) ws (sets ws at (zeros n))
+  filled_frame = record {
+    long = length-sets ws at (zeros n);
+    before = λ k l. sets_before (zeros n) ws at k l;
+    after = λ k r. sets_after (zeros n) ws at k (omega (arith, long));
+  }
+
+  filled_zero : (s : ℕ) → s < n → at + n ≤ length ws → get_or (sets ws at (zeros n)) (at + s) 0 ≡ 0
+  filled_zero s lt h =
+      sets_run (zeros n) ws at s (omega (arith, long)) (omega (arith, long)) ∙ get_or-replicate n s 0 0 lt
+
+module _ (ws : List ℕ) (n : ℕ) (few : n ≤ 512) where
+  -- the counts cleared, and then whether symbols are reached
+  abbrev counts : List ℕ
+  counts = sets ws USES.first (zeros n)
+
+  abbrev both : List ℕ
+  both = sets counts REACHED.first (zeros n)
+
+  first : Frame USES.first (USES.first + n) ws counts
+  first = filled_frame ws USES.first n
+
+  then : Frame REACHED.first (REACHED.first + n) counts both
+  then = filled_frame counts REACHED.first n
+
+  -- as the code clears them
+  pub cleared_by : (ys zs : List ℕ) → WORDS ≤ length ws → Fills ws USES.first n ys →
+      Fills (put ws USES.first n ys) REACHED.first n zs →
+      put (put ws USES.first n ys) REACHED.first n zs ≡ cleared ws n
+  unfolding cleared
+  cleared_by ys zs words f g =
+      let e = filled ws USES.first n ys (omega arith) f in
+      let l : length (put ws USES.first n ys) ≡ length ws = ap length e ∙ first.long in
+      filled (put ws USES.first n ys) REACHED.first n zs (omega arith) g
+      ∙ ap (λ (us : List ℕ). sets us REACHED.first (zeros n)) e
+
+  pub cleared-below : OnlyBelow n ws (cleared ws n)
+  unfolding cleared
+  cleared-below = record {
+    kept = frame_then _ _ ws counts both (frame_wider _ _ _ _ ws counts first (omega arith) (omega arith))
+        (frame_wider _ _ _ _ counts both then (omega arith) (omega arith));
+    others = λ s ge l. (
+      then.before (USES.first + s) (omega arith) ∙ first.after (USES.first + s) (omega arith),
+      then.after (REACHED.first + s) (omega arith) ∙ first.after (REACHED.first + s) (omega arith),
+    );
+  }
+
+  pub cleared-zero : (s : ℕ) → WORDS ≤ length ws → s < n → Zero (cleared ws n) s
+  unfolding cleared
+  cleared-zero s h lt = (
+    then.before (USES.first + s) (omega arith) ∙ filled_zero ws USES.first n s lt (omega arith),
+    filled_zero counts REACHED.first n s lt (omega (arith, first.long)),
+  )
 
 -- ---- uses noted
 

@@ -2,7 +2,8 @@
 -- reached.
 -- In order: what the functions do to words; what holds of the words of symbols; what the words hold at the end.
 -- Assumes nothing.
-use Rattle.std.specs.Prelude.{ℕ, zero, suc, ◌+◌, ◌<◌, ◌≤◌, ◌≡◌, Bool, true, false, List, [], ◌∷◌, eqb, length, get_or, set}
+use Rattle.std.specs.Prelude.{ℕ, zero, suc, ◌+◌, ◌<◌, ◌≤◌, ◌≡◌, Bool, true, false, List, [], ◌∷◌, eqb, length, get_or, set, replicate}
+use Rattle.std.proofs.lemmas.List.Edits.{sets}
 use Rattle.model.specs.Lists.{is_in}
 use Rattle.model.specs.Intern.{Scope}
 use Rattle.model.specs.Gate.{reach, reachable, usage}
@@ -21,8 +22,7 @@ reached_at ws s = get_or ws (REACHED.first + s) 0
 
 -- the symbols below n are counted 0 and not reached
 unfoldable pub cleared : List ℕ → ℕ → List ℕ
-cleared ws zero = ws
-cleared ws (suc n) = set (set (cleared ws n) (USES.first + n) 0) (REACHED.first + n) 0
+cleared ws n = sets (sets ws USES.first (replicate n 0)) REACHED.first (replicate n 0)
 
 -- one use more of symbol s, which is reached
 unfoldable pub noted : List ℕ → ℕ → List ℕ

@@ -20,15 +20,12 @@ fn clear(work: &mut [u32], n: usize)
     requires { (n ≤ 512) × (WORDS ≤ length work.old) }
     ensures { work.new ≡ cleared work.old n }
 {
-    let mut s = 0;
-    while s < n {
-        work[regions::USES + s] = 0;
-        work[regions::REACHED + s] = 0;
-        s += 1;
-    }
+    work[regions::USES..regions::USES + n].fill(0);
+    work[regions::REACHED..regions::REACHED + n].fill(0);
 }
 
 // One use more of symbol s.
+#[tactic(auto, unfolding(crate::specs::Gate::noted))]
 fn note(work: &mut [u32], s: usize)
     requires { (s < 512) × (WORDS ≤ length work.old) × (uses_at work.old s < 4000000000) }
     ensures { work.new ≡ noted work.old s }
@@ -37,16 +34,14 @@ fn note(work: &mut [u32], s: usize)
     work[regions::REACHED + s] = 1;
 }
 
-// The symbols in the words from `at` on.
+// The symbols in the words from `at` on, by index: these words are lent with those that are written.
 fn note_all(work: &mut [u32], at: usize, count: usize)
     requires { Notable work.old at count }
     ensures { work.new ≡ all_noted work.old (words_from work.old at count) }
 {
-    let mut k = 0;
-    while k < count {
+    for k in 0..count {
         let kid = work[at + k] as usize;
         note(work, kid);
-        k += 1;
     }
 }
 
@@ -58,12 +53,11 @@ fn note_kids(work: &mut [u32], s: usize)
     ensures { work.new ≡ all_noted work.old (kids_at work.old s) }
 {
     let y = key::load(work, s);
-    let kids = y.kids as usize;
-    let count = y.count as usize;
-    note_all(work, regions::SLOTS + kids, count)
+    note_all(work, regions::SLOTS + y.kids as usize, y.count as usize)
 }
 
 // The children of symbol s, if it is reached.
+#[tactic(auto, unfolding(crate::specs::Gate::visited))]
 fn visit_symbol(work: &mut [u32], s: usize)
     requires s_bound { (s < 512) × (WORDS ≤ length work.old) }
     requires lower { Lower work.old s }
@@ -82,9 +76,7 @@ fn visit(work: &mut [u32], root: usize)
     requires by_index { (s : ℕ) → s < suc root → uses_at work.old s ≡ 0 }
     ensures { work.new ≡ visited_down (kids_at work.old) work.old (suc root) }
 {
-    let mut s = root + 1;
-    while 0 < s {
-        s -= 1;
+    for s in (0..=root).rev() {
         visit_symbol(work, s);
     }
 }
@@ -103,21 +95,14 @@ pub fn reach_and_count(work: &mut [u32], n: usize, root: usize)
 }
 
 // Which symbols are context properties, by their records' opcodes.
+#[tactic(auto, unfolding(model::specs::Gate::is_context_property, model::specs::Lists::is_in))]
 fn is_context_property(opcode: u8) -> bool
     ensures { (y : Sym) → y.rec.opcode ≡ opcode → result ≡ is_context_property y }
 {
-    if opcode == HEIGHT_OP {
-        return true;
-    }
-    if opcode == INPUTS_OP {
-        return true;
-    }
-    if opcode == OUTPUTS_OP {
-        return true;
-    }
-    opcode == SELF_BOX_OP
+    matches!(opcode, HEIGHT_OP | INPUTS_OP | OUTPUTS_OP | SELF_BOX_OP)
 }
 
+#[tactic(auto, unfolding(model::specs::Gate::is_internal))]
 fn is_internal(opcode: u8) -> bool
     ensures { (y : Sym) → y.rec.opcode ≡ opcode → result ≡ is_internal y }
 {
@@ -125,24 +110,18 @@ fn is_internal(opcode: u8) -> bool
 }
 
 // A projection's record has no aux.
+#[tactic(auto, using(crate::proofs::Gate::records), unfolding(model::specs::Gate::is_const))]
 fn is_const(forest: &[u8], i: usize, field: u32) -> bool
     requires laid { Laid forest.now }
     requires i_bound { i < record_count forest.now }
     ensures { (y : Sym) → y.rec ≡ key_rec forest.now i field → result ≡ is_const y }
 {
-    if record::shape(forest, i) != CONST {
-        return false;
-    }
-    if field != 0 {
-        return true;
-    }
-    let aux = record::aux(forest, i);
-    let class = record::class(aux);
-    class < 6
+    record::shape(forest, i) == CONST && (field != 0 || record::class(record::aux(forest, i)) < 6)
 }
 
 // The gate: whether symbol s, which is used `uses` times, becomes a definition.
 // Rules out: a symbol that is used once; HEIGHT, however often it is used.
+#[tactic(auto, using(crate::proofs::Gate::loaded), unfolding(model::specs::Gate::should_hoist))]
 pub fn should_hoist(forest: &[u8], work: &[u32], s: usize, uses: u32) -> bool
     requires laid { Laid forest.now }
     requires sound { Sound forest.now work.now SLOTS.size s }
@@ -152,16 +131,8 @@ pub fn should_hoist(forest: &[u8], work: &[u32], s: usize, uses: u32) -> bool
     if uses < 2 {
         return false;
     }
-    let y = key::load(work, s);
-    let node = y.node;
-    let p = key::parts_of(node);
+    let p = key::parts_of(key::load(work, s).node);
     let i = p.source as usize;
     let opcode = record::opcode(forest, i);
-    if is_context_property(opcode) {
-        return false;
-    }
-    if is_internal(opcode) {
-        return false;
-    }
-    !is_const(forest, i, p.field)
+    !is_context_property(opcode) && !is_internal(opcode) && !is_const(forest, i, p.field)
 }

@@ -1,13 +1,14 @@
--- Laws of the graph in the words. In order: a symbol's parts; its children, which are lower; slots in use; the words
--- that it hangs on; the tests of it.
+-- Laws of the graph in the words. In order: words in a row; a symbol's parts; its children, which are lower; slots in
+-- use; the words that it hangs on; the tests of it.
 -- Assumes nothing.
-use Prim.Native.Nat.{ℕ, ◌+◌, ◌*◌, ◌<◌, ◌≤◌}
+use Prim.Native.Nat.{ℕ, zero, suc, ◌+◌, ◌-◌, ◌*◌, ◌<◌, ◌≤◌}
 use mathlib.Core.Path.{◌≡◌, refl, sym, ap, subst, ◌∙◌}
-use mathlib.Core.Bool.{Bool, true, false}
-use mathlib.Core.List.{List}
+use mathlib.Core.Bool.{Bool, true, false, not}
+use mathlib.Core.List.{List, ◌∷◌}
 use native.Mathlib.Omega.{arith}
-use lib.Dec.{eqb, ltb}
-use lib.ListN.{length, get_or-eq_default}
+use lib.Dec.{ltb}
+use lib.ListN.{length, get_or, take, drop, get_or-eq_default}
+use lib.Seq.{drop-cons}
 use borrow.Author.Tests.{ltb-true, ltb-false}
 use Rattle.regions.specs.Regions.{SYMBOLS, SLOTS, SCOPES, end}
 use Rattle.model.specs.Intern.{Sym, no_sym, sym_at}
@@ -16,13 +17,14 @@ use Rattle.model.specs.Schedule.{is_arg, is_outside, rel_of}
 use Rattle.laws.specs.Frame.{Agree, Frame}
 use Rattle.laws.specs.Members.{Under}
 use Rattle.key.specs.declared.Symbol.{Symbol}
-use Rattle.key.specs.declared.Parts.{Parts}
+use Rattle.key.specs.declared.Leaf.{Leaf}
 use Rattle.key.specs.declared.Node.{Node}
 use Rattle.key.specs.declared.Node.TheVariants.{Const, Unparsed, Arg, Lambda, Op}
-use Rattle.key.specs.Key.{parts_of, symbol_at}
+use Rattle.key.specs.Key.{symbol_at}
 use Rattle.key.proofs.Laws.{symbol_agree}
 use Rattle.symbols.specs.Symbols.{model_node, syms_of, AllSound}
 use Rattle.symbols.specs.Symbols as symbols
+use Rattle.symbols.specs.Words.{words_from}
 use Rattle.symbols.proofs.Words.{words_under}
 use Rattle.symbols.proofs.Laws.{syms_length, sym_at_lem, kids_at_lem, syms_agree, sounds_agree}
 use Rattle.scopes.specs.declared.Rel.{Rel}
@@ -30,6 +32,18 @@ use Rattle.scopes.specs.Scopes.{Nested}
 use Rattle.scopes.specs.Relation.{rel_in, Classified}
 use Rattle.scopes.proofs.Open.{scopes_agree, nested_agree}
 use Rattle.graph.specs.Graph.{Within, Scoped, Arena, graph_of, Related, Tests, is_outsider}
+
+-- ---- words in a row
+
+taken : (ws : List ℕ) (at n : ℕ) → at + n ≤ length ws → take n (drop at ws) ≡ words_from ws at n
+unfolding words_from
+taken ws at zero le = refl
+taken ws at (suc n) le =
+    let lt : at < length ws = omega arith in
+    rw (drop-cons ws at 0) (ap (λ (l : List ℕ). get_or ws at 0 ∷ l) (taken ws (suc at) n (omega arith)))
+
+pub slice_words : (ws : List ℕ) (at n : ℕ) → at + n ≤ length ws → take (at + n - at) (drop at ws) ≡ words_from ws at n
+slice_words ws at n le = let e : at + n - at ≡ n = omega arith in rw e (taken ws at n le)
 
 -- ---- a symbol's parts
 
@@ -59,7 +73,8 @@ kids_low bs ws n m arena slots s = go (ltb s n) refl
 
 -- ---- slots in use
 
-pub within_sound : (bs ws : List ℕ) (used n : ℕ) → Within ws used n → AllSound bs ws SLOTS.size n → AllSound bs ws used n
+pub within_sound : (bs ws : List ℕ) (used n : ℕ) → Within ws used n → AllSound bs ws SLOTS.size n →
+    AllSound bs ws used n
 within_sound bs ws used n within sound i lt =
     let s = sound i lt in record { from = s.from; slots = within i lt; lower = s.lower }
 
@@ -111,12 +126,12 @@ module _ {ws ws' : List ℕ} {used n m : ℕ} (still : Still ws ws' used n m) wh
 
 -- ---- the tests
 
-arg_tag : (bs : List ℕ) (x : Node) → eqb (parts_of x).tag 2 ≡ is_arg (model_node bs x)
-arg_tag bs (Const l) = refl
-arg_tag bs (Unparsed l) = refl
-arg_tag bs (Arg l) = refl
-arg_tag bs (Lambda f) = refl
-arg_tag bs (Op o) = refl
+other_node : (bs : List ℕ) (x : Node) → ((l : Leaf) → x ≡ Arg l → ⊥) → false ≡ is_arg (model_node bs x)
+other_node bs (Const l) other = refl
+other_node bs (Unparsed l) other = refl
+other_node bs (Arg l) other = absurd (other l refl)
+other_node bs (Lambda f) other = refl
+other_node bs (Op o) other = refl
 
 -- the first k scopes are nested as the first m are
 nested_part : (ws : List ℕ) (k m : ℕ) → k ≤ m → Nested ws m → Nested ws k
@@ -127,11 +142,16 @@ nested_part ws k m le h = record {
 }
 
 module _ (ws : List ℕ) (n m s : ℕ) (y : Symbol) (loaded : y ≡ symbol_at ws s) (lt : s < n) where
-  pub arg_is : (p : Parts) → p ≡ parts_of y.node → Tests ws n m (λ h. is_arg (sym_of h s).node) (eqb p.tag 2)
-  arg_is p e bs slots =
-      ap (λ (q : Parts). eqb q.tag 2) e
-      ∙ (arg_tag bs y.node ∙ ap is_arg (ap (λ (z : Symbol). model_node bs z.node) loaded
-      ∙ sym (node_of_lem bs ws n m slots s lt)))
+  node_tests : (a : Bool) → ((bs : List ℕ) → a ≡ is_arg (model_node bs y.node)) →
+      Tests ws n m (λ h. is_arg (sym_of h s).node) a
+  node_tests a h bs slots =
+      h bs ∙ sym (ap is_arg (node_of_lem bs ws n m slots s lt ∙ ap (λ (z : Symbol). model_node bs z.node) (sym loaded)))
+
+  pub arg_in : (l : Leaf) → y.node ≡ Arg l → Tests ws n m (λ h. is_arg (sym_of h s).node) true
+  arg_in l e = node_tests true (λ bs. rw e)
+
+  pub arg_not_in : ((l : Leaf) → y.node ≡ Arg l → ⊥) → Tests ws n m (λ h. is_arg (sym_of h s).node) false
+  arg_not_in other = node_tests false (λ bs. other_node bs y.node other)
 
   module _ (scoped : Scoped ws n m) where
     scope_low : y.scope < m
@@ -152,8 +172,8 @@ module _ (ws : List ℕ) (n m s : ℕ) (y : Symbol) (loaded : y ≡ symbol_at ws
         rw e (h g m scope_low refl)
 
 module _ (ws : List ℕ) (n m cs d : ℕ) (a : Bool) (arg : Tests ws n m (λ h. is_arg (sym_of h d).node) a) where
-  pub outsider_arg : a ≡ true → Tests ws n m (is_outsider cs d) false
-  outsider_arg e bs slots = rw (sym (arg bs slots) ∙ e)
+  pub outsider_arg : a ≡ true → Tests ws n m (is_outsider cs d) (not a)
+  outsider_arg e bs slots = rw (e, sym (arg bs slots) ∙ e)
 
   pub outsider_rel : a ≡ false → (r : Rel) → Related ws n m d cs r → (b : Bool) → b ≡ is_outside (rel_in r) →
       Tests ws n m (is_outsider cs d) b

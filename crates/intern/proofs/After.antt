@@ -1,20 +1,26 @@
 -- The definition's reading of operands, one after the other.
 -- In order: an answer taken apart; symbols and thunks before what is left; thunks noted.
 -- Assumes nothing.
-use Prim.Native.Nat.{ℕ, zero, suc, ◌+◌, ◌≤◌}
+use Prim.Native.Nat.{ℕ, suc, ◌+◌, ◌≤◌}
 use mathlib.Core.Path.{◌≡◌, refl, sym, ap, ◌∙◌}
 use mathlib.Core.Bool.{Bool, true, false, ◌&&◌, ◌||◌}
 use mathlib.Core.List.{List, [], ◌∷◌, ◌++◌, append_assoc, append-nil}
 use native.Mathlib.Omega.{arith}
-use borrow.Author.Tests.{eq-eqb, ne_eqb, eqb-true, eqb-false}
+use Rattle.std.specs.Prelude.{Result, Ok, Err, IsOk, IsErr, is_err}
+use borrow.Author.Tests.{eqb-true, eqb-false}
 use lib.Dec.{eqb}
 use lib.ListN.{length}
 use Rattle.model.specs.Answer.{refused, good, ◌>>=◌}
 use Rattle.model.specs.Tree.{Tree, Trees, nil, cons, size}
 use Rattle.model.specs.Intern.{State, Env, Out, Outs, bind_def, thunked, intern_scoped, branch, intern, intern_all}
 use Rattle.laws.proofs.Members.{clash}
+use Rattle.refusal.specs.declared.Refusal.{Refusal}
+use Rattle.symbols.specs.Words.{pending_from}
 use Rattle.tables.specs.declared.Tables.{Tables}
+use Rattle.interner.specs.State.{abs_of}
+use Rattle.interner.specs.Step.{refusal_of, outcome_of}
 use Rattle.concluding.specs.declared.Branches.{Branches}
+use Rattle.concluding.specs.declared.Branches.TheVariants.{Zero, One, Two}
 use Rattle.concluding.specs.Concluding.{branches_of, Branched}
 use Rattle.standing.proofs.Next.{thunked-not}
 use Rattle.intern.specs.declared.Kids.{Kids}
@@ -23,14 +29,33 @@ use Rattle.intern.specs.Intern.{kids_answer, kids_of}
 
 -- ---- an answer taken apart
 
-module _ (bs ws : List ℕ) (t : Tables) (held count : ℕ) (k : Kids) where
-  pub kids_good : k.number ≡ 0 → kids_of bs ws t held count k ≡ kids_answer bs ws t held count k
-  unfolding kids_of
-  kids_good e = rw (eq-eqb k.number 0 e, kids_of)
+-- a refusal, named
+pub err_of : (o : Result Unit Refusal) → IsErr o → (x : Refusal) × (o ≡ Err x)
+err_of (Ok u) e = cc
+err_of (Err x) e = (x, refl)
 
-  pub kids_refused : (k.number ≡ 0 → ⊥) → kids_of bs ws t held count k ≡ refused k.number k.place
+-- where a test found none, there is none
+pub ok_of : (o : Result Unit Refusal) {b : Bool} → b ≡ is_err o → b ≡ false → IsOk o
+ok_of o told e = go o (sym told ∙ e)
+  where
+    go : (z : Result Unit Refusal) → is_err z ≡ false → IsOk z
+    go (Ok u) e = refl
+    go (Err x) e = cc
+
+module _ (bs ws : List ℕ) (t : Tables) (held count : ℕ) (k : Kids) where
+  pub kids_good : IsOk k.outcome → kids_of bs ws t held count k ≡ kids_answer bs ws t held count k
   unfolding kids_of
-  kids_refused h = rw (ne_eqb k.number 0 h, kids_of)
+  kids_good e = go k.outcome e
+    where
+      go : (o : Result Unit Refusal) → IsOk o →
+          outcome_of (λ _. (pending_from ws held count, branches_of k.branches, abs_of bs ws t k.st)) o
+          ≡ kids_answer bs ws t held count k
+      go (Ok u) e = refl
+      go (Err x) e = cc
+
+  pub kids_refused : {x : Refusal} → k.outcome ≡ Err x → kids_of bs ws t held count k ≡ refusal_of x
+  unfolding kids_of
+  kids_refused e = rw e
 
 -- ---- symbols and thunks before what is left
 
@@ -117,49 +142,43 @@ thunked_place op j h = go (eqb j 1) (eqb j 2) refl refl
     go false false e f =
         absurd (clash (thunked op j) h (thunked-not op j (eqb-false j 1 e) (eqb-false j 2 f)))
 
-pub noted_some : (t : Bool) (b z : Branches) (scope : ℕ) → t ≡ true → z ≡ noted true b scope → z ≡ noted t b scope
-noted_some t b z scope e h = rw e h
+-- how many thunks there are
+abbrev pub thunk_count : Branches → ℕ
+thunk_count Zero = 0
+thunk_count (One a) = 1
+thunk_count (Two a b) = 2
 
-pub noted_none : (t : Bool) (b : Branches) (scope : ℕ) → t ≡ false → b ≡ noted t b scope
-noted_none t b scope e = rw e
+pub noted_list : (b : Branches) (scope : ℕ) (t : Bool) → (t ≡ true → thunk_count b ≤ 1) →
+    branches_of (noted t b scope) ≡ branches_of b ++ branch t scope []
+noted_list Zero scope true h = refl
+noted_list (One a) scope true h = refl
+noted_list (Two a b) scope true h = absurd (omega (arith, h refl))
+noted_list b scope false h = sym (append-nil (branches_of b))
 
-module _ (b : Branches) (scope : ℕ) where
-  one_list : (c : ℕ) → b.count ≡ c → c ≤ 1 → branches_of (noted true b scope) ≡ branches_of b ++ (scope ∷ [])
-  one_list zero e l = rw e
-  one_list (suc zero) e l = rw e
-  one_list (suc (suc c)) e l = absurd (omega arith)
+pub noted_branched : (b : Branches) (scope : ℕ) (t : Bool) → Branched b → scope ≤ 2049 → Branched (noted t b scope)
+noted_branched Zero scope true h l = omega arith
+noted_branched (One a) scope true h l = (h, omega arith)
+noted_branched (Two a b) scope true h l = (h.0, omega arith)
+noted_branched b scope false h l = h
 
-  pub noted_list : (t : Bool) → (t ≡ true → b.count ≤ 1) →
-      branches_of (noted t b scope) ≡ branches_of b ++ branch t scope []
-  noted_list true h = one_list b.count refl (h refl)
-  noted_list false h = sym (append-nil (branches_of b))
+one-count : (b : Branches) (scope : ℕ) → thunk_count b ≤ 1 → thunk_count (one_more b scope) ≡ thunk_count b + 1
+one-count Zero scope l = refl
+one-count (One a) scope l = refl
+one-count (Two a b) scope l = absurd (omega arith)
 
-  one_branched : (z : Bool) → Branched b → scope ≤ 2049 → Branched (one_more z b scope)
-  one_branched true h l = record { few = omega arith; first = omega arith; second = h.second }
-  one_branched false h l = record { few = omega arith; first = h.first; second = omega arith }
+pub noted-thunks : (b : Branches) (scope op j : ℕ) (t : Bool) → t ≡ thunked op j → Thunks j (thunk_count b) →
+    Thunks (suc j) (thunk_count (noted t b scope))
+noted-thunks b scope op j false e h = record {
+  none_first = λ l. h.none_first (omega arith);
+  one_then = λ l. omega (arith, h.none_first (omega arith));
+}
+noted-thunks b scope op j true e h =
+    let c = one-count b scope (h.one_then (thunked_place op j (sym e)).1) in
+    record {
+      none_first = λ l. absurd (omega (arith, (thunked_place op j (sym e)).0));
+      one_then = λ l. omega (arith, c, h.none_first (omega arith));
+    }
 
-  pub noted_branched : (t : Bool) → Branched b → scope ≤ 2049 → Branched (noted t b scope)
-  noted_branched true h l = one_branched (eqb b.count 0) h l
-  noted_branched false h l = h
-
-  one-count : (z : Bool) → eqb b.count 0 ≡ z → b.count ≤ 1 → (one_more z b scope).count ≡ b.count + 1
-  one-count true e l = omega (arith, eqb-true b.count 0 e)
-  one-count false e l = omega (arith, eqb-false b.count 0 e)
-
-  pub noted-thunks : (op j : ℕ) (t : Bool) → t ≡ thunked op j → Thunks j b.count →
-      Thunks (suc j) (noted t b scope).count
-  noted-thunks op j false e h = record {
-    none_first = λ l. h.none_first (omega arith);
-    one_then = λ l. omega (arith, h.none_first (omega arith));
-  }
-  noted-thunks op j true e h =
-      let p = thunked_place op j (sym e) in
-      let few : b.count ≤ 1 = h.one_then p.1 in
-      let c = one-count (eqb b.count 0) refl few in
-      record {
-        none_first = λ l. absurd (omega arith);
-        one_then = λ l. omega (arith, c, h.none_first (omega arith));
-      }
-
-  pub thunk_few : (op j : ℕ) (t : Bool) → t ≡ thunked op j → Thunks j b.count → t ≡ true → b.count ≤ 1
-  thunk_few op j t e h f = h.one_then (thunked_place op j (sym e ∙ f)).1
+pub thunk_few : (b : Branches) (op j : ℕ) (t : Bool) → t ≡ thunked op j → Thunks j (thunk_count b) → t ≡ true →
+    thunk_count b ≤ 1
+thunk_few b op j t e h f = h.one_then (thunked_place op j (sym e ∙ f)).1

@@ -5,10 +5,11 @@ use Prim.Native.Nat.{ℕ, zero, suc, ◌+◌, ◌*◌, ◌<◌, ◌≤◌}
 use mathlib.Core.Path.{◌≡◌, refl, sym, ap, ◌∙◌}
 use mathlib.Core.List.{List, []}
 use native.Mathlib.Omega.{arith}
-use borrow.Author.Tests.{eq-eqb, ne_eqb}
+use Rattle.std.specs.Prelude.{Ok, Err}
+use Rattle.std.proofs.lemmas.Result.{IfOk-at_ok}
 use lib.ListN.{length}
 use Rattle.regions.specs.Regions.{SCOPES, BINDINGS, WORDS, end}
-use Rattle.model.specs.Answer.{refused, good}
+use Rattle.model.specs.Answer.{good}
 use Rattle.model.specs.Tree.{Trees, node, nil, cons, many, take_t, depth, depths}
 use Rattle.model.specs.Forest.{record_count}
 use Rattle.model.specs.Binding.{kind, lambda, args_of}
@@ -17,6 +18,7 @@ use Rattle.laws.specs.Range.{range}
 use Rattle.laws.specs.Members.{Every}
 use Rattle.laws.specs.Frame.{Frame}
 use Rattle.laws.proofs.ArgLists.{args_length}
+use Rattle.refusal.specs.declared.Refusal.{Refusal}
 use Rattle.record.specs.Record.{row_at}
 use Rattle.shape.proofs.Fitting.{fits_func}
 use Rattle.walk.specs.Walk.{trees_from, rec_at, kid_trees_at, tree_at, WellFormed}
@@ -32,14 +34,14 @@ use Rattle.interner.specs.declared.State.{State}
 use Rattle.interner.specs.declared.Step.{Step}
 use Rattle.interner.specs.Levels.{AtLevel}
 use Rattle.interner.specs.State.{abs_of, Rep}
-use Rattle.interner.specs.Step.{outs_of, Binds, Bindings, BodyOf}
+use Rattle.interner.specs.Step.{refusal_of, outs_of, Binds, Bindings, BodyOf}
 use Rattle.opening.specs.Opening.{with_scope}
 use Rattle.opening.proofs.Counts.{scopes_count}
 use Rattle.opening.proofs.Scopes.{scope_frame}
 use Rattle.opening.proofs.Bodies.{body_level, body_of, body_abs, body_rep}
 use Rattle.standing.proofs.Enter.{lambda_well}
 use Rattle.intern.specs.declared.Here.{Here}
-use Rattle.intern.specs.declared.Entered.{Entered}
+use Rattle.intern.specs.declared.Inside.{Inside}
 use Rattle.intern.specs.Words.{Words, Kept}
 use Rattle.intern.specs.Intern.{StandsAt, CountedAt, args_made, Body, Enters}
 use Rattle.intern.proofs.Kept.{words_then, scope_words, leaves_kept, later_rep, later_abs, beside_words}
@@ -75,13 +77,13 @@ lambda_kind s e = rw e
 -- ---- answers taken apart
 
 module _ (bs ws : List ℕ) (t : Tables) (count : ℕ) (r : Step) where
-  outs_good : r.number ≡ 0 → outs_of bs ws t count r ≡ good (range r.symbol count, [], abs_of bs ws t r.st)
+  outs_good : {s : ℕ} → r.symbol ≡ Ok s → outs_of bs ws t count r ≡ good (range s count, [], abs_of bs ws t r.st)
   unfolding outs_of
-  outs_good e = rw (eq-eqb r.number 0 e, outs_of)
+  outs_good e = rw e
 
-  outs_refused : (r.number ≡ 0 → ⊥) → outs_of bs ws t count r ≡ refused r.number r.place
+  outs_refused : {x : Refusal} → r.symbol ≡ Err x → outs_of bs ws t count r ≡ refusal_of x
   unfolding outs_of
-  outs_refused h = rw (ne_eqb r.number 0 h, outs_of)
+  outs_refused e = rw e
 
 -- ---- before
 
@@ -137,23 +139,29 @@ module _ {bs ws : List ℕ} {t : Tables} {st : State} {i : ℕ} {at : Here} (h :
     made_is : outs_of bs ws₁ t n made ≡ args_made bs i at.scope (abs_of bs ws t st)
     made_is = b.is t h.stands.opened xs (args_length aux (rec_at bs i).lit ∙ sym en)
 
-    pub enter_refused : (made.number ≡ 0 → ⊥) → Enters bs ws t st i at ws₁
-        (record { st = made.st; number = made.number; place = made.place; at = at; first = 0 })
-    enter_refused h = record {
+    pub enter_refused : {x : Refusal} → made.symbol ≡ Err x →
+        Enters bs ws t st i at ws₁ (record { st = made.st; inside = Err x })
+    enter_refused e = record {
       rep = b.rep;
       opened = made-opened;
       kept = first_kept;
-      fails = λ z. sym made_is ∙ outs_refused bs ws₁ t n made h;
-      opens = λ e. absurd (h e);
+      opens = sym made_is ∙ outs_refused bs ws₁ t n made e;
     }
 
-    module _ (ok : made.number ≡ 0) where
-      gives : args_made bs i at.scope (abs_of bs ws t st)
-          ≡ good (range made.symbol n, [], abs_of bs ws₁ t made.st)
+    module _ {s : ℕ} (ok : made.symbol ≡ Ok s) where
+      gives : args_made bs i at.scope (abs_of bs ws t st) ≡ good (range s n, [], abs_of bs ws₁ t made.st)
       gives = sym made_is ∙ outs_good bs ws₁ t n made ok
 
-      pub enter_few : made.symbol + n ≤ 512
-      enter_few = let f = b.first ok in omega (arith, f.0, f.1, b.rep.arena.scoped.few)
+      first_is : (s ≡ st.symbols) × (made.st.symbols ≡ st.symbols + n)
+      first_is = IfOk-at_ok (λ (s : ℕ). (s ≡ st.symbols) × (made.st.symbols ≡ st.symbols + n)) ok b.first
+
+      args_at : Every (AtLevel ws₁ made.st.symbols (level_of (scope_word ws at.scope) + 1)) (range s n)
+      args_at =
+          IfOk-at_ok (λ (s : ℕ).
+          Every (AtLevel ws₁ made.st.symbols (level_of (scope_word ws at.scope) + 1)) (range s n)) ok b.args
+
+      pub enter_few : s + n ≤ 512
+      enter_few = let f = first_is in omega (arith, f.0, f.1, b.rep.arena.scoped.few)
 
       args_few : n ≤ 15
       args_few = omega (arith, en, fitting.1)
@@ -179,7 +187,7 @@ module _ {bs ws : List ℕ} {t : Tables} {st : State} {i : ℕ} {at : Here} (h :
 
       -- ---- the body opened
 
-      module _ {first : ℕ} (same : (range first n ≡ range made.symbol n) × (first < 512)) {ws₂ : List ℕ}
+      module _ {first : ℕ} (same : (range first n ≡ range s n) × (first < 512)) {ws₂ : List ℕ}
           (opened : ws₂ ≡ with_lambda ws₁ made.st.scopes at.scope first n) where
         abbrev m : ℕ
         m = made.st.scopes
@@ -195,7 +203,7 @@ module _ {bs ws : List ℕ} {t : Tables} {st : State} {i : ℕ} {at : Here} (h :
         )
 
         own : Every (AtLevel ws₁ made.st.symbols (level_of (scope_word ws₁ at.scope) + 1)) (range first n)
-        own = rw (same.0, scope_word_lem) (b.args ok)
+        own = rw (same.0, scope_word_lem) args_at
 
         rep₂ : Rep bs ws₂ (with_scope made.st)
         rep₂ = rw opened (body_rep b.rep scopes_few scope_low same.1 args_few own)
@@ -206,14 +214,8 @@ module _ {bs ws : List ℕ} {t : Tables} {st : State} {i : ℕ} {at : Here} (h :
 
         module _ {inside : State} (is : inside ≡ with_scope made.st) {ws₃ : List ℕ} {top' : ℕ}
             (bound : ArgsBound bs i at.top first ws₂ ws₃ top') where
-          abbrev e : Entered
-          e = record {
-            st = with_scope made.st;
-            number = 0;
-            place = 0;
-            at = record { scope = m; held = at.held; top = top' };
-            first = first;
-          }
+          abbrev e : Inside
+          e = record { at = record { scope = m; held = at.held; top = top' }; first = first }
 
           binds : Frame (BINDINGS.first + 2 * at.top) (BINDINGS.first + 2 * top') ws₂ ws₃
           binds = bound.kept
@@ -236,7 +238,7 @@ module _ {bs ws : List ℕ} {t : Tables} {st : State} {i : ℕ} {at : Here} (h :
               ∙ ap (bind_args xs (range first aux))
               (env_words ws₂ ws₁ at.top words₂.bound ∙ env_words ws₁ ws at.top first_kept.words.bound)
 
-          body : Body bs ws t st i at ws₃ e
+          body : Body bs ws t st i at ws₃ (with_scope made.st) e
           body = record {
             made = abs_of bs ws₁ t made.st;
             is = gives ∙ rw (← same.0, en);
@@ -264,7 +266,7 @@ module _ {bs ws : List ℕ} {t : Tables} {st : State} {i : ℕ} {at : Here} (h :
             low = same.1;
           }
 
-          done : Enters bs ws t st i at ws₃ e
+          done : Enters bs ws t st i at ws₃ (record { st = with_scope made.st; inside = Ok e })
           done = record {
             rep = later_rep rep₂ binds (omega arith);
             opened = made-opened;
@@ -274,15 +276,11 @@ module _ {bs ws : List ℕ} {t : Tables} {st : State} {i : ℕ} {at : Here} (h :
                   (words_then (omega arith) (omega arith) (omega arith) first_kept.words words₂) words₃;
               scopes = omega (arith, first_kept.scopes);
             };
-            fails = λ h. absurd (h refl);
-            opens = λ z. body;
+            opens = body;
           }
 
           pub enter_done : Enters bs ws t st i at ws₃ (record {
             st = inside;
-            number = 0;
-            place = 0;
-            at = record { scope = m; held = at.held; top = top' };
-            first = first;
+            inside = Ok (record { at = record { scope = m; held = at.held; top = top' }; first = first });
           })
           enter_done = rw is done

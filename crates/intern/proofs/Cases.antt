@@ -21,6 +21,7 @@ use Rattle.model.specs.Intern.{Out, Outs, Env, resolve, finish, func, with_opts,
 use Rattle.model.specs.Intern.{thunked, intern_field, intern_func, intern_kind, intern}
 use Rattle.model.specs.Intern as intern
 use Rattle.laws.proofs.Members.{clash}
+use Rattle.refusal.specs.declared.Check.TheVariants.{Readings}
 use Rattle.record.specs.Record.{row_at}
 use Rattle.shape.proofs.Fitting.{fitting}
 use Rattle.walk.specs.Walk.{trees_from, rec_at, kid_trees_at, rest_at, tree_at, WellFormed}
@@ -153,9 +154,10 @@ block_plain r h j e = go (is_block r) refl
 
 -- no reading is left
 pub record_full : {bs ws : List ℕ} {t : Tables} {st : State} {i : ℕ} {at : Here} → StandsAt bs ws t st i at →
-    {r : Read} → st.readings ≡ 2048 → r ≡ refused_read st 11 i i → RecordRead bs ws t st i at ws r
+    {r : Read} → st.readings ≡ 2048 → r ≡ refused_read st (record { check = Readings; place = i }) i →
+    RecordRead bs ws t st i at ws r
 record_full {bs} {ws} {t} {st} {i} {at} stands e f =
-    rw f (reads_refused (kept_none at ws st) stands.rep stands.opened (λ z. omega arith)
+    rw f (reads_refused (kept_none at ws st) stands.rep stands.opened (record { check = Readings; place = i })
     (intern_full bs i at.scope (env_of ws at.top) (abs_of bs ws t st) (omega arith)))
 
 -- a record that may be read, and is counted

@@ -4,15 +4,17 @@
 use Prim.Native.Nat.{ℕ, ◌+◌, ◌<◌, ◌≤◌}
 use mathlib.Core.Path.{◌≡◌, refl, sym, ap, ◌∙◌}
 use mathlib.Core.Bool.{Bool, true, false}
+use Rattle.std.specs.Prelude.{Err, IsOk, IsErr}
 use mathlib.Core.List.{List}
 use native.Mathlib.Omega.{arith}
 use lib.ListN.{get_or}
 use Rattle.regions.specs.Regions.{PENDING}
-use Rattle.model.specs.Answer.{refused}
 use Rattle.model.specs.Tree.{Rec}
 use Rattle.model.specs.Forest.{record_count}
 use Rattle.model.specs.Binding.{field, is_block}
 use Rattle.model.specs.Intern.{Out, Env, intern_field, intern_kind}
+use Rattle.refusal.specs.declared.Refusal.{Refusal}
+use Rattle.refusal.specs.Refusal.{number_of}
 use Rattle.record.specs.Record.{row_at}
 use Rattle.shape.proofs.Fitting.{fits_field}
 use Rattle.walk.specs.Walk.{rec_at, WellFormed}
@@ -24,7 +26,7 @@ use Rattle.tables.specs.declared.Tables.{Tables}
 use Rattle.interner.specs.declared.State.{State}
 use Rattle.interner.specs.declared.Step.{Step}
 use Rattle.interner.specs.State.{abs_of}
-use Rattle.interner.specs.Step.{Answers}
+use Rattle.interner.specs.Step.{refusal_of, Answers}
 use Rattle.concluding.specs.Concluding.{reads_again, Selects, Input}
 use Rattle.concluding.proofs.Selecting.{selects_input, field_again}
 use Rattle.intern.specs.declared.Here.{Here}
@@ -36,7 +38,7 @@ use Rattle.intern.specs.Intern.{kids_answer, kids_of, Concluding, Concluded, Com
 use Rattle.intern.specs.Intern.{Incomplete}
 use Rattle.intern.proofs.Kept.{kept_none, kept_then}
 use Rattle.intern.proofs.Records.{reads_refused, reads_answers, concluded_other, concluded_refused, Below, Gave}
-use Rattle.intern.proofs.After.{kids_good, kids_refused}
+use Rattle.intern.proofs.After.{err_of, kids_good, kids_refused}
 use Rattle.intern.proofs.Records.{Parent, stands_below, stands_later, kids_operands, all_is, kids_fail}
 use Rattle.intern.proofs.Records.{kids_gave}
 use Rattle.intern.proofs.Reading.{loop_none}
@@ -46,14 +48,14 @@ use Rattle.intern.proofs.Cases.{field_refused, field_good}
 -- ---- a record completed
 
 module _ {bs ws : List ℕ} {t : Tables} {i : ℕ} {at : Here} {k : Kids} (ready : Completable bs ws t i at k) where
-  pub complete_refused : {z : Read} → z ≡ refused_read k.st k.number k.place i → (k.number ≡ 0 → ⊥) →
+  pub complete_refused : {z : Read} {x : Refusal} → z ≡ refused_read k.st x i → k.outcome ≡ Err x →
       Completed bs ws t i at k ws z
-  complete_refused e h =
-      rw e (reads_refused (kept_none at ws k.st) ready.rep ready.opened h
+  complete_refused {x = x} e h =
+      rw e (reads_refused (kept_none at ws k.st) ready.rep ready.opened x
       (ap (concluded i at.scope (rec_at bs i)) (kids_refused bs ws t at.held (row_at bs i).kids k h)
-      ∙ concluded_refused i at.scope (rec_at bs i) k.number k.place))
+      ∙ concluded_refused i at.scope (rec_at bs i) (number_of x.check) x.place))
 
-  pub complete_done : k.number ≡ 0 → {ws₂ : List ℕ} {step : Step} → Concluded bs ws t i at k ws₂ step →
+  pub complete_done : IsOk k.outcome → {ws₂ : List ℕ} {step : Step} → Concluded bs ws t i at k ws₂ step →
       Completed bs ws t i at k ws₂ (record { step = step; next = k.next })
   complete_done ok =
       reads_answers (kept_none at ws k.st) ready.rep ready.opened
@@ -83,11 +85,11 @@ module _ {bs ws : List ℕ} {t : Tables} {st : State} {i : ℕ} {at : Here} (h :
     children-operands = kids_operands h.sound h.there below h.well en eo
 
     module _ {ws₁ : List ℕ} {k : Kids} (v : ReadsAll bs ws t st (i + 1) n op at ws₁ k) where
-      gave : k.number ≡ 0 → Gave bs ws t st i at (is_block (rec_at bs i)) n ws₁ k
+      gave : IsOk k.outcome → Gave bs ws t st i at (is_block (rec_at bs i)) n ws₁ k
       gave = kids_gave h.sound h.there below h.well en eo v
 
-      fails : (k.number ≡ 0 → ⊥) →
-          kids_read bs i at.scope (env_of ws at.top) (abs_of bs ws t st) ≡ refused k.number k.place
+      fails : {x : Refusal} → k.outcome ≡ Err x →
+          kids_read bs i at.scope (env_of ws at.top) (abs_of bs ws t st) ≡ refusal_of x
       fails = kids_fail h.sound h.there below h.well en eo v
 
       children_is : completes bs ws₁ t i at k
@@ -159,20 +161,23 @@ module _ {bs ws : List ℕ} {t : Tables} {st : State} {i : ℕ} {at : Here} (h :
       abbrev field_out : Out
       field_out = intern_kind field i at.scope r env (kids_read bs i) (abs_of bs ws t st)
 
-      pub field_fails : (k.number ≡ 0 → ⊥) → Incomplete bs ws t st i at field_out ws₁ k
-      field_fails n =
+      field_refuses : {x : Refusal} → k.outcome ≡ Err x → Incomplete bs ws t st i at field_out ws₁ k
+      field_refuses {x} n =
           let u = children-read h.parent field_one eo v in
           record {
             ready = u.ready;
             is =
                 ap (concluded i at.scope r) (kids_refused bs ws₁ t at.held (row_at bs i).kids k n)
-                ∙ concluded_refused i at.scope r k.number k.place
-                ∙ sym (field_refused i at.scope r env (kids_read bs i) (abs_of bs ws t st) k.number k.place
+                ∙ concluded_refused i at.scope r (number_of x.check) x.place
+                ∙ sym (field_refused i at.scope r env (kids_read bs i) (abs_of bs ws t st) (number_of x.check) x.place
                 (fails h.parent field_one eo v n));
             kept = u.kept;
           }
 
-      module _ (ok : k.number ≡ 0) where
+      pub field_fails : IsErr k.outcome → Incomplete bs ws t st i at field_out ws₁ k
+      field_fails e = let x = err_of k.outcome e in field_refuses x.1
+
+      module _ (ok : IsOk k.outcome) where
         gave₁ : Gave bs ws t st i at (is_block r) 1 ws₁ k
         gave₁ = gave h.parent field_one eo v ok
 

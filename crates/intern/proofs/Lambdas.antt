@@ -3,7 +3,8 @@
 use Prim.Native.Nat.{ℕ, ◌+◌, ◌<◌}
 use mathlib.Core.Path.{◌≡◌, refl, sym, ap, ◌∙◌}
 use mathlib.Core.Bool.{false}
-use Rattle.std.specs.Prelude.{Some}
+use Rattle.std.specs.Prelude.{Some, Ok, Err, IsOk}
+use Rattle.std.proofs.lemmas.Result.{MatchResult-at_ok, MatchResult-at_err}
 use mathlib.Core.List.{List, []}
 use native.Mathlib.Omega.{arith}
 use lib.ListN.{length}
@@ -13,6 +14,8 @@ use Rattle.model.specs.Binding.{args_of}
 use Rattle.model.specs.Intern.{Out, Env, finish, func, with_opts, bind_args, open_scope, intern_func}
 use Rattle.model.specs.Intern as intern
 use Rattle.laws.specs.Range.{range}
+use Rattle.refusal.specs.declared.Refusal.{Refusal}
+use Rattle.refusal.specs.Refusal.{number_of}
 use Rattle.record.specs.Record.{row_at}
 use Rattle.shape.proofs.Fitting.{fits_func}
 use Rattle.walk.specs.Walk.{rec_at, kid_trees_at}
@@ -24,7 +27,7 @@ use Rattle.tables.specs.declared.Tables.{Tables}
 use Rattle.interner.specs.declared.State.{State}
 use Rattle.interner.specs.declared.Step.{Step}
 use Rattle.interner.specs.State.{abs_of}
-use Rattle.interner.specs.Step.{Answers, BodyOf}
+use Rattle.interner.specs.Step.{refusal_of, Answers, BodyOf}
 use Rattle.concluding.specs.Concluding.{Concludes}
 use Rattle.standing.specs.Standing.{WellAll}
 use Rattle.standing.proofs.Enter.{lambda_well}
@@ -32,6 +35,7 @@ use Rattle.intern.specs.declared.Here.{Here}
 use Rattle.intern.specs.declared.Read.{Read}
 use Rattle.intern.specs.declared.Kids.{Kids}
 use Rattle.intern.specs.declared.Entered.{Entered}
+use Rattle.intern.specs.declared.Inside.{Inside}
 use Rattle.intern.specs.Steps.{refused_read}
 use Rattle.intern.specs.Words.{Kept}
 use Rattle.intern.specs.Intern.{Reads, kids_read, Operands, ReadsAll, args_made, Body}
@@ -53,21 +57,25 @@ module _ {bs ws : List ℕ} {t : Tables} {st : State} {i : ℕ} {at : Here} (h :
   out = intern_func i at.scope r env (kids_read bs i) (abs_of bs ws t st)
 
   -- the arguments are refused
-  pub lambda_unmade : {z : Read} → z ≡ refused_read e.st e.number e.place i → (e.number ≡ 0 → ⊥) →
+  pub lambda_unmade : {z : Read} {x : Refusal} → z ≡ refused_read e.st x i → e.inside ≡ Err x →
       Reads bs ws t st i at out ws₁ z
-  lambda_unmade f n =
-      rw f (reads_refused enters.kept enters.rep enters.opened n
-      (func_refused i at.scope r env (kids_read bs i) (abs_of bs ws t st) e.number e.place (enters.fails n)))
+  lambda_unmade {x = x} f n =
+      rw f (reads_refused enters.kept enters.rep enters.opened x
+      (func_refused i at.scope r env (kids_read bs i) (abs_of bs ws t st) (number_of x.check) x.place
+      (MatchResult-at_err (Body bs ws t st i at ws₁ e.st)
+      (λ (x : Refusal). args_made bs i at.scope (abs_of bs ws t st) ≡ refusal_of x) x n enters.opens)))
 
   lambda_one : ◌≡◌ {A = ℕ} 1 (row_at bs i).kids
   lambda_one = sym (fits_func (row_at bs i) (row_fits bs i h.sound.fit h.there) h.shape).0
 
-  module _ (ok : e.number ≡ 0) where
-    abbrev body : Body bs ws t st i at ws₁ e
-    body = enters.opens ok
+  module _ {d : Inside} (ok : e.inside ≡ Ok d) where
+    body : Body bs ws t st i at ws₁ e.st d
+    body =
+        MatchResult-at_ok (Body bs ws t st i at ws₁ e.st)
+        (λ (x : Refusal). args_made bs i at.scope (abs_of bs ws t st) ≡ refusal_of x) d ok enters.opens
 
     abbrev own : List ℕ
-    own = range e.first r.aux
+    own = range d.first r.aux
 
     abbrev inner : Env
     inner = bind_args (args_of r.aux r.lit) own env
@@ -75,7 +83,7 @@ module _ {bs ws : List ℕ} {t : Tables} {st : State} {i : ℕ} {at : Here} (h :
     abbrev opened : intern.State
     opened = open_scope at.scope (Some own) body.made.tables body.made
 
-    below : Below bs ws₁ t e.st i e.at
+    below : Below bs ws₁ t e.st i d.at
     unfolding depth
     below = record {
       stands = record {
@@ -90,47 +98,47 @@ module _ {bs ws : List ℕ} {t : Tables} {st : State} {i : ℕ} {at : Here} (h :
       room = omega (arith, h.stands.tables);
     }
 
-    well : WellAll (kid_trees_at bs i) false r.opcode 0 e.at.scope (env_of ws₁ e.at.top) (abs_of bs ws₁ t e.st) 1
+    well : WellAll (kid_trees_at bs i) false r.opcode 0 d.at.scope (env_of ws₁ d.at.top) (abs_of bs ws₁ t e.st) 1
     well =
         rw (body.scope, body.env, body.abs)
         (lambda_well h.counted.legible.well (lambda_kind _ h.shape) h.counted.few i (own, [], body.made)
         (ap (args_made bs i at.scope) (sym h.counted.is) ∙ body.is)).1
 
     module _ {op : ℕ} (eo : op ≡ (rec_at bs i).opcode) where
-      pub lambda_operands : Operands bs ws₁ t e.st (i + 1) 1 op e.at
+      pub lambda_operands : Operands bs ws₁ t e.st (i + 1) 1 op d.at
       lambda_operands = kids_operands h.sound h.there below well lambda_one eo (λ j z. refl)
 
-      module _ {ws₂ : List ℕ} {k : Kids} (v : ReadsAll bs ws₁ t e.st (i + 1) 1 op e.at ws₂ k) where
+      module _ {ws₂ : List ℕ} {k : Kids} (v : ReadsAll bs ws₁ t e.st (i + 1) 1 op d.at ws₂ k) where
         kept₂ : Kept at ws ws₂ st k.st
         kept₂ = kept_then (omega (arith, body.held)) body.more enters.kept v.kept
 
         kids_same : kids_read bs i (length body.made.scopes) inner opened
-            ≡ kids_read bs i e.at.scope (env_of ws₁ e.at.top) (abs_of bs ws₁ t e.st)
+            ≡ kids_read bs i d.at.scope (env_of ws₁ d.at.top) (abs_of bs ws₁ t e.st)
         kids_same = cc (body.scope, body.env, body.abs)
 
         -- the body is refused
-        pub lambda_refused : {z : Read} → z ≡ refused_read k.st k.number k.place i → (k.number ≡ 0 → ⊥) →
+        pub lambda_refused : {z : Read} {x : Refusal} → z ≡ refused_read k.st x i → k.outcome ≡ Err x →
             Reads bs ws t st i at out ws₂ z
-        lambda_refused f n =
-            rw f (reads_refused kept₂ v.rep v.opened n
+        lambda_refused {x = x} f n =
+            rw f (reads_refused kept₂ v.rep v.opened x
             (func_kids_refused i at.scope r env (kids_read bs i) (abs_of bs ws t st) (own, [], body.made) body.is
-            k.number k.place
+            (number_of x.check) x.place
             (kids_same ∙ kids_fail h.sound h.there below well lambda_one eo v n)))
 
         -- the body is read
-        module _ (done : k.number ≡ 0) where
-          gave : Gave bs ws₁ t e.st i e.at false 1 ws₂ k
+        module _ (done : IsOk k.outcome) where
+          gave : Gave bs ws₁ t e.st i d.at false 1 ws₂ k
           gave = kids_gave h.sound h.there below well lambda_one eo v done
 
-          lambda_conclude : Concludes bs ws₂ k.st i at.scope e.at.scope at.held 1
+          lambda_conclude : Concludes bs ws₂ k.st i at.scope d.at.scope at.held 1
           lambda_conclude =
               rw body.held at (gave.conclude at.scope (omega (arith, h.stands.scope, enters.kept.scopes)))
 
-          body_word : scope_word ws₂ e.at.scope ≡ scope_word ws₁ e.at.scope
+          body_word : scope_word ws₂ d.at.scope ≡ scope_word ws₁ d.at.scope
           body_word =
-              v.kept.words.scopes (SCOPES.first + e.at.scope) (omega arith) (omega (arith, body.body.low))
+              v.kept.words.scopes (SCOPES.first + d.at.scope) (omega arith) (omega (arith, body.body.low))
 
-          lambda_body : BodyOf ws₂ k.st.scopes at.scope e.at.scope own
+          lambda_body : BodyOf ws₂ k.st.scopes at.scope d.at.scope own
           lambda_body = record {
             inside = body.body.inside;
             low = omega (arith, body.body.low, v.kept.scopes);
@@ -139,15 +147,15 @@ module _ {bs ws : List ℕ} {t : Tables} {st : State} {i : ℕ} {at : Here} (h :
           }
 
           -- its symbol may be asked for
-          pub lambda_asks : Concludes bs ws₂ k.st i at.scope e.at.scope at.held 1
-              × ((((rec_at bs i).shape ≡ 12) × (e.first < 4096))
-              × BodyOf ws₂ k.st.scopes at.scope e.at.scope own)
+          pub lambda_asks : Concludes bs ws₂ k.st i at.scope d.at.scope at.held 1
+              × ((((rec_at bs i).shape ≡ 12) × (d.first < 4096))
+              × BodyOf ws₂ k.st.scopes at.scope d.at.scope own)
           lambda_asks = (lambda_conclude, ((h.shape, omega (arith, body.low)), lambda_body))
 
           pub lambda_done : {ws₃ : List ℕ} {step : Step} →
               Answers bs ws₂ t k.st
               (finish i at.scope r (pending_from ws₂ at.held 1) own
-              (func (with_opts (args_of r.aux r.lit) own) e.at.scope) (abs_of bs ws₂ t k.st)) ws₃ step →
+              (func (with_opts (args_of r.aux r.lit) own) d.at.scope) (abs_of bs ws₂ t k.st)) ws₃ step →
               Reads bs ws t st i at out ws₃ (record { step = step; next = k.next })
           lambda_done =
               reads_answers kept₂ v.rep v.opened

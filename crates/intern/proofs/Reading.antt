@@ -5,6 +5,7 @@ use Prim.Native.Nat.{ℕ, zero, suc, ◌+◌, ◌-◌, ◌<◌, ◌≤◌, max}
 use mathlib.Core.Path.{◌≡◌, refl, sym, ap, ◌∙◌, subst}
 use mathlib.Core.Bool.{Bool, true, false, not, ◌&&◌}
 use mathlib.Core.List.{List, [], ◌∷◌, ◌++◌}
+use Rattle.std.specs.Prelude.{Ok, Err}
 use native.Mathlib.Omega.{arith}
 use native.Mathlib.Numerals.{add-one}
 use lib.ListN.{length, set}
@@ -13,8 +14,9 @@ use Rattle.model.specs.Answer.{good}
 use Rattle.model.specs.Tree.{Tree, Trees, cons, is_nil, many, take_t, drop_t, size, sizes, depth, depths}
 use Rattle.model.specs.Forest.{record_count}
 use Rattle.model.specs.Intern.{bind_def, thunked, intern_scoped, branch, intern, intern_all}
-use Rattle.model.specs.Intern as intern
 use Rattle.laws.proofs.Trees.{size_some}
+use Rattle.refusal.specs.declared.Refusal.{Refusal}
+use Rattle.refusal.specs.Refusal.{number_of}
 use Rattle.walk.specs.Walk.{trees_from, rest_at, tree_at, WellFormed}
 use Rattle.walk.proofs.Bridge.{trees_at, trees_left, records_few}
 use Rattle.symbols.specs.Words.{words_from, pending_from}
@@ -27,7 +29,7 @@ use Rattle.tables.specs.declared.Tables.{Tables}
 use Rattle.interner.specs.declared.State.{State}
 use Rattle.interner.specs.State.{abs_of}
 use Rattle.interner.specs.Step.{out_of}
-use Rattle.interner.proofs.Sharing.{out_good, out_number}
+use Rattle.interner.proofs.Sharing.{out_good, out_refused}
 use Rattle.opening.proofs.Counts.{scopes_count}
 use Rattle.concluding.specs.Concluding.{branches_of}
 use Rattle.standing.specs.Standing.{WellAll}
@@ -38,7 +40,7 @@ use Rattle.intern.specs.declared.Read.{Read}
 use Rattle.intern.specs.declared.Kids.{Kids}
 use Rattle.intern.specs.Steps.{child_at, noted, unread, with_child, failed}
 use Rattle.intern.specs.Words.{Kept}
-use Rattle.intern.specs.Intern.{Stands, StandsAt, Reads, LegibleAt, InThunk, trees, Operands}
+use Rattle.intern.specs.Intern.{Stands, StandsAt, Past, Reads, LegibleAt, InThunk, trees, Operands}
 use Rattle.intern.specs.Intern.{kids_answer, ReadsAll}
 use Rattle.intern.proofs.Remains.{Remains, Reading}
 use Rattle.intern.proofs.Kept.{kept_none, kept_then, ChildStored, stored}
@@ -62,7 +64,7 @@ module _ {bs : List ℕ} {t : Tables} {i count op : ℕ} {at : Here} {ws₀ : Li
         sum = omega arith;
         rep = h.stands.rep;
         opened = h.stands.opened;
-        number = refl;
+        outcome = refl;
         there = h.there;
         is = after_none _;
         place = refl;
@@ -77,7 +79,7 @@ module _ {bs : List ℕ} {t : Tables} {i count op : ℕ} {at : Here} {ws₀ : Li
         pending = omega (arith, h.stands.held, h.within, records_few bs sound);
         more = omega arith;
         few = h.stands.top;
-        branched = record { few = omega arith; first = omega arith; second = omega arith };
+        branched = tt;
         thunks = record { none_first = λ l. refl; one_then = λ l. omega arith };
         kept = kept_none at ws₀ st;
       };
@@ -103,7 +105,7 @@ module _ {bs : List ℕ} {t : Tables} {i count op : ℕ} {at : Here} {ws₀ : Li
         rep = h.rep;
         opened = h.opened;
         is =
-            kids_good bs ws t at.held count k h.number
+            kids_good bs ws t at.held count k h.outcome
             ∙ ap (λ (z : ℕ). kids_answer bs ws t at.held z k) (sym e)
             ∙ sym (after-end (pending_from ws at.held j) (branches_of k.branches) op j k.next at.scope
             (env_of ws top) (abs_of bs ws t k.st))
@@ -230,39 +232,38 @@ module _ {bs : List ℕ} {t : Tables} {i count op : ℕ} {at : Here} {ws₀ : Li
 
         -- ---- a child that is refused
 
-        pub reading_refused : {z : Kids} → z ≡ failed k r → (r.step.number ≡ 0 → ⊥) →
+        pub reading_refused : {z : Kids} {x : Refusal} → z ≡ failed k r x → r.step.symbol ≡ Err x →
             ReadsAll bs ws₀ t st₀ i count op at ws₁ z
-        reading_refused e n = rw e (record {
+        reading_refused {x = x} e n = rw e (record {
           rep = v.rep;
           opened = v.opened;
           is =
-              kids_refused bs ws₁ t at.held count (failed k r) n
+              kids_refused bs ws₁ t at.held count (failed k r x) refl
               ∙ sym (after_refused _ _ op j k.next at.scope (env_of ws top) (abs_of bs ws t k.st) u us
-              r.step.number r.step.place (scoped_is ∙ out_number bs ws₁ t r.step n))
+              (number_of x.check) x.place (scoped_is ∙ out_refused bs ws₁ t r.step n))
               ∙ left_whole;
-          past = λ z. absurd (n z);
-          pending = λ z. absurd (n z);
+          past = λ z. cc;
+          pending = λ z. cc;
           branched = h.branched;
           kept = child_kept;
         })
 
         -- ---- a child read
 
-        module _ (ok : r.step.number ≡ 0) {ws₂ : List ℕ} {top' : ℕ}
-            (d₀ : DefBound bs k.next top r.step.symbol (set ws₁ (PENDING.first + at.held + j) r.step.symbol) ws₂
-            top')
+        module _ {s : ℕ} (ok : r.step.symbol ≡ Ok s) {ws₂ : List ℕ} {top' : ℕ}
+            (d₀ : DefBound bs k.next top s (set ws₁ (PENDING.first + at.held + j) s) ws₂ top')
           where
-            abbrev s : ℕ
-            s = r.step.symbol
+            past : Past bs k.next (size (tree_at bs k.next)) (rest_at bs k.next) r.next
+            past = v.past (rw ok)
 
             d : DefBound bs k.next top s (set ws₁ (PENDING.first + (at.held + j)) s) ws₂ top'
             d = let e : PENDING.first + (at.held + j) ≡ PENDING.first + at.held + j = omega arith in rw e d₀
 
             next_is : r.next ≡ k.next + size u
-            next_is = (v.past ok).0
+            next_is = past.0
 
             rest_is : trees_from bs r.next ≡ rest_at bs k.next
-            rest_is = (v.past ok).1
+            rest_is = past.1
 
             us_is : trees bs r.next m ≡ us
             us_is = ap (take_t m) rest_is
@@ -297,7 +298,7 @@ module _ {bs : List ℕ} {t : Tables} {i count op : ℕ} {at : Here} {ws₀ : Li
                 ≡ branches_of k.branches ++ branch (thunked op j) (length (abs_of bs ws t k.st).scopes) []
             branches₂ =
                 noted_list k.branches k.st.scopes thunk
-                (thunk_few k.branches k.st.scopes op j thunk et h.thunks)
+                (thunk_few k.branches op j thunk et h.thunks)
                 ∙ rw (et, scopes_count bs ws t k.st)
 
             is₂ : after (pending_from ws₂ at.held (j + 1)) (branches_of (noted thunk k.branches k.st.scopes))
@@ -324,7 +325,7 @@ module _ {bs : List ℕ} {t : Tables} {i count op : ℕ} {at : Here} {ws₀ : Li
                 sum = omega (arith, h.sum);
                 rep = after₁.rep;
                 opened = v.opened;
-                number = refl;
+                outcome = refl;
                 there = rw rest_is left_many;
                 is = is₂;
                 place = omega (arith, ap sizes us_is, next_is, left_sizes, h.place);

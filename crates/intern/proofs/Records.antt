@@ -6,8 +6,10 @@ use Prim.Native.Nat.{ℕ, zero, suc, ◌+◌, ◌<◌, ◌≤◌}
 use mathlib.Core.Path.{◌≡◌, refl, sym, ap, ◌∙◌, subst}
 use mathlib.Core.Logic.{◌⊎◌, inl, inr}
 use mathlib.Core.Bool.{Bool, true, false}
+use Rattle.std.specs.Prelude.{Err, IsOk}
 use mathlib.Core.List.{List, []}
 use native.Mathlib.Omega.{arith}
+use native.Mathlib.Decide.{dec_lt}
 use native.Mathlib.Numerals.{add-one}
 use borrow.Author.Tests.{eq-eqb, ne_eqb}
 use lib.Dec.{eqb}
@@ -20,6 +22,7 @@ use Rattle.model.specs.Forest.{record_count}
 use Rattle.model.specs.Intern.{Out, Outs, Env, node_of, finish, intern_last, intern_general}
 use Rattle.model.specs.Intern as intern
 use Rattle.laws.specs.Members.{In}
+use Rattle.refusal.specs.declared.Refusal.{Refusal}
 use Rattle.record.specs.Record.{row_at}
 use Rattle.shape.proofs.Fitting.{fits_def, fits_block}
 use Rattle.walk.specs.Walk.{rec_at, kid_trees_at, rest_at, tree_at, WellFormed}
@@ -35,11 +38,11 @@ use Rattle.tables.proofs.Stack.{open_later}
 use Rattle.interner.specs.declared.State.{State}
 use Rattle.interner.specs.declared.Step.{Step}
 use Rattle.interner.specs.State.{abs_of, Rep}
-use Rattle.interner.specs.Step.{given, Answers}
-use Rattle.interner.proofs.Sharing.{out_number}
+use Rattle.interner.specs.Step.{refusal_of, given, Answers}
+use Rattle.interner.proofs.Sharing.{out_refused, given_answers}
 use Rattle.opening.proofs.Counts.{symbols-count}
 use Rattle.concluding.specs.Concluding.{branches_of, Concludes}
-use Rattle.concluding.proofs.Children.{last_low, given_answers}
+use Rattle.concluding.proofs.Children.{last_low}
 use Rattle.standing.specs.Standing.{WellAll, AllRead}
 use Rattle.standing.proofs.Forced.{union_forced}
 use Rattle.standing.proofs.Next.{all_results, again_well}
@@ -56,13 +59,13 @@ use Rattle.intern.proofs.After.{kids_good, kids_refused}
 
 module _ {bs ws ws₁ : List ℕ} {t : Tables} {st st₁ : State} {i : ℕ} {at : Here} {o : Out} (kept : Kept at ws ws₁ st st₁)
     (rep : Rep bs ws₁ st₁) (open' : Open t st₁.entries) where
-  pub reads_refused : {n p next : ℕ} → (n ≡ 0 → ⊥) → o ≡ refused n p →
-      Reads bs ws t st i at o ws₁ (refused_read st₁ n p next)
-  reads_refused {n} {p} {next} h e = record {
+  pub reads_refused : (x : Refusal) {next : ℕ} → o ≡ refusal_of x →
+      Reads bs ws t st i at o ws₁ (refused_read st₁ x next)
+  reads_refused x {next} e = record {
     rep = rep;
     opened = open';
-    is = out_number bs ws₁ t (refused_read st₁ n p next).step h ∙ sym e;
-    past = λ z. absurd (h z);
+    is = out_refused bs ws₁ t (refused_read st₁ x next).step refl ∙ sym e;
+    past = λ z. cc;
     kept = kept;
   }
 
@@ -100,6 +103,10 @@ concluded_refused at cur r n p = go (eqb r.shape 10) (eqb r.shape 11)
     go false true = refl
     go false false = refl
 
+-- a definition or a block, by the range of their numbers
+pub ends_shape : (s : ℕ) → 10 ≤ s → s < 12 → (s ≡ 10) ⊎ (s ≡ 11)
+ends_shape s low high = elim (dec_lt s 11) [ yes p ↦ inl (omega arith) | no p ↦ inr (omega arith) ]
+
 -- a record that may be concluded, with n children
 pub record Concludable (bs ws : List ℕ) (i : ℕ) (at : Here) (k : Kids) (n : ℕ) : Type 0 where
   pub sound : WellFormed bs
@@ -130,7 +137,7 @@ module _ {bs ws : List ℕ} {i : ℕ} {at : Here} {k : Kids} {n : ℕ} (h : Conc
     unfolding intern_last ◌>>=◌
     last_answers e {r} is =
         rw (concluded-last i at.scope (rec_at bs i) read e)
-        (given_answers bs ws t k.st (last (pending_from ws at.held (row_at bs i).kids)) r h.rep
+        (given_answers h.rep
         (last_low ws at.held (row_at bs i).kids k.st.symbols (last_some e) h.concludes.lower)
         (is ∙ rw h.count))
 
@@ -163,7 +170,7 @@ pub record Parent (bs ws : List ℕ) (t : Tables) (st : State) (i : ℕ) (at : H
 -- where the children of record i are read
 pub record Below (bs ws : List ℕ) (t : Tables) (st : State) (i : ℕ) (at : Here) : Type 0 where
   pub stands : Stands bs ws t st (i + 1) (depths (kid_trees_at bs i)) at
-  pub room : t.depth + depths (kid_trees_at bs i) < 65
+  pub room : length t + depths (kid_trees_at bs i) < 65
 
 pub stands_below : {bs ws : List ℕ} {t : Tables} {st : State} {i : ℕ} {at : Here} →
     Stands bs ws t st i (depth (tree_at bs i)) at → Below bs ws t st i at
@@ -243,10 +250,10 @@ module _ {bs ws : List ℕ} {t : Tables} {st : State} {i : ℕ} {at : Here} {b :
     pub all_is : kids_of bs ws₁ t at.held n k ≡ kids_read bs i at.scope env A
     all_is = v.is ∙ rw (trees_are, eo, add-one i)
 
-    pub kids_fail : (k.number ≡ 0 → ⊥) → kids_read bs i at.scope env A ≡ refused k.number k.place
+    pub kids_fail : {x : Refusal} → k.outcome ≡ Err x → kids_read bs i at.scope env A ≡ refusal_of x
     kids_fail h = sym all_is ∙ kids_refused bs ws₁ t at.held n k h
 
-    module _ (ok : k.number ≡ 0) where
+    module _ (ok : IsOk k.outcome) where
       kids_give : kids_read bs i at.scope env A ≡ kids_answer bs ws₁ t at.held n k
       kids_give = sym all_is ∙ kids_good bs ws₁ t at.held n k ok
 

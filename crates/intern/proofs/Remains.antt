@@ -5,9 +5,9 @@ use Prim.Native.Nat.{ℕ, ◌+◌, ◌-◌, ◌*◌, ◌≤◌}
 use mathlib.Core.Path.{◌≡◌}
 use mathlib.Core.Bool.{Bool}
 use mathlib.Core.List.{List}
+use Rattle.std.specs.Prelude.{IsOk}
 use Rattle.model.specs.Tree.{many, drop_t, sizes, depths}
 use Rattle.model.specs.Intern.{intern_all}
-use Rattle.model.specs.Intern as intern
 use Rattle.walk.specs.Walk.{trees_from, WellFormed}
 use Rattle.symbols.specs.Words.{pending_from}
 use Rattle.bindings.specs.Bindings.{env_of}
@@ -21,7 +21,7 @@ use Rattle.intern.specs.declared.Here.{Here}
 use Rattle.intern.specs.declared.Kids.{Kids}
 use Rattle.intern.specs.Words.{Kept}
 use Rattle.intern.specs.Intern.{trees, Plain, Operands}
-use Rattle.intern.proofs.After.{after, Thunks}
+use Rattle.intern.proofs.After.{after, Thunks, thunk_count}
 
 -- of `count` operands from record i on, j are read and `left` are left, from record k .next on
 pub record Remains (bs : List ℕ) (t : Tables) (i count op : ℕ) (at : Here) (ws₀ : List ℕ) (st₀ : State) (ws : List ℕ)
@@ -29,7 +29,7 @@ pub record Remains (bs : List ℕ) (t : Tables) (i count op : ℕ) (at : Here) (
   pub sum : j + left ≡ count
   pub rep : Rep bs ws k.st
   pub opened : Open t k.st.entries
-  pub number : k.number ≡ 0
+  pub outcome : IsOk k.outcome
   pub there : left ≤ many (trees_from bs k.next)
   pub is : after (pending_from ws at.held j) (branches_of k.branches)
       (intern_all (trees bs k.next left) op j k.next at.scope (env_of ws top) (abs_of bs ws t k.st))
@@ -47,7 +47,7 @@ pub record Remains (bs : List ℕ) (t : Tables) (i count op : ℕ) (at : Here) (
   pub more : at.top ≤ top
   pub few : top ≤ 14 * (64 - depths (trees bs i count)) + k.next
   pub branched : Branched k.branches
-  pub thunks : Thunks j k.branches.count
+  pub thunks : Thunks j (thunk_count k.branches)
   pub kept : Kept at ws₀ ws st₀ k.st
 
 -- the loop's invariant, with what was asked

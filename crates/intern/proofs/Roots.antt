@@ -4,20 +4,19 @@
 use Prim.Native.Nat.{ℕ, suc, ◌+◌, ◌<◌, ◌≤◌}
 use mathlib.Core.Path.{◌≡◌, refl, sym, ap, ◌∙◌}
 use mathlib.Core.Bool.{false}
-use Rattle.std.specs.Prelude.{None}
+use Rattle.std.specs.Prelude.{None, Err, IsOk}
 use mathlib.Core.List.{List, []}
 use native.Mathlib.Omega.{arith}
 use borrow.Author.Tests.{ltb-false}
 use lib.ListN.{length}
 use Rattle.regions.specs.Regions.{PENDING, WORDS, end}
-use Rattle.model.specs.Answer.{refused, good, ◌>>=◌}
+use Rattle.model.specs.Answer.{good, ◌>>=◌}
 use Rattle.model.specs.Lists.{last}
 use Rattle.model.specs.Tree.{Tree, Trees, node, nil, cons, many, depth, depths}
 use Rattle.model.specs.Faults.{faults}
 use Rattle.model.specs.Forest.{tree_count, trees_of, deep, deeps, check7}
 use Rattle.model.specs.Accept.{accept}
 use Rattle.model.specs.Intern.{Outs, intern_last, intern_all, intern_forest}
-use Rattle.model.specs.Intern as intern
 use Rattle.model.specs.Call.{interned}
 use Rattle.laws.specs.Frame.{Frame}
 use Rattle.laws.proofs.Frame.{frame_then}
@@ -25,6 +24,7 @@ use Rattle.laws.specs.Clear.{Clear}
 use Rattle.laws.proofs.Clear.{clear_left, clear_right, first_clear}
 use Rattle.laws.proofs.Header.{header_of}
 use Rattle.laws.specs.Stack.{stack_of}
+use Rattle.refusal.specs.declared.Refusal.{Refusal}
 use Rattle.walk.specs.Walk.{WellFormed}
 use Rattle.walk.proofs.Bridge.{tree_count_lem}
 use Rattle.walk.proofs.Walking.{trees_there, trees-whole}
@@ -37,8 +37,8 @@ use Rattle.tables.specs.Tables.{new_tables}
 use Rattle.interner.specs.declared.State.{State}
 use Rattle.interner.specs.declared.Step.{Step}
 use Rattle.interner.specs.State.{abs_of, Rep, Started}
-use Rattle.interner.specs.Step.{given}
-use Rattle.interner.proofs.Sharing.{out_good, out_number}
+use Rattle.interner.specs.Step.{refusal_of, given}
+use Rattle.interner.proofs.Sharing.{out_good, out_refused}
 use Rattle.opening.proofs.Counts.{symbols-count}
 use Rattle.standing.proofs.Enter.{forest_well}
 use Rattle.standing.proofs.Next.{last_result}
@@ -153,22 +153,19 @@ module _ {bs ws ws₁ : List ℕ} {t : Tables} {st : State} {count : ℕ} (h : B
         frame_then INTERNING.first (end INTERNING) ws ws₁ ws₂ (in_interning h.started.frame (omega arith))
         v.kept.words.frame
 
-    pub forest_refused : (k.number ≡ 0 → ⊥) →
-        Interned bs ws ws₂ (record { st = k.st; symbol = 0; number = k.number; place = k.place })
+    pub forest_refused : {x : Refusal} → k.outcome ≡ Err x → Interned bs ws ws₂ (record { st = k.st; symbol = Err x })
     unfolding intern_last ◌>>=◌
-    forest_refused n = record {
+    forest_refused {x} n = record {
       rep = v.rep;
       is =
-          out_number bs ws₂ new_tables (record { st = k.st; symbol = 0; number = k.number; place = k.place }) n
-          ∙ sym (interned_is (refused k.number k.place)
+          out_refused bs ws₂ new_tables (record { st = k.st; symbol = Err x }) refl
+          ∙ sym (interned_is (refusal_of x)
           (sym (v.is ∙ all_read) ∙ kids_refused bs ws₂ new_tables 0 count k n));
-      low = λ e. absurd (n e);
-      no_place = λ e. absurd (n e);
-      no_symbol = λ z. refl;
+      low = tt;
       frame = frame₂;
     }
 
-    module _ (ok : k.number ≡ 0) where
+    module _ (ok : IsOk k.outcome) where
       pub forest_last : (0 < count) × (0 + count ≤ PENDING.size) × (WORDS ≤ length ws₂)
       forest_last = (
         omega (arith, h.counted, (header_of bs (forest_sound bs h.accepted).laid.header).trees_least),
@@ -197,8 +194,6 @@ module _ {bs ws ws₁ : List ℕ} {t : Tables} {st : State} {count : ℕ} (h : B
         is =
             out_good bs ws₂ new_tables (given k.st (last (pending_from ws₂ 0 count))) refl
             ∙ sym (interned_is _ (sym (v.is ∙ all_read) ∙ kids_good bs ws₂ new_tables 0 count k ok));
-        low = λ z. root_low;
-        no_place = λ z. refl;
-        no_symbol = λ n. absurd (n refl);
+        low = root_low;
         frame = frame₂;
       })

@@ -2,10 +2,11 @@
 -- Assumes nothing.
 use Prim.Native.Nat.{ℕ, ◌+◌, ◌<◌}
 use mathlib.Core.Path.{◌≡◌, refl, ap, ◌∙◌}
-use mathlib.Core.Bool.{Bool, true, false}
+use mathlib.Core.Bool.{false}
+use Rattle.std.specs.Prelude.{Result, Ok, Err, IsOk}
+use Rattle.std.specs.Result.{result_and}
 use mathlib.Core.List.{List, ◌∷◌}
 use native.Mathlib.Omega.{arith}
-use lib.Dec.{eqb}
 use lib.ListN.{get_or}
 use Rattle.regions.specs.Regions.{PENDING}
 use Rattle.model.specs.Answer.{refused, good, ◌>>=◌}
@@ -14,20 +15,22 @@ use Rattle.model.specs.Tree.{Tree, nil, cons, many, take_t, drop_t, size, sizes,
 use Rattle.model.specs.Forest.{record_count}
 use Rattle.model.specs.Intern.{Out, Env, thunked, intern_scoped, intern_last, intern, intern_all}
 use Rattle.model.specs.Intern as intern
+use Rattle.refusal.specs.declared.Refusal.{Refusal}
 use Rattle.walk.specs.Walk.{rest_at, tree_at}
 use Rattle.walk.proofs.Bridge.{trees_at}
-use Rattle.symbols.specs.Words.{words_from}
+use Rattle.symbols.specs.Words.{words_from, pending_from}
 use Rattle.bindings.specs.Bindings.{env_of}
 use Rattle.tables.specs.declared.Tables.{Tables}
 use Rattle.interner.specs.declared.State.{State}
 use Rattle.interner.specs.State.{abs_of}
-use Rattle.interner.specs.Step.{out_of}
+use Rattle.interner.specs.Step.{outcome_of, out_of}
+use Rattle.concluding.specs.Concluding.{branches_of}
 use Rattle.theory.proofs.Acceptance.Checked.{nil-checked, plain_join}
 use Rattle.standing.specs.Standing.{Well, WellAll}
 use Rattle.intern.specs.declared.Here.{Here}
 use Rattle.intern.specs.declared.Read.{Read}
 use Rattle.intern.specs.declared.Kids.{Kids}
-use Rattle.intern.specs.Intern.{Stands, Past, RecordRead, kids_answer, kids_of, trees, Operands, ReadsAll}
+use Rattle.intern.specs.Intern.{Stands, Past, RecordRead, kids_of, trees, Operands, ReadsAll}
 use Rattle.intern.proofs.After.{none_thunked}
 
 -- the definitions: its symbol in a list of one
@@ -55,25 +58,26 @@ one_well {u} w = record {
 -- what the one operand gives
 abbrev pub one_read : List ℕ → ℕ → Kids → Read
 one_read ws held k = record {
-  step = record { st = k.st; symbol = get_or ws (PENDING.first + held) 0; number = k.number; place = k.place };
+  step = record { st = k.st; symbol = result_and k.outcome (Ok (get_or ws (PENDING.first + held) 0)) };
   next = k.next;
 }
 
 one_out : (bs ws : List ℕ) (t : Tables) (held : ℕ) (k : Kids) →
     out_of bs ws t (one_read ws held k).step ≡ intern_last (kids_of bs ws t held 1 k)
 unfolding out_of kids_of intern_last ◌>>=◌ words_from last
-one_out bs ws t held k = go (eqb k.number 0)
+one_out bs ws t held k = go k.outcome
   where
-    go : (b : Bool) →
-        ◌≡◌ {A = Out} (elim b [
-          | true ↦ good (get_or ws (PENDING.first + held) 0, abs_of bs ws t k.st)
-          | false ↦ refused k.number k.place
-        ]) (intern_last (elim b [
-          | true ↦ kids_answer bs ws t held 1 k
-          | false ↦ refused k.number k.place
-        ]))
-    go true = refl
-    go false = refl
+    go : (o : Result Unit Refusal) →
+        ◌≡◌ {A = Out}
+        (outcome_of (λ s. (s, abs_of bs ws t k.st)) (result_and o (Ok (get_or ws (PENDING.first + held) 0))))
+        (intern_last (outcome_of (λ _. (pending_from ws held 1, branches_of k.branches, abs_of bs ws t k.st)) o))
+    go (Ok u) = refl
+    go (Err x) = refl
+
+-- it has a symbol only where the operand is read
+ok_both : (o : Result Unit Refusal) (s : ℕ) → IsOk (result_and o (Ok s)) → IsOk o
+ok_both (Ok u) s e = refl
+ok_both (Err x) s e = e
 
 module _ (bs ws : List ℕ) (t : Tables) (st : State) (i : ℕ) (at : Here) (lt : i < record_count bs) where
   abbrev u : Tree
@@ -102,7 +106,7 @@ module _ (bs ws : List ℕ) (t : Tables) (st : State) (i : ℕ) (at : Here) (lt 
   }
 
   module _ (ws' : List ℕ) (k : Kids) (v : ReadsAll bs ws t st i 1 0 at ws' k) where
-    one_past : k.number ≡ 0 → Past bs i (size u) (rest_at bs i) k.next
+    one_past : IsOk k.outcome → Past bs i (size u) (rest_at bs i) k.next
     unfolding sizes drop_t
     one_past ok =
         let p = v.past ok in
@@ -116,6 +120,6 @@ module _ (bs ws : List ℕ) (t : Tables) (st : State) (i : ℕ) (at : Here) (lt 
           one_out bs ws' t at.held k
           ∙ ap intern_last v.is
           ∙ rw one_tree (one_last u i at.scope (env_of ws at.top) (abs_of bs ws t st));
-      past = one_past;
+      past = λ z. one_past (ok_both k.outcome _ z);
       kept = v.kept;
     }

@@ -4,16 +4,18 @@
 use Prim.Native.Nat.{ℕ, ◌+◌, ◌<◌, ◌≤◌}
 use mathlib.Core.Path.{◌≡◌, refl, sym, ap, ◌∙◌}
 use mathlib.Core.Bool.{Bool, true, false}
-use mathlib.Core.List.{List}
+use Rattle.std.specs.Prelude.{Result, Ok, Err}
+use mathlib.Core.List.{List, [], ◌∷◌}
 use native.Mathlib.Omega.{arith}
 use lib.ListN.{length}
-use lib.Dec.{eqb}
+use Rattle.std.proofs.lemmas.List.{length-append}
 use Rattle.regions.specs.Regions.{WORDS}
-use Rattle.model.specs.Answer.{refused, good, ◌>>=◌}
+use Rattle.model.specs.Answer.{good, ◌>>=◌}
 use Rattle.model.specs.Tree.{depth}
 use Rattle.model.specs.Forest.{record_count}
 use Rattle.model.specs.Intern.{Out, open_thunk, close_thunk, intern_scoped, intern}
 use Rattle.model.specs.Intern as intern
+use Rattle.refusal.specs.declared.Refusal.{Refusal}
 use Rattle.walk.specs.Walk.{tree_at}
 use Rattle.scopes.specs.Scopes.{scope_word, level_of, thunk_word, with_thunk}
 use Rattle.bindings.specs.Bindings.{env_of}
@@ -23,7 +25,7 @@ use Rattle.tables.specs.Tables.{opened, Open}
 use Rattle.tables.proofs.Stack.{opened_open}
 use Rattle.interner.specs.declared.State.{State}
 use Rattle.interner.specs.State.{abs_of, Rep}
-use Rattle.interner.specs.Step.{out_of}
+use Rattle.interner.specs.Step.{outcome_of, out_of}
 use Rattle.opening.specs.Opening.{with_scope, thunk_closed}
 use Rattle.opening.proofs.Counts.{scopes_count}
 use Rattle.opening.proofs.Scopes.{scope_frame}
@@ -42,22 +44,16 @@ use Rattle.intern.proofs.Single.{one-operands, one_read, one_reads}
 abbrev closing : Out → Out
 closing o = o >>= (λ (z : ℕ × intern.State). good (z.0, close_thunk z.1))
 
-out_closed : (bs ws : List ℕ) (t : Tables) (top : ℕ) (r : Read) → Open t top → t.depth < 64 →
+out_closed : (bs ws : List ℕ) (t : Tables) (top : ℕ) (r : Read) → Open t top → length t < 64 →
     out_of bs ws t (closed_read r (thunk_closed r.step.st top)).step ≡ closing (out_of bs ws (opened t top) r.step)
 unfolding out_of ◌>>=◌
-out_closed bs ws t top r is room = go (eqb r.step.number 0)
+out_closed bs ws t top r is room = go r.step.symbol
   where
-    go : (b : Bool) →
-        ◌≡◌ {A = Out} (elim b [
-          | true ↦ good (r.step.symbol, abs_of bs ws t (thunk_closed r.step.st top))
-          | false ↦ refused r.step.number r.step.place
-        ]) (closing (elim b [
-          | true ↦ good (r.step.symbol, abs_of bs ws (opened t top) r.step.st)
-          | false ↦ refused r.step.number r.step.place
-        ]))
-    go true =
-        ap (λ (z : intern.State). good (r.step.symbol, z)) (closed_abs bs ws t r.step.st top is room)
-    go false = refl
+    go : (o : Result ℕ Refusal) →
+        ◌≡◌ {A = Out} (outcome_of (λ s. (s, abs_of bs ws t (thunk_closed r.step.st top))) o)
+        (closing (outcome_of (λ s. (s, abs_of bs ws (opened t top) r.step.st)) o))
+    go (Ok s) = ap (λ (z : intern.State). good (s, z)) (closed_abs bs ws t r.step.st top is room)
+    go (Err x) = refl
 
 -- ---- a child, in a thunk or not
 
@@ -82,11 +78,11 @@ module _ {bs ws : List ℕ} {t : Tables} {st : State} {i : ℕ} {at : Here} (lt 
   abbrev thunk_out : Out
   thunk_out = child_out bs ws t st i true at
 
-  tables_room : t.depth < 64
+  tables_room : length t < 64
   unfolding depth
   tables_room = omega (arith, h.room)
 
-  pub thunk_room : (WORDS ≤ length ws) × (at.scope < st.scopes) × (st.scopes ≤ 2048) × (t.depth < 64)
+  pub thunk_room : (WORDS ≤ length ws) × (at.scope < st.scopes) × (st.scopes ≤ 2048) × (length t < 64)
       × (st.entries ≤ 512)
   thunk_room = (
     h.stands.rep.arena.scoped.words,
@@ -126,8 +122,8 @@ module _ {bs ws : List ℕ} {t : Tables} {st : State} {i : ℕ} {at : Here} (lt 
     scopes₁ : inside.scopes ≡ st.scopes + 1
     scopes₁ = ap (λ (z : State). z.scopes) made.1
 
-    depth₁ : inner.depth ≡ t.depth + 1
-    depth₁ = ap (λ (z : Tables). z.depth) pushed
+    depth₁ : length inner ≡ length t + 1
+    depth₁ = ap length pushed ∙ length-append t (st.entries ∷ [])
 
     thunk_stands : Stands bs ws₁ inner inside i (depth (tree_at bs i)) own
     thunk_stands = record {

@@ -3,8 +3,9 @@
 -- a lambda's body; a forest.
 -- Assumes nothing.
 use Rattle.std.specs.Prelude.{ℕ, suc, ◌+◌, ◌-◌, ◌*◌, ◌<◌, ◌≤◌, ◌≡◌, Bool, true, false, List, [], eqb, length, Some}
+use Rattle.std.specs.Prelude.{IsOk, IfOk, MatchResult}
 use Rattle.regions.specs.Regions.{PENDING, end}
-use Rattle.model.specs.Answer.{refused, good}
+use Rattle.model.specs.Answer.{good}
 use Rattle.model.specs.Tree.{Rec, Tree, Trees, many, take_t, drop_t, size, sizes, depth, depths}
 use Rattle.model.specs.Forest.{record_count}
 use Rattle.model.specs.Binding.{field, args_of, is_block}
@@ -24,7 +25,7 @@ use Rattle.tables.specs.Tables.{new_tables, Open}
 use Rattle.interner.specs.declared.State.{State}
 use Rattle.interner.specs.declared.Step.{Step}
 use Rattle.interner.specs.State.{abs_of, Rep}
-use Rattle.interner.specs.Step.{out_of, BodyOf, Answers}
+use Rattle.interner.specs.Step.{refusal_of, outcome_of, out_of, BodyOf, Answers}
 use Rattle.concluding.specs.Concluding.{branches_of, Concludes, Branched}
 use Rattle.standing.specs.Standing.{Well, WellAll}
 use Rattle.intern.specs.declared.Here.{Here}
@@ -32,6 +33,7 @@ use Rattle.intern.specs.declared.Read.{Read}
 use Rattle.intern.specs.declared.Kids.{Kids}
 use Rattle.intern.specs.declared.Selected.{Selected}
 use Rattle.intern.specs.declared.Selected.TheVariants.{Done, Children}
+use Rattle.intern.specs.declared.Inside.{Inside}
 use Rattle.intern.specs.declared.Entered.{Entered}
 use Rattle.intern.specs.Words.{INTERNING, Kept}
 
@@ -47,7 +49,7 @@ pub record Stands (bs ws : List ℕ) (t : Tables) (st : State) (i d : ℕ) (at :
   pub held : at.held ≤ i
   pub top : at.top ≤ 14 * (64 - d) + i
   pub level : level_of (scope_word ws at.scope) + d ≤ 64
-  pub tables : t.depth + d ≤ 65
+  pub tables : length t + d ≤ 65
 
 -- record i, with its own depth
 abbrev pub StandsAt : List ℕ → List ℕ → Tables → State → ℕ → Here → Type 0
@@ -65,7 +67,7 @@ pub record Reads (bs ws : List ℕ) (t : Tables) (st : State) (i : ℕ) (at : He
   pub rep : Rep bs ws' r.step.st
   pub opened : Open t r.step.st.entries
   pub is : out_of bs ws' t r.step ≡ o
-  pub past : r.step.number ≡ 0 → Past bs i (size (tree_at bs i)) (rest_at bs i) r.next
+  pub past : IsOk r.step.symbol → Past bs i (size (tree_at bs i)) (rest_at bs i) r.next
   pub kept : Kept at ws ws' st r.step.st
 
 -- ---- a record
@@ -125,7 +127,7 @@ kids_answer bs ws t held count k = good (pending_from ws held count, branches_of
 -- or a refusal
 unfoldable pub kids_of : List ℕ → List ℕ → Tables → ℕ → ℕ → Kids → Outs
 kids_of bs ws t held count k =
-    elim (eqb k.number 0) [ true ↦ kids_answer bs ws t held count k | false ↦ refused k.number k.place ]
+    outcome_of (λ _. (pending_from ws held count, branches_of k.branches, abs_of bs ws t k.st)) k.outcome
 
 -- record i can be concluded, and is
 abbrev pub Concluding : List ℕ → List ℕ → ℕ → Here → Kids → Type 0
@@ -141,8 +143,8 @@ pub record Completable (bs ws : List ℕ) (t : Tables) (i : ℕ) (at : Here) (k 
   pub rep : Rep bs ws k.st
   pub opened : Open t k.st.entries
   pub branched : Branched k.branches
-  pub concludes : k.number ≡ 0 → Concluding bs ws i at k
-  pub past : k.number ≡ 0 → Past bs i (size (tree_at bs i)) (rest_at bs i) k.next
+  pub concludes : IsOk k.outcome → Concluding bs ws i at k
+  pub past : IsOk k.outcome → Past bs i (size (tree_at bs i)) (rest_at bs i) k.next
 
 -- the answer for it, and it is completed
 abbrev pub completes : List ℕ → List ℕ → Tables → ℕ → Here → Kids → Out
@@ -175,7 +177,7 @@ SelectedRead bs ws t st i at ws' s =
 -- record i, which is no definition, may be read in a thunk of its own, opened in scope `at.scope`
 pub record InThunk (bs ws : List ℕ) (t : Tables) (st : State) (i : ℕ) (at : Here) : Type 0 where
   pub stands : Stands bs ws t st i (depth (tree_at bs i)) at
-  pub room : t.depth + depth (tree_at bs i) < 65
+  pub room : length t + depth (tree_at bs i) < 65
   pub few : st.scopes ≤ 2048
   pub well : Well (tree_at bs i) false st.scopes (env_of ws at.top) (open_thunk at.scope (abs_of bs ws t st))
 
@@ -200,7 +202,7 @@ pub record Operands (bs ws : List ℕ) (t : Tables) (st : State) (i count op : �
   pub there : count ≤ many (trees_from bs i)
   pub within : i ≤ record_count bs
   pub stands : Stands bs ws t st i (depths (trees bs i count)) at
-  pub room : (j : ℕ) → thunked op j ≡ true → t.depth + depths (trees bs i count) < 65
+  pub room : (j : ℕ) → thunked op j ≡ true → length t + depths (trees bs i count) < 65
   pub block : Bool
   pub plain : Plain op block
   pub paid : ℕ
@@ -212,8 +214,8 @@ pub record ReadsAll (bs ws : List ℕ) (t : Tables) (st : State) (i count op : �
   pub opened : Open t k.st.entries
   pub is : kids_of bs ws' t at.held count k
       ≡ intern_all (trees bs i count) op 0 i at.scope (env_of ws at.top) (abs_of bs ws t st)
-  pub past : k.number ≡ 0 → Past bs i (sizes (trees bs i count)) (drop_t count (trees_from bs i)) k.next
-  pub pending : k.number ≡ 0 → at.held + count ≤ PENDING.size
+  pub past : IsOk k.outcome → Past bs i (sizes (trees bs i count)) (drop_t count (trees_from bs i)) k.next
+  pub pending : IsOk k.outcome → at.held + count ≤ PENDING.size
   pub branched : Branched k.branches
   pub kept : Kept at ws ws' st k.st
 
@@ -223,17 +225,17 @@ pub record ReadsAll (bs ws : List ℕ) (t : Tables) (st : State) (i count op : �
 abbrev pub args_made : List ℕ → ℕ → ℕ → intern.State → Outs
 args_made bs i cur s = alloc_args i cur (rec_at bs i) (args_of (rec_at bs i).aux (rec_at bs i).lit) s
 
--- the body of lambda i is opened over arguments from symbol `first` on, which are bound
-pub record Body (bs ws : List ℕ) (t : Tables) (st : State) (i : ℕ) (at : Here) (ws' : List ℕ) (e : Entered)
+-- the body of lambda i is opened over arguments from symbol `first` on, which are bound; the state is then s
+pub record Body (bs ws : List ℕ) (t : Tables) (st : State) (i : ℕ) (at : Here) (ws' : List ℕ) (s : State) (e : Inside)
     : Type 0 where
   pub made : intern.State
   pub is : args_made bs i at.scope (abs_of bs ws t st) ≡ good (range e.first (rec_at bs i).aux, [], made)
   pub scope : e.at.scope ≡ length made.scopes
-  pub abs : abs_of bs ws' t e.st
+  pub abs : abs_of bs ws' t s
       ≡ open_scope at.scope (Some (range e.first (rec_at bs i).aux)) made.tables made
   pub env : env_of ws' e.at.top
       ≡ bind_args (args_of (rec_at bs i).aux (rec_at bs i).lit) (range e.first (rec_at bs i).aux) (env_of ws at.top)
-  pub body : BodyOf ws' e.st.scopes at.scope e.at.scope (range e.first (rec_at bs i).aux)
+  pub body : BodyOf ws' s.scopes at.scope e.at.scope (range e.first (rec_at bs i).aux)
   pub level : level_of (scope_word ws' e.at.scope) ≡ level_of (scope_word ws at.scope) + 1
   pub held : e.at.held ≡ at.held
   pub more : at.top ≤ e.at.top
@@ -245,8 +247,8 @@ pub record Enters (bs ws : List ℕ) (t : Tables) (st : State) (i : ℕ) (at : H
   pub rep : Rep bs ws' e.st
   pub opened : Open t e.st.entries
   pub kept : Kept at ws ws' st e.st
-  pub fails : (e.number ≡ 0 → ⊥) → args_made bs i at.scope (abs_of bs ws t st) ≡ refused e.number e.place
-  pub opens : e.number ≡ 0 → Body bs ws t st i at ws' e
+  pub opens : MatchResult e.inside (Body bs ws t st i at ws' e.st)
+      (λ r. args_made bs i at.scope (abs_of bs ws t st) ≡ refusal_of r)
 
 -- ---- a forest
 
@@ -255,7 +257,5 @@ pub record Enters (bs ws : List ℕ) (t : Tables) (st : State) (i : ℕ) (at : H
 pub record Interned (bs ws ws' : List ℕ) (r : Step) : Type 0 where
   pub rep : Rep bs ws' r.st
   pub is : out_of bs ws' new_tables r ≡ interned bs
-  pub low : r.number ≡ 0 → r.symbol < r.st.symbols
-  pub no_place : r.number ≡ 0 → r.place ≡ 0
-  pub no_symbol : (r.number ≡ 0 → ⊥) → r.symbol ≡ 0
+  pub low : IfOk r.symbol (λ s. s < r.st.symbols)
   pub frame : Frame INTERNING.first (end INTERNING) ws ws'

@@ -22,6 +22,7 @@ ghost use Rattle.intern.specs.Intern.{Enters, Concluded, Completable, Completed,
 
 use concluding::Branches;
 use interner::{State, Step};
+use refusal::{Check, Refusal};
 use shape::{BLOCK_VALUE, FUNC_VALUE, SELECT_FIELD, VAL_DEF, VAL_USE};
 use tables::Tables;
 
@@ -40,25 +41,29 @@ pub struct Read {
     pub next: usize,
 }
 
-// Children read: their symbols are pending; the record after them; the scopes of the thunks among them. Or, where
-// `number` is not 0, a refusal. `branches` stands first: in this order a store and the load of it are of one width.
+// Children read: their symbols are pending; the record after them; the scopes of the thunks among them. Or a refusal,
+// with the state in which it was met. `branches` stands first: in this order a store and the load of it are of one
+// width.
 #[derive(Clone, Copy)]
 pub struct Kids {
     pub branches: Branches,
     pub st: State,
-    pub number: u32,
-    pub place: u32,
+    pub outcome: Result<(), Refusal>,
     pub next: usize,
 }
 
-// The body of a lambda, opened: where it is read, and the first of the arguments. Or a refusal.
+// Inside a lambda: where its body is read, and the first of the arguments.
+#[derive(Clone, Copy)]
+pub struct Inside {
+    pub at: Here,
+    pub first: u32,
+}
+
+// The body of a lambda, opened, and the state after that; or a refusal and the state in which it was met.
 #[derive(Clone, Copy)]
 pub struct Entered {
     pub st: State,
-    pub number: u32,
-    pub place: u32,
-    pub at: Here,
-    pub first: u32,
+    pub inside: Result<Inside, Refusal>,
 }
 
 // A record that is done; or its children, read for the last time, with the record still to be completed.
@@ -88,19 +93,19 @@ fn enter_lambda(
 {
     let cur = at.scope;
     let top = at.top;
-    let count = record::wide(record::aux(forest, i));
+    let count = usize::from(record::aux(forest, i));
     let made = interner::alloc_args(forest, work, st, cur, i as u32, count);
     let after = made.st;
-    if made.number != 0 {
-        return Entered {
-            st: after,
-            number: made.number,
-            place: made.place,
-            at,
-            first: 0,
-        };
-    }
-    let first = small::first_of(made.symbol, count);
+    let symbol = match made.symbol {
+        Ok(s) => s,
+        Err(e) => {
+            return Entered {
+                st: after,
+                inside: Err(e),
+            };
+        }
+    };
+    let first = small::first_of(symbol, count);
     let body = after.scopes as usize;
     let inside = opening::open_body(work, after, cur, first, count as u32);
     let end = bindings::bind_args(forest, work, i, top, first);
@@ -111,10 +116,7 @@ fn enter_lambda(
     };
     Entered {
         st: inside,
-        number: 0,
-        place: 0,
-        at: inner,
-        first,
+        inside: Ok(Inside { at: inner, first }),
     }
 }
 
@@ -134,14 +136,10 @@ fn conclude(forest: &[u8], work: &mut [u32], t: Tables, i: usize, at: Here, k: K
     let held = at.held;
     let cur = at.scope;
     let count = record::kids(forest, i);
-    let shape = record::shape(forest, i);
-    if shape == VAL_DEF {
-        return concluding::last(work, st, held, count);
+    match record::shape(forest, i) {
+        VAL_DEF | BLOCK_VALUE => concluding::last(work, st, held, count),
+        _ => concluding::general(forest, work, t, st, i, cur, held, count, b),
     }
-    if shape == BLOCK_VALUE {
-        return concluding::last(work, st, held, count);
-    }
-    concluding::general(forest, work, t, st, i, cur, held, count, b)
 }
 
 // Record i, whose children are read or refused. Rules out: a symbol though a child is refused; i + 1 as the next.
@@ -150,9 +148,8 @@ fn complete(forest: &[u8], work: &mut [u32], t: Tables, i: usize, at: Here, k: K
     requires completable { Completable forest.now work.old t i at k }
     ensures { Completed forest.now work.old t i at k work.new result }
 {
-    if k.number != 0 {
-        let after = k.st;
-        return small::refused(after, k.number, k.place, i);
+    if let Err(e) = k.outcome {
+        return small::refused(k.st, e, i);
     }
     let step = conclude(forest, work, t, i, at, k);
     Read { step, next: k.next }
@@ -170,7 +167,11 @@ fn subtree(forest: &[u8], work: &mut [u32], t: Tables, i: usize, at: Here, st: S
     ensures { RecordRead forest.now work.old t st i at work.new result }
 {
     if st.readings == 2048 {
-        return small::refused(st, 11, i as u32, i);
+        let full = Refusal {
+            check: Check::Readings,
+            place: i as u32,
+        };
+        return small::refused(st, full, i);
     }
     let counted = opening::count_reading(st);
     let shape = record::shape(forest, i);
@@ -207,26 +208,25 @@ fn lambda(forest: &[u8], work: &mut [u32], t: Tables, i: usize, at: Here, st: St
     ensures { LambdaRead forest.now work.old t st i at work.new result }
 {
     let e = enter_lambda(forest, work, t, i, at, st);
-    let inside = e.st;
-    if e.number != 0 {
-        return small::refused(inside, e.number, e.place, i);
-    }
-    let inner = e.at;
+    let inside = match e.inside {
+        Ok(x) => x,
+        Err(r) => return small::refused(e.st, r, i),
+    };
+    let inner = inside.at;
     let op = record::opcode(forest, i);
-    let k = operands(forest, work, t, i + 1, 1, op, inner, inside);
-    let after = k.st;
-    if k.number != 0 {
-        return small::refused(after, k.number, k.place, i);
+    let k = operands(forest, work, t, i + 1, 1, op, inner, e.st);
+    if let Err(r) = k.outcome {
+        return small::refused(k.st, r, i);
     }
     let step = concluding::lambda(
         forest,
         work,
         t,
-        after,
+        k.st,
         i,
         at.scope,
         at.held,
-        e.first,
+        inside.first,
         inner.scope,
     );
     Read { step, next: k.next }
@@ -245,7 +245,7 @@ fn field(forest: &[u8], work: &mut [u32], t: Tables, i: usize, at: Here, st: Sta
 {
     let op = record::opcode(forest, i);
     let k = operands(forest, work, t, i + 1, 1, op, at, st);
-    if k.number != 0 {
+    if k.outcome.is_err() {
         return Selected::Children(k);
     }
     let after = k.st;
@@ -279,29 +279,41 @@ fn operands(
     ensures { ReadsAll forest.now work.old t st i count op at work.new result }
 {
     let held = at.held;
-    let mut k = small::unread(st, i);
+    let mut branches = Branches::Zero;
+    let mut before = st;
+    let mut next = i;
     let mut top = at.top;
-    let mut j = 0;
-    while j < count {
+    for j in 0..count {
         let thunk = shape::is_thunked(op, j);
-        let next = k.next;
-        let before = k.st;
         let here = small::child_at(at, j, top);
         let r = if thunk {
             in_thunk(forest, work, t, next, here, before)
         } else {
             subtree(forest, work, t, next, here, before)
         };
-        let step = r.step;
-        if step.number != 0 {
-            return small::failed(k, r);
-        }
-        work[regions::PENDING + held + j] = step.symbol;
-        top = bindings::bind_def(forest, work, next, top, step.symbol);
-        k = small::with_child(k, thunk, r);
-        j += 1;
+        let symbol = match r.step.symbol {
+            Ok(s) => s,
+            Err(e) => {
+                return Kids {
+                    branches,
+                    st: r.step.st,
+                    outcome: Err(e),
+                    next: r.next,
+                };
+            }
+        };
+        work[regions::PENDING + held + j] = symbol;
+        top = bindings::bind_def(forest, work, next, top, symbol);
+        branches = small::note(thunk, branches, before.scopes as usize);
+        before = r.step.st;
+        next = r.next;
     }
-    k
+    Kids {
+        branches,
+        st: before,
+        outcome: Ok(()),
+        next,
+    }
 }
 
 // A child in a thunk of its own, read as the one operand of nothing: opcode 0 has no thunks. Rules out: a thunk's table
@@ -328,9 +340,7 @@ fn in_thunk(forest: &[u8], work: &mut [u32], t: Tables, i: usize, at: Here, st: 
     let last = k.st;
     let closed = Step {
         st: opening::close_thunk(last, top),
-        symbol: work[regions::PENDING + held],
-        number: k.number,
-        place: k.place,
+        symbol: k.outcome.and(Ok(work[regions::PENDING + held])),
     };
     Read {
         step: closed,
@@ -340,8 +350,8 @@ fn in_thunk(forest: &[u8], work: &mut [u32], t: Tables, i: usize, at: Here, st: 
 
 // ---- a forest
 
-// Gives the symbol of the root, the last tree, with the state after the whole forest; or the definition's refusal, 11 or
-// 12 with its place, with symbol 0 and the state in which it was met. Either way the words hold the state that is given,
+// Gives the symbol of the root, the last tree, with the state after the whole forest; or the definition's refusal, of
+// readings or of symbols, and the state in which it was met. Either way the words hold the state that is given,
 // region by region: symbols, slots, scopes, entries and remembered pairs, each up to its count (`Rep`); after a root's
 // symbol that state stands for the definition's. What else interning may write (`INTERNING`) is left free: pending
 // symbols, bindings, and words of a region past its count. All other words are as they were. Rules out: the first tree's
@@ -360,14 +370,11 @@ pub fn forest(forest: &[u8], work: &mut [u32]) -> Step
     };
     let t = Tables::new();
     let k = operands(forest, work, t, 0, count, 0, at, st);
-    let after = k.st;
-    if k.number != 0 {
+    if let Err(e) = k.outcome {
         return Step {
-            st: after,
-            symbol: 0,
-            number: k.number,
-            place: k.place,
+            st: k.st,
+            symbol: Err(e),
         };
     }
-    concluding::last(work, after, 0, count)
+    concluding::last(work, k.st, 0, count)
 }

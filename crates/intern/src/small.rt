@@ -2,23 +2,19 @@
 // first argument.
 ghost use Rattle.std.specs.Prelude.{◌≡◌, true, ◌+◌, ◌<◌, ◌≤◌};
 ghost use Rattle.laws.specs.Range.{range};
-ghost use Rattle.intern.specs.Steps.{refused_read, child_at, noted, unread, with_child, failed};
+ghost use Rattle.intern.specs.Steps.{refused_read, child_at, noted, unread};
 ghost use Rattle.intern.specs.Steps.{repeats, repeated};
 
 use crate::{Here, Kids, Read};
 use concluding::Branches;
 use interner::{State, Step};
+use refusal::Refusal;
 
-// A refusal, at record `place`. Rules out: number 0; the record after it as the place.
-pub fn refused(st: State, number: u32, place: u32, next: usize) -> Read
-    ensures { result ≡ refused_read st number place next }
+// A refusal. Rules out: another; a symbol.
+pub fn refused(st: State, e: Refusal, next: usize) -> Read
+    ensures { result ≡ refused_read st e next }
 {
-    let step = Step {
-        st,
-        symbol: 0,
-        number,
-        place,
-    };
+    let step = Step { st, symbol: Err(e) };
     Read { step, next }
 }
 
@@ -39,82 +35,31 @@ fn one_more(b: Branches, scope: usize) -> Branches
     requires { scope ≤ 2049 }
     ensures { result ≡ noted true b scope }
 {
-    if b.count == 0 {
-        return Branches {
-            count: 1,
-            first: scope as u32,
-            second: b.second,
-        };
-    }
-    Branches {
-        count: 2,
-        first: b.first,
-        second: scope as u32,
+    let scope = scope as u32;
+    match b {
+        Branches::Zero => Branches::One(scope),
+        Branches::One(first) | Branches::Two(first, _) => Branches::Two(first, scope),
     }
 }
 
 // The scopes of thunks, after a child that was or was not read in one. Rules out: the scope of a child that has no
 // thunk; a thunk not noted.
-fn note(thunk: bool, b: Branches, scope: usize) -> Branches
+pub fn note(thunk: bool, b: Branches, scope: usize) -> Branches
     requires { scope ≤ 2049 }
     ensures { result ≡ noted thunk b scope }
 {
-    if thunk {
-        return one_more(b, scope);
-    }
-    b
+    if thunk { one_more(b, scope) } else { b }
 }
 
 // No child is read yet; the first is record i. Rules out: a refusal; a thunk.
 pub fn unread(st: State, i: usize) -> Kids
     ensures { result ≡ unread st i }
 {
-    let branches = Branches {
-        count: 0,
-        first: 0,
-        second: 0,
-    };
     Kids {
+        branches: Branches::Zero,
         st,
-        number: 0,
-        place: 0,
+        outcome: Ok(()),
         next: i,
-        branches,
-    }
-}
-
-// One child more is read. Rules out: the state before it; the record after its own root as the next.
-pub fn with_child(k: Kids, thunk: bool, r: Read) -> Kids
-    requires { k.st.scopes ≤ 2049 }
-    ensures { result ≡ with_child k thunk r }
-{
-    let before = k.st;
-    let b = k.branches;
-    let branches = note(thunk, b, before.scopes as usize);
-    let step = r.step;
-    let st = step.st;
-    Kids {
-        st,
-        number: 0,
-        place: 0,
-        next: r.next,
-        branches,
-    }
-}
-
-// A child that is refused. Rules out: its number 0; the place of its parent.
-pub fn failed(k: Kids, r: Read) -> Kids
-    ensures { result ≡ failed k r }
-{
-    let step = r.step;
-    let st = step.st;
-    let branches = k.branches;
-    Kids {
-        st,
-        number: step.number,
-        place: step.place,
-        next: r.next,
-        branches,
     }
 }
 
@@ -124,10 +69,7 @@ pub fn repeats(before: State, after: State) -> bool
     requires { (before.readings ≤ 2048) × (after.readings ≤ 2048) }
     ensures { result ≡ repeats before after }
 {
-    if after.scopes != before.scopes {
-        return false;
-    }
-    after.readings + after.readings <= 2048 + before.readings
+    after.scopes == before.scopes && after.readings + after.readings <= 2048 + before.readings
 }
 
 // Children read from `before` on, counted again. Rules out: their readings counted once; other symbols, scopes or
@@ -137,15 +79,9 @@ pub fn repeated(before: State, k: Kids) -> Kids
     requires readings_bound { k.st.readings + k.st.readings ≤ 2048 + before.readings }
     ensures { result ≡ repeated before k }
 {
-    let after = k.st;
-    let st = opening::count_readings(after, after.readings - before.readings);
-    let branches = k.branches;
     Kids {
-        st,
-        number: k.number,
-        place: k.place,
-        next: k.next,
-        branches,
+        st: opening::count_readings(k.st, k.st.readings - before.readings),
+        ..k
     }
 }
 
@@ -154,8 +90,5 @@ pub fn first_of(symbol: u32, count: usize) -> u32
     requires { symbol + count ≤ 512 }
     ensures { (range result count ≡ range symbol count) × (result < 512) }
 {
-    if count == 0 {
-        return 0;
-    }
-    symbol
+    if count == 0 { 0 } else { symbol }
 }

@@ -236,8 +236,8 @@ module _ {bs ws₀ : List ℕ} {st₀ : State} {cur at count : ℕ} (rep : Rep b
     rep = f.rep;
     leaves = f.leaves;
     is = λ t opened xs l. sym (good_args t opened xs l);
-    first = λ z. (refl, omega (arith, f.symbols, f.few));
-    args = λ z x i. let w = range_in st₀.symbols count x i in rw w.2 (f.args w.0 (omega (arith, w.1)));
+    first = (refl, omega (arith, f.symbols, f.few));
+    args = λ x i. let w = range_in st₀.symbols count x i in rw w.2 (f.args w.0 (omega (arith, w.1)));
   })
     where
       good_args : (t : Tables) → Open t st₀.entries → (xs : List (ℕ × List ℕ)) → length xs ≡ count →
@@ -259,6 +259,6 @@ module _ {bs ws₀ : List ℕ} {st₀ : State} {cur at count : ℕ} (rep : Rep b
         let n = syms_length bs ws₀ st₀.symbols in
         sym (args_full at cur (row_at bs at).rec xs (abs_of bs ws₀ t st₀) (omega (arith, n, rep.arena.scoped.few))
         (omega (arith, n)));
-    first = λ z. absurd (omega arith);
-    args = λ z. absurd (omega arith);
+    first = tt;
+    args = tt;
   })

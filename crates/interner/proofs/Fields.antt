@@ -4,7 +4,7 @@
 use Prim.Native.Nat.{ℕ, ◌+◌, ◌<◌}
 use mathlib.Core.Path.{◌≡◌, refl, sym, ap, ◌∙◌, subst}
 use mathlib.Core.Bool.{Bool, true, false}
-use Rattle.std.specs.Prelude.{None, Some}
+use Rattle.std.specs.Prelude.{None, Some, Ok, Err}
 use mathlib.Core.List.{List, [], ◌∷◌}
 use native.Mathlib.Omega.{arith}
 use borrow.Author.Tests.{eq-eqb, ne_eqb}
@@ -18,6 +18,7 @@ use Rattle.model.specs.Intern.{Sym, sym_at, Out, operation, union_deps, finish, 
 use Rattle.model.specs.Intern.{new_projections, pair_projection}
 use Rattle.model.specs.Intern as intern
 use Rattle.laws.proofs.Holds.{Holds}
+use Rattle.refusal.specs.declared.Refusal.{Refusal}
 use Rattle.record.specs.Record.{row_at}
 use Rattle.key.specs.declared.Node.{Node}
 use Rattle.key.specs.declared.Node.TheVariants.{Op}
@@ -32,7 +33,7 @@ use Rattle.interner.specs.declared.State.{State}
 use Rattle.interner.specs.declared.Step.{Step}
 use Rattle.interner.specs.State.{abs_of, Rep}
 use Rattle.interner.specs.Step.{out_of, given, Answers, Ready, finish_of, Projects, field_rec, field_of, with_pair}
-use Rattle.interner.proofs.Sharing.{leaves_then, out-given, out_good, out_number, answers_as, given_answers}
+use Rattle.interner.proofs.Sharing.{leaves_then, out-given, out_good, out_refused, low_at, answers_as, given_answers}
 use Rattle.interner.proofs.Keeps.{Keeps, finish_keeps}
 use Rattle.memo.proofs.Below.{recall_low}
 use Rattle.interner.proofs.Memos.{Unpaired, abs_remembered, rep_remembered, leaves_remembered}
@@ -111,11 +112,12 @@ module _ {bs ws : List ℕ} {st : State} {cur at held : ℕ} (h : Projects bs ws
 -- ---- the state between them
 
 module _ {bs ws : List ℕ} {t : Tables} {st : State} {cur at held n : ℕ} (p : Projects bs ws st cur at held n) (i : ℕ)
-    {ws₁ : List ℕ} {a : Step} (h : Answers bs ws t st (field_in bs ws t st cur at held i) ws₁ a) (ok : a.number ≡ 0) where
-  field_good : field_in bs ws t st cur at held i ≡ good (a.symbol, abs_of bs ws₁ t a.st)
+    {ws₁ : List ℕ} {a : Step} (h : Answers bs ws t st (field_in bs ws t st cur at held i) ws₁ a) {x : ℕ}
+    (ok : a.symbol ≡ Ok x) where
+  field_good : field_in bs ws t st cur at held i ≡ good (x, abs_of bs ws₁ t a.st)
   field_good = sym h.is ∙ out_good bs ws₁ t a ok
 
-  field_keeps : Keeps (abs_of bs ws t st) 1 (a.symbol, abs_of bs ws₁ t a.st)
+  field_keeps : Keeps (abs_of bs ws t st) 1 (x, abs_of bs ws₁ t a.st)
   field_keeps =
       subst (Holds (Keeps (abs_of bs ws t st) 1)) field_good
       (finish_keeps at cur (field_rec (row_at bs at).rec i) (pend held ws ∷ []) [] (operation []) (abs_of bs ws t st))
@@ -126,10 +128,10 @@ module _ {bs ws : List ℕ} {t : Tables} {st : State} {cur at held n : ℕ} (p :
 -- ---- both
 
 -- a refusal is handed on
-out_refused : (bs ws : List ℕ) (t : Tables) (r : Step) → (r.number ≡ 0 → ⊥) → (f : ℕ × intern.State → Out) →
+handed_on : (bs ws : List ℕ) (t : Tables) (r : Step) {e : Refusal} → r.symbol ≡ Err e → (f : ℕ × intern.State → Out) →
     (out_of bs ws t r >>= f) ≡ out_of bs ws t r
 unfolding ◌>>=◌
-out_refused bs ws t r n f = rw (out_number bs ws t r n)
+handed_on bs ws t r n f = rw (out_refused bs ws t r n)
 
 module _ {bs ws : List ℕ} {t : Tables} {st : State} {cur at held : ℕ} (p : Projects bs ws st cur at held 2) where
   module _ {ws₁ : List ℕ} {a : Step} (h : Answers bs ws t st (field_in bs ws t st cur at held 1) ws₁ a) where
@@ -142,13 +144,14 @@ module _ {bs ws : List ℕ} {t : Tables} {st : State} {cur at held : ℕ} (p : P
     unfolding new_projections
     new_is i = refl
 
-    pub first_refused : (i : ℕ) → (a.number ≡ 0 → ⊥) → Answers bs ws t st (new_of bs ws t st cur at held i) ws₁ a
+    pub first_refused : (i : ℕ) {e : Refusal} → a.symbol ≡ Err e →
+        Answers bs ws t st (new_of bs ws t st cur at held i) ws₁ a
     first_refused i n =
         answers_as h
         (sym h.is
-        ∙ (sym (out_refused bs ws₁ t a n (second i)) ∙ (ap (λ (m : Out). m >>= second i) h.is ∙ sym (new_is i))))
+        ∙ (sym (handed_on bs ws₁ t a n (second i)) ∙ (ap (λ (m : Out). m >>= second i) h.is ∙ sym (new_is i))))
 
-    module _ (ok : a.number ≡ 0) (rep : Rep bs ws st) where
+    module _ {x : ℕ} (ok : a.symbol ≡ Ok x) (rep : Rep bs ws st) where
       pub projects_next : Projects bs ws₁ a.st cur at held 1
       projects_next =
           let k = field_keeps p 1 h ok in
@@ -169,7 +172,7 @@ module _ {bs ws : List ℕ} {t : Tables} {st : State} {cur at held : ℕ} (p : P
 
       module _ {ws₂ : List ℕ} {b : Step} (g : Answers bs ws₁ t a.st (field_in bs ws₁ t a.st cur at held 2) ws₂ b) where
         abbrev last : ℕ → ℕ × intern.State → Out
-        last i o = good (pick i (a.symbol, o.0), remember (pend held ws) a.symbol o.0 o.1)
+        last i o = good (pick i (x, o.0), remember (pend held ws) x o.0 o.1)
 
         new_second : (i : ℕ) → new_of bs ws t st cur at held i ≡ (out_of bs ws₂ t b >>= last i)
         unfolding ◌>>=◌
@@ -181,46 +184,47 @@ module _ {bs ws : List ℕ} {t : Tables} {st : State} {cur at held : ℕ} (p : P
             (sym (same_pending p 1 h ok))
             ∙ sym g.is))
 
-        pub second_refused : (i : ℕ) → (b.number ≡ 0 → ⊥) → Answers bs ws t st (new_of bs ws t st cur at held i) ws₂ b
+        pub second_refused : (i : ℕ) {e : Refusal} → b.symbol ≡ Err e →
+            Answers bs ws t st (new_of bs ws t st cur at held i) ws₂ b
         second_refused i n = record {
           rep = g.rep;
           leaves = leaves_then h.leaves g.leaves;
           low = g.low;
-          is = sym (new_second i ∙ out_refused bs ws₂ t b n (last i));
+          is = sym (new_second i ∙ handed_on bs ws₂ t b n (last i));
         }
 
-        module _ (fine : b.number ≡ 0) (new : recall (memo_of ws st.memo) (pend held ws) ≡ None) where
-          pub unpaired : Unpaired ws₂ b.st (pend held ws) a.symbol b.symbol
+        module _ {y : ℕ} (fine : b.symbol ≡ Ok y) (new : recall (memo_of ws st.memo) (pend held ws) ≡ None) where
+          pub unpaired : Unpaired ws₂ b.st (pend held ws) x y
           unpaired = record {
             low = omega (arith, p.low, h.leaves.more, g.leaves.more);
-            first = omega (arith, h.low, g.leaves.more);
-            second = g.low;
+            first = omega (arith, low_at h ok, g.leaves.more);
+            second = low_at g fine;
             new = ap (λ (ms : List (ℕ × ℕ × ℕ)). recall ms (pend held ws))
                 ((field_keeps projects_next 2 g fine).memo ∙ (field_keeps p 1 h ok).memo)
                 ∙ new;
           }
 
           abbrev ws₃ : List ℕ
-          ws₃ = remembered ws₂ b.st.memo (pend held ws) a.symbol b.symbol
+          ws₃ = remembered ws₂ b.st.memo (pend held ws) x y
 
           abbrev result : ℕ → Step
-          result i = given (with_pair b.st) (pick i (a.symbol, b.symbol))
+          result i = given (with_pair b.st) (pick i (x, y))
 
           new_both : (i : ℕ) → Open t b.st.entries → new_of bs ws t st cur at held i ≡ out_of bs ws₃ t (result i)
           unfolding ◌>>=◌
           new_both i opened =
               new_second i
               ∙ (ap (λ (m : Out). m >>= last i) (out_good bs ws₂ t b fine)
-              ∙ (ap (λ (s : intern.State). good (pick i (a.symbol, b.symbol), s))
+              ∙ (ap (λ (s : intern.State). good (pick i (x, y), s))
               (sym (abs_remembered g.rep unpaired t opened))
-              ∙ sym (out-given bs ws₃ t (with_pair b.st) (pick i (a.symbol, b.symbol)))))
+              ∙ sym (out-given bs ws₃ t (with_pair b.st) (pick i (x, y)))))
 
           pub both_made : (i : ℕ) {ws' : List ℕ} {r : Step} → Open t st.entries → ws' ≡ ws₃ → r ≡ result i →
               Answers bs ws t st (new_of bs ws t st cur at held i) ws' r
           both_made i opened d e = rw (d, e) (record {
             rep = rep_remembered g.rep unpaired;
             leaves = leaves_then (leaves_then h.leaves g.leaves) (leaves_remembered g.rep unpaired);
-            low = pick_low i a.symbol b.symbol b.st.symbols unpaired.first g.low;
+            low = pick_low i x y b.st.symbols unpaired.first unpaired.second;
             is = sym (new_both i (open_later t st.entries opened b.st.entries
                 (omega (arith, h.leaves.entries, g.leaves.entries))));
           })

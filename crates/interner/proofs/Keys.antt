@@ -24,9 +24,8 @@ use Rattle.key.specs.declared.Parts.{Parts}
 use Rattle.key.specs.Key.{parts_of}
 use Rattle.symbols.specs.Words.{pending_from}
 use Rattle.symbols.specs.Symbols.{syms_of, key_rec, rec_of, own_of, model_node}
-use Rattle.tables.specs.declared.Found.{Found}
 use Rattle.tables.specs.declared.Tables.{Tables}
-use Rattle.tables.specs.Tables.{found_of, entries, tables, tables_of, Open, Entries, EntriesBelow}
+use Rattle.tables.specs.Tables.{entries, tables, tables_of, Open, Entries, EntriesBelow}
 use Rattle.tables.proofs.Stack.{entries_sound}
 use Rattle.interner.specs.declared.State.{State}
 use Rattle.interner.specs.declared.Step.{Step}
@@ -101,12 +100,12 @@ module _ {bs ws : List ℕ} {t : Tables} {st : State} {cur : ℕ} {node : Node} 
   found_low s f =
       lookup_low (syms_of bs ws st.symbols) (rec_of bs node) (pending_from ws held count) st.symbols
       (tables_of ws t st.entries) s
-      (tables_low ws st.entries st.symbols rep.entries.below t.base t.depth st.entries opened.starts
+      (tables_low ws st.entries st.symbols rep.entries.below t (length t) st.entries opened.starts
       (omega arith))
       (sym f)
 
   pub found_answers : (s : ℕ) → Some s ≡ sought →
-      Answers bs ws t st (finish_of bs ws t st cur node held count) ws (step_to st node count s)
+      Answers bs ws t st (finish_of bs ws t st cur node held count) ws (step_to st node count (Some s))
   found_answers s f =
       answers_as (given_answers rep (found_low s f) (step_found st node count s (found_low s f)))
       (sym (finish_some (parts_of node).source cur (rec_of bs node) (pending_from ws held count) (own_of bs node)
@@ -134,10 +133,10 @@ module _ {bs ws : List ℕ} {t : Tables} {st : State} {cur : ℕ} {node : Node} 
 
   -- what `find` answers
 
-  pub found_is : (p : Parts) → p ≡ parts_of node → (f : Found) (o : Option ℕ) → ((n : ℕ) → EntriesBelow ws st.entries n →
-      found_of f ≡ lookup (syms_of bs ws n) (key_rec bs p.source p.field) (pending_from ws held count)
+  pub found_is : (p : Parts) → p ≡ parts_of node → (f o : Option ℕ) → ((n : ℕ) → EntriesBelow ws st.entries n →
+      f ≡ lookup (syms_of bs ws n) (key_rec bs p.source p.field) (pending_from ws held count)
       (tables_of ws t st.entries)) →
-      found_of f ≡ o → o ≡ sought
+      f ≡ o → o ≡ sought
   found_is p is f o h e = sym e ∙ (h st.symbols rep.entries.below ∙ rw is)
 
 -- ---- what functions ask

@@ -2,13 +2,13 @@
 -- around it; its levels; the levels that `key_levels` answers.
 -- Assumes nothing.
 use Prim.Native.Nat.{ℕ, suc, ◌+◌, ◌<◌}
-use mathlib.Core.Path.{◌≡◌, sym, ap, ◌∙◌, subst}
+use mathlib.Core.Path.{◌≡◌, refl, sym, ap, ◌∙◌, subst}
 use mathlib.Core.Logic.{inl, inr}
-use mathlib.Core.Bool.{Bool, true, false, not, ◌&&◌}
+use mathlib.Core.Bool.{Bool, false, not, ◌&&◌}
 use Rattle.std.proofs.lemmas.Option.{same_Some}
 use mathlib.Core.List.{List, []}
 use native.Mathlib.Omega.{arith}
-use borrow.Author.Tests.{eq-eqb, ne_eqb}
+use borrow.Author.Tests.{ne_eqb}
 use lib.Dec.{eqb}
 use lib.ListN.{get_or}
 use Rattle.regions.specs.Regions.{PENDING}
@@ -16,10 +16,10 @@ use Rattle.model.specs.Lists.{without}
 use Rattle.model.specs.Intern.{Sym, sym_at, scope_at, union_deps}
 use Rattle.laws.specs.Members.{In}
 use Rattle.laws.proofs.Members.{without_cases}
+use Rattle.key.specs.declared.Func.{Func}
 use Rattle.key.specs.declared.Node.{Node}
 use Rattle.key.specs.declared.Node.TheVariants.{Const, Unparsed, Arg, Lambda, Op}
-use Rattle.key.specs.declared.Parts.{Parts}
-use Rattle.key.specs.Key.{parts_of, symbol_at}
+use Rattle.key.specs.Key.{symbol_at}
 use Rattle.symbols.specs.Words.{pending_from}
 use Rattle.symbols.specs.Symbols.{syms_of, own_of}
 use Rattle.symbols.proofs.Words.{words_under}
@@ -167,18 +167,17 @@ ready_levels bs ws st cur (Op o) held count levels rep ready are =
 
 -- ---- the levels that `key_levels` answers
 
-module _ (ws : List ℕ) (node : Node) (held count : ℕ) (p : Parts) (is : p ≡ parts_of node) where
-  pub plain_key : (p.tag ≡ 3 → ⊥) → (j r : ℕ) → has r j ≡ any_has ws j (pending_from ws held count) →
+module _ (ws : List ℕ) (held count j r : ℕ) where
+  pub plain_key : (node : Node) → ((f : Func) → node ≡ Lambda f → ⊥) →
+      has r j ≡ any_has ws j (pending_from ws held count) →
       has r j ≡ key_levels ws node held count j
-  plain_key n j r e =
-      let d : eqb (parts_of node).tag 3 ≡ false =
-      ne_eqb (parts_of node).tag 3 (λ t. n (ap (λ (z : Parts). z.tag) is ∙ t)) in
-      rw (d, key_levels) e
+  plain_key (Const l) n e = e
+  plain_key (Unparsed l) n e = e
+  plain_key (Arg l) n e = e
+  plain_key (Lambda f) n e = absurd (n f refl)
+  plain_key (Op o) n e = e
 
-  pub lambda_key : p.tag ≡ 3 → (j all r : ℕ) → has all j ≡ any_has ws j (pending_from ws held count) →
-      has r j ≡ (not (eqb j (level_of (scope_word ws p.second))) && has all j) →
-      has r j ≡ key_levels ws node held count j
-  lambda_key t j all r e f =
-      let d : eqb (parts_of node).tag 3 ≡ true =
-      eq-eqb (parts_of node).tag 3 (ap (λ (z : Parts). z.tag) (sym is) ∙ t) in
-      rw (d, key_levels) (f ∙ rw (e, is))
+  pub lambda_key : {node : Node} {f : Func} (all : ℕ) → node ≡ Lambda f →
+      has all j ≡ any_has ws j (pending_from ws held count) →
+      has r j ≡ (not (eqb j (level_of (scope_word ws f.body))) && has all j) → has r j ≡ key_levels ws node held count j
+  lambda_key all is e g = rw is (g ∙ rw e)

@@ -6,7 +6,10 @@ use mathlib.Core.Path.{◌≡◌, refl, sym, ap, ◌∙◌, subst}
 use mathlib.Core.Bool.{true}
 use mathlib.Core.List.{List}
 use native.Mathlib.Omega.{arith}
-use borrow.Author.Tests.{lt-ltb, le-ltb, eq-eqb, ne_eqb}
+use borrow.Author.Tests.{lt-ltb, le-ltb}
+use Rattle.std.specs.Prelude.{None, Some, Ok, Err}
+use Rattle.std.proofs.lemmas.Result.{IfOk-at_ok}
+use Rattle.refusal.specs.declared.Refusal.{Refusal}
 use lib.ListN.{length, set}
 use Rattle.regions.specs.Regions.{SYMBOLS, ENTRIES, PENDING, end}
 use Rattle.model.specs.Answer.{refused, good, guard}
@@ -30,7 +33,7 @@ use Rattle.free_lists.proofs.Laws.{lists_agree}
 use Rattle.interner.specs.declared.State.{State}
 use Rattle.interner.specs.declared.Step.{Step}
 use Rattle.interner.specs.State.{abs_of, Rep}
-use Rattle.interner.specs.Step.{out_of, given, over_full, with_symbol, entered, step_to, Leaves, new_deps}
+use Rattle.interner.specs.Step.{refusal_of, out_of, given, over_full, with_symbol, entered, step_to, Leaves, new_deps}
 use Rattle.interner.specs.Step.{Fresh, Pushed, alloc_of, Answers}
 use Rattle.interner.proofs.Same.{used_sound, Same, abs_same, rep_same, rep_with}
 use Rattle.interner.proofs.Pushing.{pushed_entries, pushed_symbols}
@@ -60,17 +63,17 @@ leaves_none ws st = record {
 -- ---- the step to a symbol
 
 module _ (st : State) (node : Node) (count s : ℕ) where
-  pub step_found : s < st.symbols → step_to st node count s ≡ given st s
+  pub step_found : s < st.symbols → step_to st node count (Some s) ≡ given st s
   unfolding step_to
   step_found lt = rw (lt-ltb s st.symbols lt)
 
-  pub step_new : st.symbols ≤ s → s < 512 → step_to st node count s ≡ given (entered (with_symbol st count)) s
+  pub step_new : st.symbols ≤ s → step_to st node count (Some s) ≡ given (entered (with_symbol st count)) s
   unfolding step_to
-  step_new le lt = rw (le-ltb s st.symbols le, lt-ltb s 512 lt)
+  step_new le = rw (le-ltb s st.symbols le)
 
-  pub step_full : st.symbols ≤ s → 512 ≤ s → step_to st node count s ≡ over_full st node
-  unfolding step_to
-  step_full le full = rw (le-ltb s st.symbols le, le-ltb s 512 full)
+pub step_full : (st : State) (node : Node) (count : ℕ) → step_to st node count None ≡ over_full st node
+unfolding step_to
+step_full st node count = refl
 
 -- ---- answers
 
@@ -85,19 +88,24 @@ unfolding out_of
 out_full bs ws t st node = refl
 
 module _ (bs ws : List ℕ) (t : Tables) (r : Step) where
-  pub out_good : r.number ≡ 0 → out_of bs ws t r ≡ good (r.symbol, abs_of bs ws t r.st)
+  pub out_good : {s : ℕ} → r.symbol ≡ Ok s → out_of bs ws t r ≡ good (s, abs_of bs ws t r.st)
   unfolding out_of
-  out_good e = rw (eq-eqb r.number 0 e, out_of)
+  out_good e = rw e
 
-  pub out_number : (r.number ≡ 0 → ⊥) → out_of bs ws t r ≡ refused r.number r.place
+  pub out_refused : {e : Refusal} → r.symbol ≡ Err e → out_of bs ws t r ≡ refusal_of e
   unfolding out_of
-  out_number n = rw (ne_eqb r.number 0 n, out_of)
+  out_refused e = rw e
 
 module _ {bs ws : List ℕ} {t : Tables} {st : State} where
   -- the definition's answer in other words
   pub answers_as : {o o' : Out} {ws' : List ℕ} {r : Step} → Answers bs ws t st o ws' r → o ≡ o' →
       Answers bs ws t st o' ws' r
   answers_as a e = record { rep = a.rep; leaves = a.leaves; low = a.low; is = a.is ∙ e }
+
+  -- a symbol that is given is one of those that stand
+  pub low_at : {o : Out} {ws' : List ℕ} {r : Step} → Answers bs ws t st o ws' r → {s : ℕ} → r.symbol ≡ Ok s →
+      s < r.st.symbols
+  low_at {r = r} a = λ e. IfOk-at_ok (λ (s : ℕ). s < r.st.symbols) e a.low
 
   -- a symbol that stands, and nothing changed
   pub given_answers : {s : ℕ} {r : Step} → Rep bs ws st → s < st.symbols → r ≡ given st s →
@@ -123,11 +131,11 @@ module _ {bs ws : List ℕ} {st : State} {cur : ℕ} {node : Node} {held count :
   unfolding alloc guard
   alloc_full full = rw (syms_length bs ws st.symbols, le-ltb st.symbols 512 full)
 
-  pub full_answers : 512 ≤ st.symbols → Answers bs ws t st allocated ws (step_to st node count 512)
-  full_answers full = rw (step_full st node count 512 rep.arena.scoped.few (omega arith)) (record {
+  pub full_answers : 512 ≤ st.symbols → Answers bs ws t st allocated ws (step_to st node count None)
+  full_answers full = rw (step_full st node count) (record {
     rep = rep;
     leaves = leaves_none ws st;
-    low = omega arith;
+    low = tt;
     is = out_full bs ws t st node ∙ sym (alloc_full full);
   })
 
@@ -202,14 +210,14 @@ module _ {bs ws : List ℕ} {st : State} {cur : ℕ} {node : Node} {held count :
     own-hint p is h =
         h ∙ rw (is, ← key_opcode bs (parts_of node).source (parts_of node).field) (sym done.hinted)
 
-    step_shared : step_to st node count st.symbols ≡ given (entered st₁) st.symbols
+    step_shared : step_to st node count (Some st.symbols) ≡ given (entered st₁) st.symbols
     step_shared =
-        step_new st node count st.symbols (omega arith) few
+        step_new st node count st.symbols (omega arith)
         ∙ ap (λ (z : State). given (entered z) st.symbols) (sym done.state)
 
     pub shared_answers : {p : Parts} {ws' : List ℕ} → p ≡ parts_of node →
         m ≡ hint (row_at bs p.source).rec.opcode (pending_from ws held count) → ws' ≡ ws₂ →
-        Answers bs ws t st allocated ws' (step_to st node count st.symbols)
+        Answers bs ws t st allocated ws' (step_to st node count (Some st.symbols))
     shared_answers {p} is h d = rw (d, step_shared) (record {
       rep = rep_shared (own-hint p is h);
       leaves = leaves_then done.leaves leaves_entered;

@@ -1,14 +1,18 @@
 -- What the functions ask and answer. In order: answers; a new symbol; the symbol of a key; a lambda's arguments;
 -- projections.
 -- Assumes nothing.
-use Rattle.std.specs.Prelude.{ℕ, suc, ◌+◌, ◌<◌, ◌≤◌, ◌≡◌, Bool, true, false, not, ◌&&◌, List, [], ◌∷◌, eqb, ltb, length, get_or, Some}
+use Rattle.std.specs.Prelude.{ℕ, suc, ◌+◌, ◌<◌, ◌≤◌, ◌≡◌, Bool, true, false, not, ◌&&◌, List, [], ◌∷◌, eqb, ltb, length, get_or}
+use Rattle.std.specs.Prelude.{Option, None, Some, Result, Ok, Err, IfOk}
 use Rattle.regions.specs.Regions.{SYMBOLS, SLOTS, SCOPES, PENDING, end}
-use Rattle.model.specs.Answer.{refused, good}
+use Rattle.model.specs.Answer.{Answer, refused, good}
 use Rattle.model.specs.Forest.{record_count}
 use Rattle.model.specs.Intern.{Out, Outs, union_deps, push, alloc, finish, alloc_args, sym_at, operation}
 use Rattle.model.specs.Intern as intern
 use Rattle.model.specs.Tree.{Rec, rec}
 use Rattle.laws.specs.Members.{Every}
+use Rattle.refusal.specs.declared.Check.TheVariants.{Symbols}
+use Rattle.refusal.specs.declared.Refusal.{Refusal}
+use Rattle.refusal.specs.Refusal.{number_of}
 use Rattle.record.specs.Record.{row_at}
 use Rattle.laws.specs.Frame.{Agree, Frame}
 use Rattle.key.specs.declared.Node.{Node}
@@ -29,56 +33,43 @@ use Rattle.interner.specs.State.{abs_of, Rep}
 
 -- ---- answers
 
+-- a refusal as the definition has it
+abbrev pub refusal_of : {A : Type 0} → Refusal → Answer A
+refusal_of e = refused (number_of e.check) e.place
+
+-- what a value gives, or the refusal
+abbrev pub outcome_of : {A B : Type 0} → (A → B) → Result A Refusal → Answer B
+outcome_of f (Ok s) = good (f s)
+outcome_of f (Err e) = refusal_of e
+
 -- the symbol and the state after it, or a refusal
 unfoldable pub out_of : List ℕ → List ℕ → Tables → Step → Out
-out_of bs ws t r =
-    elim (eqb r.number 0) [
-      | true ↦ good (r.symbol, abs_of bs ws t r.st)
-      | false ↦ refused r.number r.place
-    ]
+out_of bs ws t r = outcome_of (λ s. (s, abs_of bs ws t r.st)) r.symbol
 
 -- a symbol, and the state after it
 abbrev pub given : State → ℕ → Step
-given st s = record { st = st; symbol = s; number = 0; place = 0 }
+given st s = record { st = st; symbol = Ok s }
 
--- 12: there is no room for the symbol of a node
+-- there is no room for the symbol of a node
 abbrev pub over_full : State → Node → Step
-over_full st node = record { st = st; symbol = 0; number = 12; place = (parts_of node).source }
+over_full st node = record { st = st; symbol = Err (record { check = Symbols; place = (parts_of node).source }) }
 
 -- one symbol more, with `count` child slots
 abbrev pub with_symbol : State → ℕ → State
-with_symbol st count = record {
-  entries = st.entries;
-  symbols = st.symbols + 1;
-  slots = st.slots + count;
-  scopes = st.scopes;
-  memo = st.memo;
-  readings = st.readings;
-}
+with_symbol st count = record st { symbols = st.symbols + 1; slots = st.slots + count }
 
 -- one entry more
 abbrev pub entered : State → State
-entered st = record {
-  entries = st.entries + 1;
-  symbols = st.symbols;
-  slots = st.slots;
-  scopes = st.scopes;
-  memo = st.memo;
-  readings = st.readings;
-}
+entered st = record st { entries = st.entries + 1 }
 
--- the step to symbol s, for a node over `count` children: it stands already, or it is new, or, from 512 on, there is no
--- room for it
-abbrev pub new_step : State → Node → ℕ → ℕ → Bool → Step
-new_step st node count s true = given (entered (with_symbol st count)) s
-new_step st node count s false = over_full st node
+-- the step to a symbol, for a node over `count` children: it stands already, or it is new, or there is no room for it
+abbrev pub old_or_new : State → ℕ → ℕ → Bool → Step
+old_or_new st count s true = given st s
+old_or_new st count s false = given (entered (with_symbol st count)) s
 
-abbrev pub old_or_new : State → Node → ℕ → ℕ → Bool → Step
-old_or_new st node count s true = given st s
-old_or_new st node count s false = new_step st node count s (ltb s 512)
-
-unfoldable pub step_to : State → Node → ℕ → ℕ → Step
-step_to st node count s = old_or_new st node count s (ltb s st.symbols)
+unfoldable pub step_to : State → Node → ℕ → Option ℕ → Step
+step_to st node count None = over_full st node
+step_to st node count (Some s) = old_or_new st count s (ltb s st.symbols)
 
 -- what a step from words ws and state st to words ws' leaves: pending symbols and bindings, and all words after them;
 -- scopes and readings; entries are only added
@@ -142,7 +133,7 @@ alloc_of bs ws t st cur node held count shared =
 pub record Answers (bs ws : List ℕ) (t : Tables) (st : State) (o : Out) (ws' : List ℕ) (r : Step) : Type 0 where
   pub rep : Rep bs ws' r.st
   pub leaves : Leaves ws ws' st r.st
-  pub low : r.symbol < r.st.symbols
+  pub low : IfOk r.symbol (λ s. s < r.st.symbols)
   pub is : out_of bs ws' t r ≡ o
 
 -- ---- the symbol of a key
@@ -179,11 +170,9 @@ pub record Ready (bs ws : List ℕ) (st : State) (cur : ℕ) (node : Node) (held
 
 -- level j is among those of the children, and not that of a lambda's own body
 abbrev pub key_levels : List ℕ → Node → ℕ → ℕ → ℕ → Bool
-key_levels ws node held count j =
-    elim (eqb (parts_of node).tag 3) [
-      | true ↦ not (eqb j (level_of (scope_word ws (parts_of node).second))) && any_has ws j (pending_from ws held count)
-      | false ↦ any_has ws j (pending_from ws held count)
-    ]
+key_levels ws (Lambda f) held count j =
+    not (eqb j (level_of (scope_word ws f.body))) && any_has ws j (pending_from ws held count)
+key_levels ws _ held count j = any_has ws j (pending_from ws held count)
 
 -- the definition's symbol of a key
 abbrev pub finish_of : List ℕ → List ℕ → Tables → State → ℕ → Node → ℕ → ℕ → Out
@@ -195,11 +184,7 @@ finish_of bs ws t st cur node held count =
 
 -- `count` symbols from the answer's on, and the state after them; or a refusal
 unfoldable pub outs_of : List ℕ → List ℕ → Tables → ℕ → Step → Outs
-outs_of bs ws t count r =
-    elim (eqb r.number 0) [
-      | true ↦ good (range r.symbol count, [], abs_of bs ws t r.st)
-      | false ↦ refused r.number r.place
-    ]
+outs_of bs ws t count r = outcome_of (λ s. (range s count, [], abs_of bs ws t r.st)) r.symbol
 
 -- arguments of a lambda in `cur` can be made for record `at`
 pub record Binds (bs ws : List ℕ) (st : State) (cur at count : ℕ) : Type 0 where
@@ -214,9 +199,9 @@ pub record Bindings (bs ws : List ℕ) (st : State) (cur at count : ℕ) (ws' : 
   pub leaves : Leaves ws ws' st r.st
   pub is : (t : Tables) → Open t st.entries → (xs : List (ℕ × List ℕ)) → length xs ≡ count →
       outs_of bs ws' t count r ≡ alloc_args at cur (row_at bs at).rec xs (abs_of bs ws t st)
-  pub first : r.number ≡ 0 → (r.symbol ≡ st.symbols) × (r.st.symbols ≡ st.symbols + count)
-  pub args : r.number ≡ 0 →
-      Every (AtLevel ws' r.st.symbols (level_of (scope_word ws cur) + 1)) (range r.symbol count)
+  pub first : IfOk r.symbol (λ s. (s ≡ st.symbols) × (r.st.symbols ≡ st.symbols + count))
+  pub args : IfOk r.symbol (λ s.
+      Every (AtLevel ws' r.st.symbols (level_of (scope_word ws cur) + 1)) (range s count))
 
 -- ---- projections
 
@@ -241,11 +226,4 @@ field_of at cur r i p s = finish at cur (field_rec r i) (p ∷ []) [] (operation
 
 -- one pair more is remembered
 abbrev pub with_pair : State → State
-with_pair st = record {
-  entries = st.entries;
-  symbols = st.symbols;
-  slots = st.slots;
-  scopes = st.scopes;
-  memo = st.memo + 1;
-  readings = st.readings;
-}
+with_pair st = record st { memo = st.memo + 1 }

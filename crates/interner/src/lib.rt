@@ -1,7 +1,7 @@
 // Interning's state, and its symbols, new or found (interner.rs). In order: the state; a new symbol; the symbol of a
 // key; a lambda's arguments; projections, the steps of which are in projections.rt.
-// A symbol that is found or made is given as a number alone, from which the state after it follows: a number comes back
-// in a register, a state through memory.
+// A symbol that is found or made is given alone, and the state after it follows from it: a number comes back in a
+// register, a state through memory.
 #![tactic(auto)]
 
 mod projections;
@@ -23,8 +23,8 @@ ghost use Rattle.interner.specs.Step.{new_deps, given, over_full, step_to, alloc
 ghost use Rattle.interner.specs.Levels.{any_has};
 
 use key::{Leaf, Node, Symbol};
-use memo::Projections;
-use tables::{Found, Tables};
+use refusal::{Check, Refusal};
+use tables::Tables;
 
 // How many entries the open tables have; how many symbols, child slots, scopes and projections there are; the readings
 // so far. The stack of open tables goes beside it, and is handed down only: a thunk's table is dropped at its end.
@@ -41,13 +41,11 @@ pub struct State {
     pub memo: u32,
 }
 
-// A symbol and the state after it; or, where `number` is not 0, a refusal with that number, at record `place`.
+// A symbol and the state after it; or a refusal and the state in which it was met.
 #[derive(Clone, Copy)]
 pub struct Step {
     pub st: State,
-    pub symbol: u32,
-    pub number: u32,
-    pub place: u32,
+    pub symbol: Result<u32, Refusal>,
 }
 
 // The state in which nothing is read yet and the outermost scope is open; its word is 0, the free lists end at 0, and no
@@ -87,11 +85,10 @@ fn push(
     ensures { Pushed forest.now work.old st cur node held count levels work.new result }
 {
     let n = st.symbols;
-    let slots = st.slots;
     let scope = scopes::placement(work, cur, levels);
     let y = Symbol {
         node,
-        kids: slots,
+        kids: st.slots,
         count: count as u32,
         scope: scope as u32,
         levels,
@@ -99,12 +96,9 @@ fn push(
     symbols::make(work, n as usize, held, y);
     free_lists::keep(forest, work, n as usize, st.scopes as usize, scope, count);
     State {
-        entries: st.entries,
         symbols: n + 1,
-        slots: slots + count as u32,
-        scopes: st.scopes,
-        memo: st.memo,
-        readings: st.readings,
+        slots: st.slots + count as u32,
+        ..st
     }
 }
 
@@ -114,27 +108,26 @@ pub fn given(st: State, symbol: u32) -> Step
 {
     Step {
         st,
-        symbol,
-        number: 0,
-        place: 0,
+        symbol: Ok(symbol),
     }
 }
 
-// Refusal 12, at the record of a node.
+// No room for a symbol, at the record of a node. Rules out: another check's refusal.
 fn over_full(st: State, node: Node) -> Step
     ensures { result ≡ over_full st node }
 {
-    let p = key::parts_of(node);
+    let place = key::parts_of(node).source;
     Step {
         st,
-        symbol: 0,
-        number: 12,
-        place: p.source,
+        symbol: Err(Refusal {
+            check: Check::Symbols,
+            place,
+        }),
     }
 }
 
-// A new symbol that can be found again; 512 where there is no room for one. Rules out: one that is in no table, or in
-// the oldest; a 513th symbol.
+// A new symbol that can be found again, if there is room for one. Rules out: one that is in no table, or in the oldest;
+// a 513th symbol.
 fn alloc(
     forest: &[u8],
     work: &mut [u32],
@@ -144,7 +137,7 @@ fn alloc(
     held: usize,
     count: usize,
     levels: u64,
-) -> u32
+) -> Option<u32>
     requires laid { Laid forest.now }
     requires rep { Rep forest.now work.old st }
     requires fresh { Fresh forest.now work.old st cur node held count }
@@ -154,15 +147,15 @@ fn alloc(
         (step_to st node count result) }
 {
     let n = st.symbols;
-    if n < 512 {
-        let p = key::parts_of(node);
-        let hint = tables::hint_of(forest, work, p.source as usize, held, count);
-        let next = push(forest, work, st, cur, node, held, count, levels);
-        let top = next.entries as usize;
-        tables::enter(work, top, n, hint);
-        return n;
+    if n >= 512 {
+        return None;
     }
-    512
+    let p = key::parts_of(node);
+    let hint = tables::hint_of(forest, work, p.source as usize, held, count);
+    let next = push(forest, work, st, cur, node, held, count, levels);
+    let top = next.entries as usize;
+    tables::enter(work, top, n, hint);
+    Some(n)
 }
 
 // The levels of the pending children from `held` on.
@@ -172,12 +165,11 @@ fn levels_of(work: &[u32], held: usize, count: usize) -> u64
     ensures { (j : ℕ) → has result j ≡ any_has work.now j (pending_from work.now held count) }
 {
     let mut all = scopes::levels::empty();
-    let mut k = 0;
-    while k < count {
+    // by index: over a slice of the words it took 6 instructions a record more
+    for k in 0..count {
         let s = work[regions::PENDING + held + k];
         let y = key::load(work, s as usize);
         all = scopes::levels::join(all, y.levels);
-        k += 1;
     }
     all
 }
@@ -190,16 +182,15 @@ fn key_levels(work: &[u32], node: Node, held: usize, count: usize) -> u64
     ensures { (j : ℕ) → has result j ≡ key_levels work.now node held count j }
 {
     let all = levels_of(work, held, count);
-    let p = key::parts_of(node);
-    if p.tag != 3 {
-        return all;
+    match node {
+        Node::Lambda(f) => scopes::levels::without(all, scopes::level(work, f.body as usize)),
+        _ => all,
     }
-    let body = p.second as usize;
-    scopes::levels::without(all, scopes::level(work, body))
 }
 
-// The symbol of a node over the pending children from `held` on: the one that has its key, or a new one, or 512. Rules
-// out: a second symbol for a key that an open table has; a symbol placed inside a lambda that it does not depend on.
+// The symbol of a node over the pending children from `held` on: the one that has its key, or a new one, if there is
+// room. Rules out: a second symbol for a key that an open table has; a symbol placed inside a lambda that it does not
+// depend on.
 fn find_or_make(
     forest: &[u8],
     work: &mut [u32],
@@ -209,7 +200,7 @@ fn find_or_make(
     node: Node,
     held: usize,
     count: usize,
-) -> u32
+) -> Option<u32>
     requires laid { Laid forest.now }
     requires rep { Rep forest.now work.old st }
     requires fact { Open t st.entries }
@@ -230,38 +221,36 @@ fn find_or_make(
         held,
         count,
     ) {
-        Found::At(s) => s,
-        Found::Nothing => {
+        Some(s) => Some(s),
+        None => {
             let levels = key_levels(work, node, held, count);
             alloc(forest, work, st, cur, node, held, count, levels)
         }
     }
 }
 
-// The step to symbol s, which was found or made for a node over `count` children. Rules out: a symbol that is found
-// counted as a new one; a symbol where there was no room for one.
-fn step_to(st: State, node: Node, count: usize, s: u32) -> Step
+// The step to symbol s, which was found or made for a node over `count` children, if there was room. Rules out: a
+// symbol that is found counted as a new one; a symbol where there was no room for one.
+fn step_to(st: State, node: Node, count: usize, s: Option<u32>) -> Step
     requires { (st.entries ≤ 512) × (st.symbols ≤ 512) × (st.slots + count ≤ SLOTS.size) }
     ensures { result ≡ step_to st node count s }
 {
-    if s < st.symbols {
-        return given(st, s);
+    match s {
+        None => over_full(st, node),
+        Some(s) if s < st.symbols => given(st, s),
+        Some(s) => {
+            let next = State {
+                entries: st.entries + 1,
+                symbols: st.symbols + 1,
+                slots: st.slots + count as u32,
+                ..st
+            };
+            given(next, s)
+        }
     }
-    if s < 512 {
-        let next = State {
-            readings: st.readings,
-            entries: st.entries + 1,
-            symbols: st.symbols + 1,
-            slots: st.slots + count as u32,
-            scopes: st.scopes,
-            memo: st.memo,
-        };
-        return given(next, s);
-    }
-    over_full(st, node)
 }
 
-// The symbol of a node over the pending children from `held` on, and the state after it; or refusal 12, where there is
+// The symbol of a node over the pending children from `held` on, and the state after it; or a refusal, where there is
 // no room for a new one. Rules out: a new symbol's state for one that is found; a refusal where the key is found and
 // there are 512 symbols.
 pub fn finish(
@@ -296,7 +285,7 @@ fn level_inside(work: &[u32], cur: usize) -> u64
 }
 
 // `count` argument symbols for the lambda of record `at`, made in scope `cur`: the first of them and the state after
-// them, or refusal 12. Rules out: an argument in a table, where it could be found again; arguments that count as those
+// them, or a refusal. Rules out: an argument in a table, where it could be found again; arguments that count as those
 // of the lambda around.
 pub fn alloc_args(
     forest: &[u8],
@@ -318,15 +307,13 @@ pub fn alloc_args(
     }
     let levels = level_inside(work, cur);
     let mut s = st;
-    let mut k = 0;
-    while k < count {
+    for _ in 0..count {
         s = push(forest, work, s, cur, node, 0, 0, levels);
-        k += 1;
     }
     given(s, n)
 }
 
-// Field `field` of the pending symbol at `held`, for record `at`, and the state after it; or refusal 12. Rules out: the
+// Field `field` of the pending symbol at `held`, for record `at`, and the state after it; or a refusal. Rules out: the
 // other field; a projection that is not remembered, and would be made again after its thunk.
 pub fn pair_projection(
     forest: &[u8],
@@ -348,9 +335,7 @@ pub fn pair_projection(
 {
     let p = work[regions::PENDING + held];
     match memo::recall(work, st.memo as usize, p) {
-        Projections::Pair(a, b) => projections::picked(st, field, a, b),
-        Projections::Nothing => projections::new_projections(
-            forest, work, t, st, cur, at, field, held,
-        ),
+        Some((a, b)) => projections::picked(st, field, a, b),
+        None => projections::new_projections(forest, work, t, st, cur, at, field, held),
     }
 }

@@ -48,10 +48,7 @@ fn projection(
 pub fn picked(st: State, field: u32, a: u32, b: u32) -> Step
     ensures { result ≡ given st (pick field (a, b)) }
 {
-    if field == 1 {
-        return crate::given(st, a);
-    }
-    crate::given(st, b)
+    crate::given(st, if field == 1 { a } else { b })
 }
 
 // The projections a and b of p are remembered, and `field` is picked. Rules out: a pair that is not counted; a and b
@@ -64,14 +61,7 @@ fn remember(work: &mut [u32], st: State, p: u32, a: u32, b: u32, field: u32) -> 
 {
     let k = st.memo;
     memo::remember(work, k as usize, p, a, b);
-    let next = State {
-        entries: st.entries,
-        symbols: st.symbols,
-        slots: st.slots,
-        scopes: st.scopes,
-        memo: k + 1,
-        readings: st.readings,
-    };
+    let next = State { memo: k + 1, ..st };
     picked(next, field, a, b)
 }
 
@@ -98,14 +88,12 @@ pub fn new_projections(
 {
     let p = work[regions::PENDING + held];
     let a = projection(forest, work, t, st, cur, at, 1, held);
-    if a.number != 0 {
+    let Ok(first) = a.symbol else {
         return a;
-    }
-    let between = a.st;
-    let b = projection(forest, work, t, between, cur, at, 2, held);
-    if b.number != 0 {
+    };
+    let b = projection(forest, work, t, a.st, cur, at, 2, held);
+    let Ok(second) = b.symbol else {
         return b;
-    }
-    let after = b.st;
-    remember(work, after, p, a.symbol, b.symbol, field)
+    };
+    remember(work, b.st, p, first, second, field)
 }

@@ -5,7 +5,7 @@
 
 ghost use Rattle.std.specs.Prelude.{◌≡◌, ◌+◌, ◌*◌, ◌<◌, ◌≤◌, ◌/◌, ◌%◌, length};
 ghost use Rattle.key.specs.Key.{FitsWords, leaf_parts, parts_of, node_from, head, middle, tail};
-ghost use Rattle.key.specs.Key.{parts_in, put5, store_symbol, symbol_at};
+ghost use Rattle.key.specs.Key.{parts_in, store_symbol, symbol_at};
 
 // A constant, an unparsed node or an argument: the record that it was made for.
 #[derive(Clone, Copy)]
@@ -22,7 +22,7 @@ pub struct Func {
 }
 
 // Any other record. `field` is 1 or 2 for that field of the projections that one record makes, 0 for the record as it
-// stands; the scopes of its thunks, of which there are `branches`.
+// stands; the scopes of its thunks, of which there are `branches`. Each is a number as it stands in a word.
 #[derive(Clone, Copy)]
 pub struct Operation {
     pub source: u32,
@@ -63,16 +63,27 @@ pub struct Parts {
     pub second: u32,
 }
 
+// The tags by which a word says what a node is: the layout of fixed memory, which holds no enum.
+const CONST: u32 = 0;
+
+const UNPARSED: u32 = 1;
+
+const ARG: u32 = 2;
+
+const LAMBDA: u32 = 3;
+
+const OP: u32 = 4;
+
 // A node's parts; 0 where it has none. Rules out: a lambda's body's scope as its first argument; another node's tag.
 pub fn parts_of(node: Node) -> Parts
     ensures { result ≡ parts_of node }
 {
     match node {
-        Node::Const(l) => leaf_parts(0, l),
-        Node::Unparsed(l) => leaf_parts(1, l),
-        Node::Arg(l) => leaf_parts(2, l),
+        Node::Const(l) => leaf_parts(CONST, l),
+        Node::Unparsed(l) => leaf_parts(UNPARSED, l),
+        Node::Arg(l) => leaf_parts(ARG, l),
         Node::Lambda(f) => Parts {
-            tag: 3,
+            tag: LAMBDA,
             source: f.source,
             field: 0,
             branches: 0,
@@ -80,7 +91,7 @@ pub fn parts_of(node: Node) -> Parts
             second: f.body,
         },
         Node::Op(o) => Parts {
-            tag: 4,
+            tag: OP,
             source: o.source,
             field: o.field,
             branches: o.branches,
@@ -106,12 +117,11 @@ fn leaf_parts(tag: u32, l: Leaf) -> Parts
 fn node_of(p: Parts) -> Node
     ensures { result ≡ node_from p }
 {
-    let tag = p.tag;
-    match tag {
-        0 => Node::Const(Leaf { source: p.source }),
-        1 => Node::Unparsed(Leaf { source: p.source }),
-        2 => Node::Arg(Leaf { source: p.source }),
-        3 => Node::Lambda(Func {
+    match p.tag {
+        CONST => Node::Const(Leaf { source: p.source }),
+        UNPARSED => Node::Unparsed(Leaf { source: p.source }),
+        ARG => Node::Arg(Leaf { source: p.source }),
+        LAMBDA => Node::Lambda(Func {
             source: p.source,
             first: p.first,
             body: p.second,
@@ -147,47 +157,22 @@ fn tail_word(p: Parts, scope: u32) -> u32
     scope + 4096 * p.first
 }
 
-fn low(x: u64) -> u32
-    ensures { result ≡ x % 4294967296 }
-{
-    (x % 4294967296) as u32
-}
-
-fn high(x: u64) -> u32
-    ensures { result ≡ x / 4294967296 }
-{
-    (x / 4294967296) as u32
-}
-
-fn wide(x: u32) -> u64
-    ensures { (result ≡ x) × (result < 4294967296) }
-{
-    x as u64
-}
-
-fn put(work: &mut [u32], at: usize, a: u32, b: u32, c: u32, d: u32, e: u32)
-    requires { at + 5 ≤ length work.old }
-    ensures { work.new ≡ put5 work.old at a b c d e }
-{
-    work[at] = a;
-    work[at + 1] = b;
-    work[at + 2] = c;
-    work[at + 3] = d;
-    work[at + 4] = e;
-}
-
-// y as symbol s. Rules out: another symbol's words; one part packed over another, as the count over the field.
+// y as symbol s. The words are written one by one, as `load` reads them: to copy an array of them takes more
+// instructions, which ask whether the two overlap.
+// Rules out: another symbol's words; one part packed over another, as the count over the field.
+#[tactic(auto, unfolding(crate::specs::Key::store_symbol))]
 pub fn store(work: &mut [u32], s: usize, y: Symbol)
     requires s_in_bounds { 5 * s + 5 ≤ length work.old }
     requires fits_words { FitsWords y }
     ensures { work.new ≡ store_symbol work.old s y }
 {
-    let node = y.node;
-    let p = parts_of(node);
-    let a = head_word(p, y.count);
-    let b = middle_word(p, y.kids);
-    let c = tail_word(p, y.scope);
-    put(work, 5 * s, a, b, c, low(y.levels), high(y.levels))
+    let p = parts_of(y.node);
+    let at = 5 * s;
+    work[at] = head_word(p, y.count);
+    work[at + 1] = middle_word(p, y.kids);
+    work[at + 2] = tail_word(p, y.scope);
+    work[at + 3] = (y.levels & 0xFFFF_FFFF) as u32;
+    work[at + 4] = (y.levels >> 32) as u32;
 }
 
 fn parts_in(a: u32, b: u32, c: u32) -> Parts
@@ -204,6 +189,7 @@ fn parts_in(a: u32, b: u32, c: u32) -> Parts
 }
 
 // Symbol s. Rules out: the symbol after it; the scope of its first thunk as its own.
+#[tactic(auto, unfolding(crate::specs::Key::symbol_at))]
 pub fn load(work: &[u32], s: usize) -> Symbol
     requires { 5 * s + 5 ≤ length work.now }
     ensures { result ≡ symbol_at work.now s }
@@ -213,7 +199,7 @@ pub fn load(work: &[u32], s: usize) -> Symbol
     let b = work[at + 1];
     let c = work[at + 2];
     let node = node_of(parts_in(a, b, c));
-    let levels = wide(work[at + 3]) + 4294967296 * wide(work[at + 4]);
+    let levels = u64::from(work[at + 3]) | u64::from(work[at + 4]) << 32;
     Symbol {
         node,
         kids: b % 4096,
@@ -224,6 +210,7 @@ pub fn load(work: &[u32], s: usize) -> Symbol
 }
 
 // The record that symbol s was made for. Rules out: that of the symbol after it; a number with the field's bits in it.
+#[tactic(auto, unfolding(crate::specs::Key::symbol_at))]
 pub fn source(work: &[u32], s: usize) -> usize
     requires { 5 * s + 5 ≤ length work.now }
     ensures { result ≡ (parts_of (symbol_at work.now s).node).source }
@@ -233,12 +220,13 @@ pub fn source(work: &[u32], s: usize) -> usize
 }
 
 // The field of symbol s, 0 where it is no projection. Rules out: a lambda's unused bits; how many children it has.
+#[tactic(auto, unfolding(crate::specs::Key::symbol_at))]
 pub fn field(work: &[u32], s: usize) -> u32
     requires { 5 * s + 5 ≤ length work.now }
     ensures { result ≡ (parts_of (symbol_at work.now s).node).field }
 {
     let a = work[5 * s];
-    if a % 8 < 4 {
+    if a % 8 < OP {
         return 0;
     }
     a / 2048 % 4

@@ -21,11 +21,12 @@ fn put_number(out: &mut [u8], at: usize, n: u32, after: u8) -> usize
     requires { at + 21 ≤ length out.old }
     ensures { Wrote out.old at (numeral n ++ (after ∷ [])) out.new result }
 {
-    let next = text::put_decimal(out, at, n as u64);
+    let next = text::put_decimal(out, at, u64::from(n));
     output::put_byte(out, next, after)
 }
 
 // The letter of a node's kind.
+#[tactic(auto, unfolding(model::specs::Lister::tag_of, model::specs::Text::text))]
 fn tag(node: Node) -> u8
     ensures { (bs : List ℕ) → (result ∷ []) ≡ tag_of (model_node bs node) }
 {
@@ -33,12 +34,12 @@ fn tag(node: Node) -> u8
         Node::Const(_) => b'C',
         Node::Unparsed(_) => b'U',
         Node::Arg(_) => b'A',
-        Node::Lambda(_) => b'O',
-        Node::Op(_) => b'O',
+        Node::Lambda(_) | Node::Op(_) => b'O',
     }
 }
 
 // A node's opcode, where its line shows one.
+#[tactic(auto, using(symbols::proofs::Same::key_opcode), unfolding(model::specs::Lister::opcode_shown))]
 fn opcode_shown(forest: &[u8], node: Node) -> u8
     requires laid { Laid forest.now }
     requires node_bound { (parts_of node).source < record_count forest.now }
@@ -46,21 +47,17 @@ fn opcode_shown(forest: &[u8], node: Node) -> u8
         opcode_shown (model_node forest.now node) (rec_of forest.now node).opcode }
 {
     match node {
-        Node::Const(_) => 0,
-        Node::Unparsed(_) => 0,
-        Node::Arg(_) => 0,
+        Node::Const(_) | Node::Unparsed(_) | Node::Arg(_) => 0,
         Node::Lambda(f) => record::opcode(forest, f.source as usize),
         Node::Op(o) => record::opcode(forest, o.source as usize),
     }
 }
 
+#[tactic(auto, unfolding(model::specs::Lister::yes_no, model::specs::Text::text))]
 fn yes_no(b: bool) -> u8
     ensures { (result ∷ []) ≡ yes_no b }
 {
-    if b {
-        return b'y';
-    }
-    b'n'
+    if b { b'y' } else { b'n' }
 }
 
 // The first columns of the line of symbol s, whose node this is.
@@ -105,10 +102,8 @@ fn put_lines(forest: &[u8], work: &[u32], n: usize, out: &mut [u8], start: usize
         out.new result }
 {
     let mut at = start;
-    let mut s = 0;
-    while s < n {
+    for s in 0..n {
         at = put_line(forest, work, out, at, s, work[regions::USES + s]);
-        s += 1;
     }
     at
 }

@@ -7,8 +7,6 @@ ghost use Rattle.regions.specs.Regions.{WORDS};
 ghost use Rattle.cse.specs.Call.{LentOnly};
 ghost use Rattle.listing.specs.Listing.{Listed};
 
-use cse::Answer;
-
 // The lister: the main call's pass, lent 65,535 output bytes, decides whether there is a refusal, and leaves the symbols
 // and their uses from the root in the words; the text is written over the output's start, and the answer is its length.
 // What the first 16,384 words hold afterwards is left free.
@@ -21,7 +19,7 @@ pub fn list(forest: &[u8], out: &mut [u8], work: &mut [u32]) -> usize
     ensures lent_only { LentOnly work.old work.new }
 {
     match cse::pass(forest, out, work) {
-        Answer::Written(_, symbols, _) => lines::put_symbols(forest, work, symbols as usize, out),
-        Answer::Refused(number, place) => text::put_refusal(out, number as u64, place as u64),
+        Ok(w) => lines::put_symbols(forest, work, w.symbols as usize, out),
+        Err(r) => text::put_refusal(out, u64::from(r.check.number()), u64::from(r.place)),
     }
 }

@@ -2,7 +2,8 @@
 -- it says of a plan that starts with no rows, for callers.
 -- Assumes nothing.
 use Prim.Native.Nat.{ℕ}
-use mathlib.Core.Path.{◌≡◌, refl}
+use mathlib.Core.Path.{refl}
+use Rattle.std.specs.Prelude.{Option}
 use mathlib.Core.List.{List, []}
 use lib.ListN.{replicate}
 use Rattle.model.specs.Gate.{reachable}
@@ -19,12 +20,10 @@ root_stands : (bs ws : List ℕ) (g : Graph) (root : ℕ) → Counted bs ws g ro
 unfolding reachable
 root_stands bs ws g root uses = record { syms = refl; scopes = refl; uses = uses }
 
-pub materialized : {bs ws : List ℕ} {g : Graph} {map : List ℕ} (root : ℕ) {ws' : List ℕ} {r : Plan}
-    → map ≡ replicate 512 0
-    → Counted bs ws g root
-    → Plans bs ws g map (record { rows = 0; deepest = 0 }) 0
+pub materialized : {bs ws : List ℕ} {g : Graph} (root : ℕ) {ws' : List ℕ} {r : Option Plan} → Counted bs ws g root
+    → Plans bs ws g (replicate 512 0) (record { rows = 0; deepest = 0 }) 0
     (λ gr x env. process_scope gr (build_value gr) root 0 env 0) ws' r
     → Materialized bs ws g root ws' r
 unfolding materialize
-materialized {bs} {ws} {g} {map} root e uses h =
-    h.grown (root_graph bs ws g root) 0 [] (root_stands bs ws g root uses) (maps_none map e)
+materialized {bs} {ws} {g} root uses h =
+    h.grown (root_graph bs ws g root) 0 [] (root_stands bs ws g root uses) maps_none

@@ -2,26 +2,28 @@
 // result, each record before its children. In order: a symbol; an operation and its operands; scopes; the root.
 // A block of one definition that only renames its result would be written as that definition's value (`wrap_block`).
 // Interning makes no symbol for a use, so no definition's value is one, and the case has no code.
+// Where the plan has no room for a row, planning ends.
 // What nests: `build`, `fresh`, `operands`, `operand` once a symbol, with no array. `lambda`, and `thunk` where it gives
 // ids, open a copy of the ids (2 KB), `define` an order (1 KB); these nest once a scope.
 #![tactic(auto)]
 
-ghost use Rattle.std.specs.Prelude.{◌≡◌, ◌∷◌, [], ℕ, ◌+◌, ◌<◌, ◌≤◌, length, get_or, take};
+ghost use Rattle.std.specs.Prelude.{◌≡◌, ◌∷◌, [], ℕ, ◌+◌, ◌<◌, ◌≤◌, length, get_or, IfSome, MatchOption};
 ghost use Rattle.model.specs.Materialize.{build_value, process_scope};
 ghost use Rattle.key.specs.declared.Node.TheVariants.{Lambda, Op};
 ghost use Rattle.key.specs.Key.{symbol_at};
 ghost use Rattle.record.specs.Record.{Laid};
-ghost use Rattle.planner.specs.Building.{Buildable, OpenLow, operand_tree};
-ghost use Rattle.planner.specs.Planning.{fresh_tree, Site, Plans, Defines};
+ghost use Rattle.planner.specs.Building.{Buildable, operand_tree};
+ghost use Rattle.planner.specs.Planning.{fresh_tree, Site, Plans, Defines, DefinesOver};
 ghost use Rattle.materialize.specs.Materialize.{Counted, Materialized};
 
+use arrayvec::ArrayVec;
 use graph::Graph;
 use key::{Func, Node, Operation};
 use plan::Planned;
-use planner::{Opened, Plan};
+use planner::Plan;
 
 // The definitions of a scope: the plan with them, and the last id given.
-#[derive(Clone, Copy)]
+#[derive(Clone, Copy, Debug, PartialEq, Eq)]
 struct Defined {
     plan: Plan,
     last: u32,
@@ -36,20 +38,17 @@ fn build(
     work: &mut [u32],
     g: Graph,
     s: usize,
-    ids: &[u32],
+    ids: &[u32; 512],
     last: u32,
     above: usize,
     p: Plan,
-) -> Plan
+) -> Option<Plan>
     requires laid { Laid forest.now }
     requires buildable { Buildable forest.now work.old g.symbols g.scopes }
-    requires site { Site g.symbols s 0 ids.now last above p }
+    requires site { Site g.symbols s 0 last above p }
     ensures { Plans forest.now work.old g ids.now p above
         (λ gr sc env. build_value gr s sc env last) work.new result }
 {
-    if 256 < p.rows {
-        return p;
-    }
     let id = ids[s];
     if id != 0 {
         return planner::put(work, p, above, Planned::ValUse(id));
@@ -64,22 +63,21 @@ fn fresh(
     work: &mut [u32],
     g: Graph,
     s: usize,
-    ids: &[u32],
+    ids: &[u32; 512],
     last: u32,
     above: usize,
     p: Plan,
-) -> Plan
+) -> Option<Plan>
     requires laid { Laid forest.now }
     requires buildable { Buildable forest.now work.old g.symbols g.scopes }
-    requires site { Site g.symbols s 0 ids.now last above p }
+    requires site { Site g.symbols s 0 last above p }
     ensures { Plans forest.now work.old g ids.now p above
         (fresh_tree s last) work.new result }
 {
-    let y = key::load(work, s);
-    let node = y.node;
-    match node {
-        Node::Const(l) => planner::put(work, p, above, Planned::Copy(l.source)),
-        Node::Unparsed(l) => planner::put(work, p, above, Planned::Copy(l.source)),
+    match key::load(work, s).node {
+        Node::Const(l) | Node::Unparsed(l) => {
+            planner::put(work, p, above, Planned::Copy(l.source))
+        }
         Node::Arg(_) => planner::put(work, p, above, Planned::ValUse(0)),
         Node::Lambda(f) => lambda(forest, work, g, s, f, ids, last, above, p),
         Node::Op(o) => operands(forest, work, g, s, o, ids, last, above, p),
@@ -96,31 +94,28 @@ fn operands(
     g: Graph,
     s: usize,
     o: Operation,
-    ids: &[u32],
+    ids: &[u32; 512],
     last: u32,
     above: usize,
     p: Plan,
-) -> Plan
+) -> Option<Plan>
     requires laid { Laid forest.now }
     requires buildable { Buildable forest.now work.old g.symbols g.scopes }
-    requires site { Site g.symbols s 0 ids.now last above p }
+    requires site { Site g.symbols s 0 last above p }
     requires s_value { (symbol_at work.old s).node ≡ Op o }
     ensures { Plans forest.now work.old g ids.now p above
         (fresh_tree s last) work.new result }
 {
-    let opcode = record::opcode(forest, planner::wide(o.source));
+    let opcode = record::opcode(forest, o.source as usize);
     let y = key::load(work, s);
-    let at = regions::SLOTS + planner::wide(y.kids);
-    let count = planner::wide(y.count);
-    let mut q = planner::put(work, p, above, planner::row_of(o));
-    let mut j = 0;
-    while j < count {
-        let kid = planner::wide(work[at + j]);
-        let w = planner::operand_scope(opcode, o, j);
-        q = operand(forest, work, g, kid, w, ids, last, above + 1, q);
-        j += 1;
+    let at = regions::SLOTS + y.kids as usize;
+    let mut q = planner::put(work, p, above, planner::row_of(o))?;
+    for j in 0..y.count as usize {
+        let kid = work[at + j] as usize;
+        let scope = planner::operand_scope(opcode, o, j);
+        q = operand(forest, work, g, kid, scope, ids, last, above + 1, q)?;
     }
-    q
+    Some(q)
 }
 
 // One operand, in its parent's scope or in a thunk of its own.
@@ -130,22 +125,22 @@ fn operand(
     work: &mut [u32],
     g: Graph,
     s: usize,
-    w: Opened,
-    ids: &[u32],
+    scope: Option<u32>,
+    ids: &[u32; 512],
     last: u32,
     above: usize,
     p: Plan,
-) -> Plan
+) -> Option<Plan>
     requires laid { Laid forest.now }
     requires buildable { Buildable forest.now work.old g.symbols g.scopes }
-    requires site { Site g.symbols s 600 ids.now last above p }
-    requires open_low { OpenLow g.scopes w }
+    requires site { Site g.symbols s 600 last above p }
+    requires scope_low { IfSome scope (λ b. b < g.scopes) }
     ensures { Plans forest.now work.old g ids.now p above
-        (λ gr sc env. operand_tree w gr s sc env last) work.new result }
+        (λ gr sc env. operand_tree scope gr s sc env last) work.new result }
 {
-    match w {
-        Opened::Same => build(forest, work, g, s, ids, last, above, p),
-        Opened::Thunk(sc) => thunk(forest, work, g, s, planner::wide(sc), ids, last, above, p),
+    match scope {
+        None => build(forest, work, g, s, ids, last, above, p),
+        Some(sc) => thunk(forest, work, g, s, sc as usize, ids, last, above, p),
     }
 }
 
@@ -159,14 +154,14 @@ fn thunk(
     g: Graph,
     root: usize,
     sc: usize,
-    ids: &[u32],
+    ids: &[u32; 512],
     last: u32,
     above: usize,
     p: Plan,
-) -> Plan
+) -> Option<Plan>
     requires laid { Laid forest.now }
     requires buildable { Buildable forest.now work.old g.symbols g.scopes }
-    requires site { Site g.symbols root 600 ids.now last above p }
+    requires site { Site g.symbols root 600 last above p }
     requires sc_lt_scopes { sc < g.scopes }
     ensures { Plans forest.now work.old g ids.now p above
         (λ gr x env. process_scope gr (build_value gr) root sc env last) work.new result }
@@ -174,7 +169,7 @@ fn thunk(
     if !planner::any_member(forest, work, g, root, sc, ids) {
         return build(forest, work, g, root, ids, last, above, p);
     }
-    let mut map = planner::copied(ids);
+    let mut map = *ids;
     define(forest, work, g, root, sc, &mut map, last, above, p)
 }
 
@@ -187,32 +182,33 @@ fn lambda(
     g: Graph,
     s: usize,
     f: Func,
-    ids: &[u32],
+    ids: &[u32; 512],
     last: u32,
     above: usize,
     p: Plan,
-) -> Plan
+) -> Option<Plan>
     requires laid { Laid forest.now }
     requires buildable { Buildable forest.now work.old g.symbols g.scopes }
-    requires site { Site g.symbols s 0 ids.now last above p }
+    requires site { Site g.symbols s 0 last above p }
     requires s_value { (symbol_at work.old s).node ≡ Lambda f }
     ensures { Plans forest.now work.old g ids.now p above
         (fresh_tree s last) work.new result }
 {
-    let count = symbols::wide(record::aux(forest, planner::wide(f.source)));
+    let count = record::aux(forest, f.source as usize);
     let y = key::load(work, s);
-    let root = planner::wide(work[regions::SLOTS + planner::wide(y.kids)]);
-    let q = planner::put(work, p, above, Planned::Lambda(f.source, last));
-    let mut map = planner::copied(ids);
-    planner::number(&mut map, planner::wide(f.first), planner::wide(count), last);
+    let root = work[regions::SLOTS + y.kids as usize] as usize;
+    let q = planner::put(work, p, above, Planned::Lambda(f.source, last))?;
+    let mut map = *ids;
+    planner::number(&mut map, f.first as usize, usize::from(count), last);
+    let next = last + u32::from(count) + 1;
     define(
         forest,
         work,
         g,
         root,
-        planner::wide(f.body),
+        f.body as usize,
         &mut map,
-        last + count + 1,
+        next,
         above + 1,
         q,
     )
@@ -227,45 +223,31 @@ fn define(
     g: Graph,
     root: usize,
     sc: usize,
-    map: &mut [u32],
+    map: &mut [u32; 512],
     last: u32,
     above: usize,
     p: Plan,
-) -> Plan
+) -> Option<Plan>
     requires laid { Laid forest.now }
     requires buildable { Buildable forest.now work.old g.symbols g.scopes }
-    requires site { Site g.symbols root 600 map.old last above p }
+    requires site { Site g.symbols root 600 last above p }
     requires sc_lt_scopes { sc < g.scopes }
     ensures { Plans forest.now work.old g map.old p above
         (λ gr x env. process_scope gr (build_value gr) root sc env last) work.new result }
 {
-    if 256 < p.rows {
-        return p;
-    }
     if !planner::any_member(forest, work, g, root, sc, map) {
         return build(forest, work, g, root, map, last, above, p);
     }
-    let mut order = outsiders::zeros16();
-    let count = schedule::schedule(forest, work, g, root, sc, &mut order);
-    let k = planner::members(forest, work, g, &order, count, sc, map);
+    let mut order = ArrayVec::new();
+    schedule::schedule(forest, work, g, root, sc, &mut order);
+    let order = order.as_slice();
+    let k = planner::members(forest, work, g, order, sc, map);
     // a member need not stand in the order
     if k == 0 {
         return build(forest, work, g, root, map, last, above, p);
     }
-    let q = planner::put(work, p, above, Planned::Block(k + 1));
-    let d = definitions(
-        forest,
-        work,
-        g,
-        root,
-        sc,
-        &order,
-        count,
-        map,
-        last,
-        above + 1,
-        q,
-    );
+    let q = planner::put(work, p, above, Planned::Block(k + 1))?;
+    let d = definitions(forest, work, g, root, sc, order, map, last, above + 1, q)?;
     build(forest, work, g, root, map, d.last, above + 1, d.plan)
 }
 
@@ -278,28 +260,36 @@ fn definitions(
     root: usize,
     sc: usize,
     order: &[u16],
-    count: usize,
-    map: &mut [u32],
+    map: &mut [u32; 512],
     last: u32,
     above: usize,
     p: Plan,
-) -> Defined
+) -> Option<Defined>
     requires laid { Laid forest.now }
     requires buildable { Buildable forest.now work.old g.symbols g.scopes }
-    requires site { Site g.symbols root 590 map.old last above p }
-    requires count_bound { (count ≤ 512) × (length order.now ≡ 512) }
-    requires by_index { (k : ℕ) → k < count → get_or order.now k 0 ≤ root }
-    ensures { Defines forest.now work.old g map.old p above sc
-        (take count order.now) last count work.new map.new result.plan result.last }
+    requires site { Site g.symbols root 590 last above p }
+    requires order_bound { length order.now ≤ 512 }
+    requires by_index { (k : ℕ) → k < length order.now → get_or order.now k 0 ≤ root }
+    ensures { MatchOption result
+        (DefinesOver forest.now work.old g map.old p sc order.now last work.new)
+        (λ d. Defines forest.now work.old g map.old p above sc order.now last
+        (length order.now) work.new map.new d.plan d.last) }
 {
     let mut d = Defined { plan: p, last };
-    let mut i = 0;
-    while i < count {
-        let s = outsiders::wide(order[i]);
-        d = definition(forest, work, g, s, sc, map, d.last, above, d.plan);
-        i += 1;
+    for &s in order {
+        d = definition(
+            forest,
+            work,
+            g,
+            usize::from(s),
+            sc,
+            map,
+            d.last,
+            above,
+            d.plan,
+        )?;
     }
-    d
+    Some(d)
 }
 
 // The definition of symbol s, if it gets one. Its value is built before its number is given.
@@ -311,40 +301,43 @@ fn definition(
     g: Graph,
     s: usize,
     sc: usize,
-    map: &mut [u32],
+    map: &mut [u32; 512],
     last: u32,
     above: usize,
     p: Plan,
-) -> Defined
+) -> Option<Defined>
     requires laid { Laid forest.now }
     requires buildable { Buildable forest.now work.old g.symbols g.scopes }
-    requires site { Site g.symbols s 10 map.old last above p }
-    ensures { Defines forest.now work.old g map.old p above sc (s ∷ []) last 1
-        work.new map.new result.plan result.last }
+    requires site { Site g.symbols s 10 last above p }
+    ensures { MatchOption result
+        (DefinesOver forest.now work.old g map.old p sc (s ∷ []) last work.new)
+        (λ d. Defines forest.now work.old g map.old p above sc (s ∷ []) last 1
+        work.new map.new d.plan d.last) }
 {
     if planner::member(forest, work, g, s, sc, map) {
         let id = last + 1;
-        let q = planner::put(work, p, above, Planned::ValDef(id));
-        let plan = build(forest, work, g, s, map, last, above + 1, q);
+        let q = planner::put(work, p, above, Planned::ValDef(id))?;
+        let plan = build(forest, work, g, s, map, last, above + 1, q)?;
         map[s] = id;
-        return Defined { plan, last: id };
+        return Some(Defined { plan, last: id });
     }
-    Defined { plan: p, last }
+    Some(Defined { plan: p, last })
 }
 
 // ---- the root
 
-// Plans the written tree of a root's symbol, in region PLAN; how many rows, and how deep. The uses are counted (gate).
+// Plans the written tree of a root's symbol, in region PLAN; how many rows, and how deep, or none if it has more than
+// 256 records. The uses are counted (gate).
 // Rules out: a tree for a symbol that is used twice written twice; a plan of the rows past the 256th; a word of the
 // region past the rows changed.
-pub fn materialize(forest: &[u8], work: &mut [u32], g: Graph, root: usize) -> Plan
+pub fn materialize(forest: &[u8], work: &mut [u32], g: Graph, root: usize) -> Option<Plan>
     requires laid { Laid forest.now }
     requires buildable { Buildable forest.now work.old g.symbols g.scopes }
     requires root_lt_symbols { root < g.symbols }
     requires counted { Counted forest.now work.old g root }
     ensures { Materialized forest.now work.old g root work.new result }
 {
-    let mut map = planner::no_ids();
+    let mut map = [0; 512];
     let p = Plan {
         rows: 0,
         deepest: 0,

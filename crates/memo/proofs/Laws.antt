@@ -1,50 +1,67 @@
 -- Projections remembered in words. In order: the search; which words they hang on; one more pair. Assumes nothing.
-use Prim.Native.Nat.{ℕ, ◌+◌, ◌*◌, ◌/◌, ◌%◌, ◌<◌, ◌≤◌, ◌-◌}
-use mathlib.Core.Path.{◌≡◌, sym, ap, ◌∙◌}
-use Rattle.std.specs.Prelude.{Option, None, Some}
-use mathlib.Core.List.{List, ◌∷◌}
+use Prim.Native.Nat.{ℕ, zero, suc, ◌+◌, ◌*◌, ◌/◌, ◌%◌, ◌<◌, ◌≤◌, ◌-◌}
+use mathlib.Core.Path.{◌≡◌, refl, ap, ◌∙◌}
+use mathlib.Core.Bool.{Bool, true, false, cond}
+use mathlib.Core.List.{List, ◌∷◌, reverse}
 use native.Mathlib.Omega.{arith}
 use native.Mathlib.Numerals.{add-one}
-use borrow.Author.Tests.{eq-eqb, ne_eqb}
-use lib.ListN.{length}
-use lib.Seq.{get_or-set_same}
+use lib.Dec.{eqb}
+use lib.ListN.{length, get_or, take, drop}
+use lib.Seq.{get_or-set_same, take-suc}
+use Rattle.std.specs.Prelude.{Option, Some, option_map}
+use Rattle.std.specs.List.{find, slice_range}
+use Rattle.std.proofs.lemmas.List.{reverse-append, get_or-drop, length-drop}
 use Rattle.model.specs.Intern.{recall}
 use Rattle.laws.specs.Frame.{Agree}
 use Rattle.laws.specs.Stack.{stack_of}
 use Rattle.laws.proofs.Frame.{agree_store}
-use Rattle.laws.proofs.Stack.{stack_kept, search_none, search_hit, search_miss}
+use Rattle.laws.proofs.Stack.{stack_kept}
 use Rattle.regions.specs.Regions.{WORDS, MEMO}
 use Rattle.memo.specs.Memo.{triple_of, triple_at, memo_of, remembered}
 
--- ---- the search, from the newest of k pairs downwards
+-- ---- the search, through the words of n pairs from the newest on
 
-module _ (p : ℕ) where
-  abbrev Is : ℕ × ℕ × ℕ → Type 0
-  Is m = m.0 ≡ p
+abbrev word : List ℕ → ℕ → ℕ
+word ws k = get_or ws (MEMO.first + k) 0
 
-  abbrev fields : ℕ × ℕ × ℕ → Option (ℕ × ℕ)
-  fields m = Some (m.1, m.2)
+pairs_reversed : (ws : List ℕ) (n : ℕ) → MEMO.first + n ≤ length ws →
+    reverse (slice_range ws MEMO.first (MEMO.first + n)) ≡ stack_of (word ws) n
+unfolding stack_of
+pairs_reversed ws n long = rw e (go n long)
+  where
+    e : MEMO.first + n - MEMO.first ≡ n
+    e = omega arith
 
-  here : (m : ℕ × ℕ × ℕ) (ms : List (ℕ × ℕ × ℕ)) → Is m → fields m ≡ recall (m ∷ ms) p
-  unfolding recall
-  here m ms e = rw (eq-eqb m.0 p e, recall)
+    go : (k : ℕ) → MEMO.first + k ≤ length ws → reverse (take k (drop MEMO.first ws)) ≡ stack_of (word ws) k
+    go zero le = refl
+    go (suc k) le =
+        let l : k < length (drop MEMO.first ws) = omega (arith, length-drop MEMO.first ws) in
+        rw (take-suc (drop MEMO.first ws) k 0 l, reverse-append, get_or-drop, go k (omega arith))
 
-  there : (m : ℕ × ℕ × ℕ) (ms : List (ℕ × ℕ × ℕ)) → (Is m → ⊥) → recall ms p ≡ recall (m ∷ ms) p
-  unfolding recall
-  there m ms n = sym (rw (ne_eqb m.0 p n, recall))
+module _ (ws : List ℕ) (p : ℕ) where
+  abbrev fields : ℕ → ℕ × ℕ
+  fields w = (w / 512 % 512, w / 262144)
 
-  module _ (ws : List ℕ) (k : ℕ) where
-    pub recall_none : k ≤ 0 → None ≡ recall (memo_of ws k) p
-    unfolding recall memo_of
-    recall_none = search_none (triple_at ws) (λ ms. recall ms p) Is fields here there k
+  abbrev asked : ℕ → Bool
+  asked w = eqb (w % 512) p
 
-    pub recall_hit : 0 < k → Is (triple_at ws (k - 1)) → fields (triple_at ws (k - 1)) ≡ recall (memo_of ws k) p
-    unfolding memo_of
-    recall_hit = search_hit (triple_at ws) (λ ms. recall ms p) Is fields here there k
+  found_is : (n : ℕ) → option_map fields (find asked (stack_of (word ws) n)) ≡ recall (memo_of ws n) p
+  unfolding recall memo_of stack_of
+  found_is zero = refl
+  found_is (suc n) = go (eqb (word ws n % 512) p) (found_is n)
+    where
+      sought : Option ℕ
+      sought = find asked (stack_of (word ws) n)
 
-    pub recall_miss : 0 < k → (Is (triple_at ws (k - 1)) → ⊥) → recall (memo_of ws (k - 1)) p ≡ recall (memo_of ws k) p
-    unfolding memo_of
-    recall_miss = search_miss (triple_at ws) (λ ms. recall ms p) Is fields here there k
+      go : (t : Bool) → option_map fields sought ≡ recall (memo_of ws n) p →
+          option_map fields (cond t (Some (word ws n)) sought)
+          ≡ elim t [ true ↦ Some (fields (word ws n)) | false ↦ recall (memo_of ws n) p ]
+      go true rest = refl
+      go false rest = rest
+
+  pub recall_found : (n : ℕ) → MEMO.first + n ≤ length ws →
+      option_map fields (find asked (reverse (slice_range ws MEMO.first (MEMO.first + n)))) ≡ recall (memo_of ws n) p
+  recall_found n long = rw (pairs_reversed ws n long) (found_is n)
 
 -- ---- which words
 

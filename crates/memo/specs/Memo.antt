@@ -1,10 +1,8 @@
 -- Projections remembered in words, one to a pair, from MEMO on. In order: a pair; the pairs; one more; what is asked of
--- them; answers. Assumes nothing.
-use Rattle.std.specs.Prelude.{ℕ, ◌+◌, ◌*◌, ◌/◌, ◌%◌, ◌<◌, List, [], ◌∷◌, get_or, set, Option, None, Some}
+-- them. Assumes nothing.
+use Rattle.std.specs.Prelude.{ℕ, ◌+◌, ◌*◌, ◌/◌, ◌%◌, ◌<◌, List, [], ◌∷◌, get_or, set}
 use Rattle.laws.specs.Stack.{stack_of}
 use Rattle.regions.specs.Regions.{MEMO}
-use Rattle.memo.specs.declared.Projections.{Projections}
-use Rattle.memo.specs.declared.Projections.TheVariants.{Pair, Nothing}
 
 -- a symbol and its two projections, in a word
 abbrev pub triple_of : ℕ → ℕ × ℕ × ℕ
@@ -29,7 +27,3 @@ keys_in (t ∷ ts) = t.0 ∷ keys_in ts
 abbrev pub MemoBelow : ℕ → List (ℕ × ℕ × ℕ) → Type 0
 MemoBelow n [] = Unit {0}
 MemoBelow n (t ∷ ts) = ((t.0 < n) × (t.1 < n) × (t.2 < n)) × MemoBelow n ts
-
-abbrev pub projections_of : Projections → Option (ℕ × ℕ)
-projections_of (Pair a b) = Some (a, b)
-projections_of Nothing = None

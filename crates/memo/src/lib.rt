@@ -4,30 +4,17 @@
 ghost use Rattle.std.specs.Prelude.{◌≡◌, ◌+◌, ◌<◌, ◌≤◌, length};
 ghost use Rattle.model.specs.Intern.{recall};
 ghost use Rattle.regions.specs.Regions.{WORDS, MEMO};
-ghost use Rattle.memo.specs.Memo.{memo_of, projections_of, remembered};
+ghost use Rattle.memo.specs.Memo.{memo_of, remembered};
 
-// The symbols of the fields 1 and 2 of a symbol.
-#[derive(Clone, Copy)]
-pub enum Projections {
-    Pair(u32, u32),
-    Nothing,
-}
-
-// What is remembered of symbol p among the first n pairs.
+// What is remembered of symbol p among the first n pairs: the symbols of its fields 1 and 2.
 // Rules out: the pair of another symbol; the two fields exchanged.
-pub fn recall(work: &[u32], n: usize, p: u32) -> Projections
+pub fn recall(work: &[u32], n: usize, p: u32) -> Option<(u32, u32)>
     requires { (n ≤ MEMO.size) × (WORDS ≤ length work.now) }
-    ensures { projections_of result ≡ recall (memo_of work.now n) p }
+    ensures { result ≡ recall (memo_of work.now n) p }
 {
-    let mut k = n;
-    while 0 < k {
-        k -= 1;
-        let w = work[regions::MEMO + k];
-        if w % 512 == p {
-            return Projections::Pair(w / 512 % 512, w / 262144);
-        }
-    }
-    Projections::Nothing
+    let pairs = &work[regions::MEMO..regions::MEMO + n];
+    let newest = pairs.iter().rev().find(|w| **w % 512 == p);
+    newest.map(|w| (*w / 512 % 512, *w / 262144))
 }
 
 // Pair n: a and b are fields 1 and 2 of p. Rules out: b first; another pair changed.

@@ -4,6 +4,7 @@ use Prim.Native.Nat.{ℕ, ◌<◌, ◌≤◌}
 use mathlib.Core.Path.{◌≡◌, sym, ap, ◌∙◌}
 use Rattle.std.specs.Prelude.{None}
 use mathlib.Core.List.{List, [], ◌∷◌}
+use lib.ListN.{length}
 use native.Mathlib.Omega.{arith}
 use Rattle.model.specs.Intern.{open_thunk, close_thunk}
 use Rattle.laws.proofs.Apart.{none_some}
@@ -40,7 +41,7 @@ module _ {bs ws : List ℕ} {st : State} {cur : ℕ} (rep : Rep bs ws st) (few :
       (nested_thunk ws st.scopes cur (omega (arith, rep.arena.scoped.words)) current (omega arith) rep.arena.scoped.nested)
       (λ xs e. none_some (sym word_args ∙ e))
 
-  module _ (t : Tables) (is : Open t st.entries) (room : t.depth < 64) where
+  module _ (t : Tables) (is : Open t st.entries) (room : length t < 64) where
     pub thunk_abs : abs_of bs ws₁ (opened t st.entries) (with_scope st) ≡ open_thunk cur (abs_of bs ws t st)
     thunk_abs =
         scope_abs rep few (thunk_word ws cur) t (opened t st.entries) is cur None
@@ -52,7 +53,7 @@ module _ {bs ws : List ℕ} {st : State} {cur : ℕ} (rep : Rep bs ws st) (few :
 
 -- ---- its table dropped: t are the tables around it, and there were `top` entries before it
 
-module _ (bs ws : List ℕ) (t : Tables) (st : State) (top : ℕ) (is : Open t top) (room : t.depth < 64) where
+module _ (bs ws : List ℕ) (t : Tables) (st : State) (top : ℕ) (is : Open t top) (room : length t < 64) where
   pub closed_abs : abs_of bs ws t (thunk_closed st top) ≡ close_thunk (abs_of bs ws (opened t top) st)
   closed_abs = rw (dropped_tables t top is room ws st.entries)
 

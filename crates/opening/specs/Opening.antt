@@ -5,14 +5,7 @@ use Rattle.interner.specs.declared.State.{State}
 
 -- n readings more
 abbrev pub with_readings : State → ℕ → State
-with_readings st n = record {
-  entries = st.entries;
-  symbols = st.symbols;
-  slots = st.slots;
-  scopes = st.scopes;
-  memo = st.memo;
-  readings = st.readings + n;
-}
+with_readings st n = record st { readings = st.readings + n }
 
 -- one reading more
 abbrev pub with_reading : State → State
@@ -20,22 +13,8 @@ with_reading st = with_readings st 1
 
 -- one scope more
 abbrev pub with_scope : State → State
-with_scope st = record {
-  entries = st.entries;
-  symbols = st.symbols;
-  slots = st.slots;
-  scopes = st.scopes + 1;
-  memo = st.memo;
-  readings = st.readings;
-}
+with_scope st = record st { scopes = st.scopes + 1 }
 
 -- a thunk's table is dropped: `top` entries are left
 abbrev pub thunk_closed : State → ℕ → State
-thunk_closed st top = record {
-  entries = top;
-  symbols = st.symbols;
-  slots = st.slots;
-  scopes = st.scopes;
-  memo = st.memo;
-  readings = st.readings;
-}
+thunk_closed st top = record st { entries = top }

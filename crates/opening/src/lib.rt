@@ -16,12 +16,8 @@ pub fn count_readings(st: State, n: u32) -> State
     ensures { result ≡ with_readings st n }
 {
     State {
-        entries: st.entries,
-        symbols: st.symbols,
-        slots: st.slots,
-        scopes: st.scopes,
-        memo: st.memo,
         readings: st.readings + n,
+        ..st
     }
 }
 
@@ -39,12 +35,8 @@ fn with_scope(st: State) -> State
     ensures { result ≡ with_scope st }
 {
     State {
-        entries: st.entries,
-        symbols: st.symbols,
-        slots: st.slots,
         scopes: st.scopes + 1,
-        memo: st.memo,
-        readings: st.readings,
+        ..st
     }
 }
 
@@ -65,14 +57,7 @@ pub fn open_thunk(work: &mut [u32], st: State, cur: usize) -> State
 pub fn close_thunk(st: State, top: u32) -> State
     ensures { result ≡ thunk_closed st top }
 {
-    State {
-        entries: top,
-        symbols: st.symbols,
-        slots: st.slots,
-        scopes: st.scopes,
-        memo: st.memo,
-        readings: st.readings,
-    }
+    State { entries: top, ..st }
 }
 
 // The body of a lambda inside scope `cur` is opened, with `count` arguments from symbol `first` on: gives the state with

@@ -1,10 +1,9 @@
--- Laws of `over`. In order: from the start on; its length; stores; a copy; one part after another.
+-- Laws of `over`. In order: from the start on; its length; a store; a copy; one part after another.
 -- Assumes nothing.
-use Prim.Native.Nat.{ℕ, suc, ◌+◌, ◌≤◌}
+use Prim.Native.Nat.{ℕ, ◌+◌, ◌≤◌}
 use mathlib.Core.Path.{◌≡◌, sym, ap, ap₂, ◌∙◌}
 use mathlib.Core.List.{List, [], ◌∷◌, ◌++◌, append_assoc, append-nil}
 use native.Mathlib.Omega.{arith}
-use native.Mathlib.Numerals.{add-one}
 use lib.ListN.{length, take, drop, set, length-append, take-append-drop, length-drop}
 use lib.Seq.{length-take-le, sets-eq, take-length, paste, take_at, drop_at, drop-drop}
 use Rattle.output.specs.Output.{over}
@@ -26,24 +25,11 @@ module _ (out : List ℕ) (at : ℕ) where
         length-drop (at + length bytes) out,
       )
 
-  -- ---- stores
+  -- ---- a store
 
   pub set-over : (a : ℕ) → at + 1 ≤ length out → set out at a ≡ over out at (a ∷ [])
   unfolding over
   set-over a h = sets-eq (a ∷ []) out at h
-
-  pub set2_over : (a b : ℕ) → at + 2 ≤ length out → set (set out at a) (at + 1) b ≡ over out at (a ∷ b ∷ [])
-  unfolding over
-  set2_over a b h = rw (add-one at) (sets-eq (a ∷ b ∷ []) out at h)
-
-  pub set4_over : (a b c d : ℕ) → at + 4 ≤ length out →
-      set (set (set (set out at a) (at + 1) b) (at + 2) c) (at + 3) d ≡ over out at (a ∷ b ∷ c ∷ d ∷ [])
-  unfolding over
-  set4_over a b c d h =
-      let e : at + 1 ≡ suc at = omega arith in
-      let f : at + 2 ≡ suc (suc at) = omega arith in
-      let g : at + 3 ≡ suc (suc (suc at)) = omega arith in
-      rw (e, f, g) (sets-eq (a ∷ b ∷ c ∷ d ∷ []) out at h)
 
   -- ---- a copy
 

@@ -1,4 +1,4 @@
--- Laws of `Wrote`. In order: nothing; from its parts; the room left; one part after another.
+-- Laws of `Wrote`. In order: nothing; from its parts; the output's length; one part after another.
 -- Assumes nothing.
 use Prim.Native.Nat.{ℕ, ◌+◌, ◌≤◌}
 use mathlib.Core.Path.{◌≡◌, sym, ap, ◌∙◌, subst}
@@ -23,10 +23,6 @@ wrote_as {out} {at} {bytes} {bytes'} {out'} {next} e = subst (λ (z : List ℕ).
 module _ {out : List ℕ} {at : ℕ} {a o₁ : List ℕ} {p : ℕ} (first : Wrote out at a o₁ p) where
   pub wrote_length : length o₁ ≡ length out
   wrote_length = ap length first.holds ∙ over-length out at a (omega (arith, first.ends, first.fits))
-
-  -- where at most k bytes were written, room for m more is left
-  pub wrote_leaves : (k m : ℕ) → length a ≤ k → at + (k + m) ≤ length out → p + m ≤ length o₁
-  wrote_leaves k m l h = omega (arith, first.ends, wrote_length)
 
   -- ---- one part after another
 

@@ -20,9 +20,7 @@ pub fn put_16(out: &mut [u8], at: usize, n: usize) -> usize
     requires n_bound { n < 65536 }
     ensures { Wrote out.old at (put16 n) out.new result }
 {
-    out[at] = (n % 256) as u8;
-    out[at + 1] = (n / 256) as u8;
-    at + 2
+    put_bytes(out, at, &(n as u16).to_le_bytes())
 }
 
 // A 32-bit number at `at`. Rules out: the high byte first; the byte after it touched.
@@ -30,11 +28,7 @@ pub fn put_32(out: &mut [u8], at: usize, n: u32) -> usize
     requires { at + 4 ≤ length out.old }
     ensures { Wrote out.old at (put32 n) out.new result }
 {
-    out[at] = (n % 256) as u8;
-    out[at + 1] = (n / 256 % 256) as u8;
-    out[at + 2] = (n / 65536 % 256) as u8;
-    out[at + 3] = (n / 16777216) as u8;
-    at + 4
+    put_bytes(out, at, &n.to_le_bytes())
 }
 
 // Bytes in a row, from `at` on. Rules out: the last one left out; a byte past their end touched.
@@ -42,10 +36,7 @@ pub fn put_bytes(out: &mut [u8], at: usize, bytes: &[u8]) -> usize
     requires { at + length bytes.now ≤ length out.old }
     ensures { Wrote out.old at bytes.now out.new result }
 {
-    let mut k = 0;
-    while k < bytes.len() {
-        out[at + k] = bytes[k];
-        k += 1;
-    }
-    at + bytes.len()
+    let next = at + bytes.len();
+    out[at..next].copy_from_slice(bytes);
+    next
 }

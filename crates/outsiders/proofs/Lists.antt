@@ -1,128 +1,109 @@
--- Lists of symbols in slots: a search; one symbol more; what becomes of a list, step by step.
--- In order: numbers below a bound; a search; `Held`; `Appended`; `Listed`.
+-- Lists that hold each symbol once. In order: a search; one symbol more; lists of symbols below a bound; a run of
+-- symbols; what becomes of a list, step by step.
 -- Assumes nothing.
-use Prim.Native.Nat.{ℕ, zero, suc, ◌+◌, ◌-◌, ◌<◌, ◌≤◌}
-use mathlib.Core.Path.{◌≡◌, refl, sym, ap, subst, ◌∙◌}
-use mathlib.Core.Bool.{true, false}
+use Prim.Native.Nat.{ℕ, ◌+◌, ◌<◌, ◌≤◌}
+use mathlib.Core.Path.{◌≡◌, refl, sym, ap, ap₂, ◌∙◌}
+use mathlib.Core.Bool.{Bool, true, false, ◌||◌}
 use mathlib.Core.Logic.{inl, inr}
 use mathlib.Core.List.{List, [], ◌∷◌, ◌++◌}
 use native.Mathlib.Omega.{arith}
-use native.Mathlib.Numerals.{add-one}
-use borrow.Author.Tests.{eq-eqb, ne_eqb}
-use lib.ListN.{length, get_or, set, take, drop, length-append, drop_of_length-le}
-use lib.Seq.{length-take-le, take-suc-set, get_or-take, drop-cons, drop-set-lt, drop-drop}
-use Rattle.model.specs.Lists.{is_in}
+use lib.Dec.{eqb}
+use lib.ListN.{length, get_or, take, length-append}
+use Rattle.std.proofs.lemmas.List.{take_more}
+use Rattle.std.specs.List.{list_any}
+use Rattle.std.proofs.lemmas.Bool.Decides.{nat_tests}
+use Rattle.model.specs.Lists.{is_in, add, union}
 use Rattle.model.specs.Gate.{Graph}
-use Rattle.laws.specs.Members.{In, Every, Once}
-use Rattle.laws.proofs.Members.{is_in_false, in_one}
-use Rattle.laws.proofs.Walks.{every_join}
-use Rattle.laws.proofs.Once.{snoc_once}
+use Rattle.laws.specs.Members.{Under}
+use Rattle.laws.proofs.Members.{add_cases}
+use Rattle.laws.proofs.Once.{add_once}
 use Rattle.laws.proofs.Short.{once_short}
+use Rattle.laws.proofs.Adding.{union-last}
 use Rattle.graph.specs.Graph.{graph_of}
-use Rattle.outsiders.specs.Outsiders.{Held, Appended, Listed}
+use Rattle.outsiders.specs.Outsiders.{Held, Listed}
 
--- ---- numbers below a bound
+-- ---- a search
 
--- a member by its place
-at_in : (l : List ℕ) (j : ℕ) → j < length l → In (get_or l j 0) l
-at_in [] j lt = absurd (omega arith)
-at_in (x ∷ l) zero lt = inl refl
-at_in (x ∷ l) (suc j) lt = inr (at_in l j (omega arith))
+flip : (a b : ℕ) → eqb a b ≡ eqb b a
+flip a b = grind (arith, nat_tests)
 
-pub every_at : (P : ℕ → Type 0) (list : List ℕ) (k j : ℕ) → k ≤ length list → j < k → Every P (take k list) →
-    P (get_or list j 0)
-every_at P list k j le lt h =
-    let e = length-take-le k list le in
-    subst P (get_or-take k list j 0 lt) (h (get_or (take k list) j 0) (at_in (take k list) j (omega arith)))
+contains_is : (d : ℕ) (list : List ℕ) → list_any (λ y. eqb y d) list ≡ is_in d list
+unfolding is_in
+contains_is d [] = refl
+contains_is d (x ∷ xs) = ap₂ (λ (a b : Bool). a || b) (flip x d) (contains_is d xs)
 
--- ---- a search of the first n of a list
+-- ---- one symbol more
 
-module _ (list : List ℕ) (n d : ℕ) (le : n ≤ length list) where
-  abbrev part : List ℕ
-  part = take n list
+module _ (d : ℕ) (list : List ℕ) where
+  add_is : (b : Bool) → is_in d list ≡ b → add list d ≡ elim b [ true ↦ list | false ↦ list ++ (d ∷ []) ]
+  unfolding add
+  add_is b e = rw (e, add)
 
-  next : (k : ℕ) → k < n → drop k part ≡ get_or list k 0 ∷ drop (k + 1) part
-  next k lt =
-      let e = length-take-le n list le in
-      rw (add-one, ← get_or-take n list k 0 lt) (drop-cons part k 0 (omega arith))
+  -- what a search of the entries finds
+  module _ {entries : List ℕ} (all : entries ≡ list) {found : Bool} (is : found ≡ list_any (λ y. eqb y d) entries) where
+    pub found_is : is_in d list ≡ found
+    found_is = sym (is ∙ (ap (list_any (λ y. eqb y d)) all ∙ contains_is d list))
 
-  pub search_hit : (k : ℕ) → k < n → is_in d (drop k part) ≡ is_in d part → get_or list k 0 ≡ d → true ≡ is_in d part
-  unfolding is_in
-  search_hit k lt h e = rw (next k lt, eq-eqb d (get_or list k 0) (sym e)) at h
+    pub add_old : found ≡ true → list ≡ add list d
+    add_old e = sym (add_is true (found_is ∙ e))
 
-  pub search_on : (k : ℕ) → k < n → is_in d (drop k part) ≡ is_in d part → (get_or list k 0 ≡ d → ⊥) →
-      is_in d (drop (k + 1) part) ≡ is_in d part
-  unfolding is_in
-  search_on k lt h ne = rw (next k lt, ne_eqb d (get_or list k 0) (λ e. ne (sym e))) at h
+    pub add_new : found ≡ false → list ++ (d ∷ []) ≡ add list d
+    add_new e = sym (add_is false (found_is ∙ e))
 
-  pub search_end : (k : ℕ) → n ≤ k → is_in d (drop k part) ≡ is_in d part → false ≡ is_in d part
-  unfolding is_in
-  search_end k ge h =
-      let e : length part ≤ k = omega (arith, length-take-le n list le) in rw (drop_of_length-le part e) at h
+-- ---- lists of symbols below n, each once
 
--- ---- lists that hold each symbol once
+pub held_none : (n : ℕ) → Held n []
+held_none n = record { once = tt; low = λ s i. absurd i }
 
-module _ (n : ℕ) (list : List ℕ) (k : ℕ) (h : Held n list k) (d : ℕ) (lt : d < n)
-    (new : is_in d (take k list) ≡ false) where
-  once_more : Once (take k list ++ (d ∷ []))
-  once_more = snoc_once (take k list) d h.once (is_in_false d (take k list) new)
+pub held_up : {n m : ℕ} {list : List ℕ} → Held n list → n ≤ m → Held m list
+held_up h le = record { once = h.once; low = λ s i. omega (arith, h.low s i) }
 
-  low_more : Every (λ s. s < n) (take k list ++ (d ∷ []))
-  low_more = every_join (λ s. s < n) (take k list) (d ∷ []) h.low (λ s i. omega (arith, in_one i))
-
-  -- there is room for one more
-  pub held_room : k < n
-  held_room =
-      let short = once_short n (take k list ++ (d ∷ [])) once_more low_more in
-      omega (arith, length-append (take k list) (d ∷ []), length-take-le k list (omega (arith, h.long, h.fit)))
-
-  pub held_more : n ≤ 512 → (list' : List ℕ) (r : ℕ) → length list' ≡ 512 → r ≡ k + 1 →
-      take r list' ≡ take k list ++ (d ∷ []) → Held n list' r
-  held_more few list' r long e is = record {
-    long = long;
-    fit = omega (arith, held_room);
-    once = subst Once (sym is) once_more;
-    low = subst (Every (λ s. s < n)) (sym is) low_more;
+module _ (n d : ℕ) (list : List ℕ) (h : Held n list) (lt : d < n) where
+  pub held_add : Held n (add list d)
+  held_add = record {
+    once = add_once list d h.once;
+    low = λ s i. elim (add_cases s list d i) [ inl j ↦ h.low s j | inr e ↦ omega arith ];
   }
 
--- what a store after the first k gives
-pub take_put : (list : List ℕ) (k d : ℕ) → k < length list → take (k + 1) (set list k d) ≡ take k list ++ (d ∷ [])
-take_put list k d lt = rw (add-one, take-suc-set list k d lt)
+  module _ (new : is_in d list ≡ false) where
+    pub held_last : Held n (list ++ (d ∷ []))
+    held_last = rw (add_is d list false new) at held_add
 
--- ---- lists that grow at their end
+    -- there is room for it
+    pub held_room : length list < n
+    held_room =
+        omega (arith, once_short n (list ++ (d ∷ [])) held_last.once held_last.low, length-append list (d ∷ []))
 
-pub appended_none : (list : List ℕ) (k : ℕ) → Appended list k list k
-appended_none list k = record { more = omega arith; rest = refl }
+pub held_union : (n : ℕ) (list run : List ℕ) → Held n list → Under n run → Held n (union list run)
+unfolding union
+held_union n list [] h u = h
+held_union n list (d ∷ run) h u =
+    held_union n (add list d) run (held_add n d list h (u d (inl refl))) (λ s i. u s (inr i))
 
-pub appended_put : (list : List ℕ) (k d : ℕ) → Appended list k (set list k d) (k + 1)
-appended_put list k d = record { more = omega arith; rest = drop-set-lt (k + 1) list k d (omega arith) }
+-- ---- a run of symbols
 
-pub appended_then : (a : List ℕ) (i : ℕ) (b : List ℕ) (j : ℕ) (c : List ℕ) (k : ℕ) → Appended a i b j →
-    Appended b j c k → Appended a i c k
-appended_then a i b j c k p q = record {
-  more = omega (arith, p.more, q.more);
-  rest = q.rest ∙ (sym (from b) ∙ (ap (drop (k - j)) p.rest ∙ from a));
-}
-  where
-    from : (l : List ℕ) → drop (k - j) (drop j l) ≡ drop k l
-    from l = let e : j + (k - j) ≡ k = omega (arith, q.more) in drop-drop (k - j) j l ∙ ap (λ (x : ℕ). drop x l) e
+-- the run up to the next of its entries
+pub next : (run : List ℕ) (j d : ℕ) → j < length run → d ≡ get_or run j 0 → take (j + 1) run ≡ take j run ++ (d ∷ [])
+next run j d lt e = rw e (take_more run j 0 lt)
+
+pub union_next : (list run : List ℕ) (j d : ℕ) → j < length run → d ≡ get_or run j 0 →
+    add (union list (take j run)) d ≡ union list (take (j + 1) run)
+union_next list run j d lt e =
+    sym (ap (union list) (next run j d lt e) ∙ union-last list (take j run) d)
 
 -- ---- what becomes of a list
 
-module _ (bs ws : List ℕ) (n m : ℕ) where
-  pub listed_none : (list : List ℕ) (k : ℕ) → Held n list k → Listed bs ws n m (λ g o. o) list k list k
-  listed_none list k h = record { held = h; appended = appended_none list k; is = λ slots. refl }
+module _ {bs ws : List ℕ} {n m : ℕ} where
+  pub listed_none : {list : List ℕ} → Held n list → Listed bs ws n m (λ g o. o) list list
+  listed_none h = record { held = h; is = λ slots. refl }
 
-  pub listed_then : (f h : Graph → List ℕ → List ℕ) (a : List ℕ) (i : ℕ) (b : List ℕ) (j : ℕ) (c : List ℕ) (k : ℕ) →
-      Listed bs ws n m f a i b j → Listed bs ws n m h b j c k → Listed bs ws n m (λ g o. h g (f g o)) a i c k
-  listed_then f h a i b j c k p q = record {
+  pub listed_as : {f h : Graph → List ℕ → List ℕ} {a b : List ℕ} → Listed bs ws n m f a b →
+      ((slots o : List ℕ) → f (graph_of bs ws n m slots) o ≡ h (graph_of bs ws n m slots) o) → Listed bs ws n m h a b
+  listed_as {a = a} p e = record { held = p.held; is = λ slots. p.is slots ∙ e slots a }
+
+  pub listed_then : {f h : Graph → List ℕ → List ℕ} {a b c : List ℕ} → Listed bs ws n m f a b → Listed bs ws n m h b c →
+      Listed bs ws n m (λ g o. h g (f g o)) a c
+  listed_then {h = h} p q = record {
     held = q.held;
-    appended = appended_then a i b j c k p.appended q.appended;
     is = λ slots. q.is slots ∙ ap (h (graph_of bs ws n m slots)) (p.is slots);
   }
-
-  pub listed_as : (f h : Graph → List ℕ → List ℕ) (a : List ℕ) (i : ℕ) (b : List ℕ) (j : ℕ) →
-      ((slots o : List ℕ) → f (graph_of bs ws n m slots) o ≡ h (graph_of bs ws n m slots) o) →
-      Listed bs ws n m f a i b j → Listed bs ws n m h a i b j
-  listed_as f h a i b j e p =
-      record { held = p.held; appended = p.appended; is = λ slots. p.is slots ∙ e slots (take i a) }

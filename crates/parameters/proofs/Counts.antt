@@ -1,82 +1,73 @@
--- Parameters and definitions counted. In order: one number of parameters more; one record more.
+-- Parameters and definitions counted. In order: one number of parameters more; records that are counted one by one.
 -- Assumes nothing.
-use Prim.Native.Nat.{ℕ, suc, ◌+◌, ◌<◌, ◌≤◌}
-use mathlib.Core.Path.{◌≡◌, refl, sym, ap, ◌∙◌}
+use Prim.Native.Nat.{ℕ, suc, ◌+◌, ◌<◌}
+use mathlib.Core.Path.{◌≡◌, refl, sym, ap}
 use mathlib.Core.Bool.{Bool, true, false}
-use Rattle.std.specs.Prelude.{None, Some}
-use mathlib.Core.List.{List}
+use Rattle.std.specs.Prelude.{Option, None, Some, cond}
+use Rattle.std.specs.Option.{is_some}
+use Rattle.std.specs.List.{filter, range_with_len}
+use mathlib.Core.List.{List, [], ◌∷◌}
 use native.Mathlib.Omega.{arith}
 use native.Mathlib.Numerals.{add-one}
-use borrow.Author.Tests.{eq-eqb, ne_eqb}
 use lib.Dec.{eqb}
-use lib.ListN.{drop}
+use lib.ListN.{length, get_or}
 use Rattle.model.specs.Tree.{Row}
 use Rattle.model.specs.Opcodes.{ValDef}
 use Rattle.model.specs.Forest.{record_count, rows_in}
 use Rattle.model.specs.Template.{definitions}
 use Rattle.model.specs.TemplateLine.{stands_at, parameters_below, parameters}
-use Rattle.record.specs.Record.{row_at}
-use Rattle.walk.proofs.Bridge.{rows_at, rows_end}
+use Rattle.laws.proofs.Header.{row_count}
+use Rattle.record.specs.Record.{no_row, row_at}
 
 -- ---- parameters
 
-pub below_none : (rs : List Row) → 0 ≡ parameters_below 0 rs
+pub below_none : (rs : List Row) → parameters_below 0 rs ≡ 0
 unfolding parameters_below
 below_none rs = refl
 
-pub below_all : (rs : List Row) (a n : ℕ) → a ≤ 256 → 256 ≤ a → n ≡ parameters_below a rs → n ≡ parameters rs
+pub below_one : (rs : List Row) (a : ℕ) →
+    parameters_below (a + 1) rs ≡ parameters_below a rs + cond (is_some (stands_at a rs)) 1 0
+unfolding parameters_below
+below_one rs a = rw (add-one a) (go (stands_at a rs))
+  where
+    go : (o : Option ℕ) →
+        ◌≡◌ {A = ℕ} (elim o [ Some p ↦ suc (parameters_below a rs) | None ↦ parameters_below a rs ])
+        (parameters_below a rs + cond (is_some o) 1 0)
+    go None = omega arith
+    go (Some p) = omega arith
+
+-- 255 is the last
+pub below_all : (rs : List Row) (a : ℕ) → a ≡ 255 →
+    parameters_below a rs + cond (is_some (stands_at a rs)) 1 0 ≡ parameters rs
 unfolding parameters
-below_all rs a n l m e = let f : a ≡ 256 = omega arith in e ∙ ap (λ (z : ℕ). parameters_below z rs) f
+below_all rs a e = let f : 256 ≡ a + 1 = omega arith in rw f (sym (below_one rs a))
 
-module _ (rs : List Row) (a n : ℕ) (e : n ≡ parameters_below a rs) where
-  pub below_one : (p : ℕ) → Some p ≡ stands_at a rs → n + 1 ≡ parameters_below (a + 1) rs
-  unfolding parameters_below
-  below_one p f = rw (add-one a, add-one n, sym f, parameters_below) (ap suc e)
-
-  pub below-same : None ≡ stands_at a rs → n ≡ parameters_below (a + 1) rs
-  unfolding parameters_below
-  below-same f = rw (add-one a, sym f, parameters_below) e
+pub ruleset counting = (below_none, below_one, below_all)
 
 -- ---- definitions
 
--- so many are counted before record i: the others are those from there on
-pub record Counted (bs : List ℕ) (n count i : ℕ) : Type 0 where
-  pub records : n ≡ record_count bs
-  pub reached : i ≤ n
-  pub few : count ≤ i
-  pub left : count + definitions (drop i (rows_in bs)) ≡ definitions (rows_in bs)
+counted_at : (rs : List Row) (i : ℕ) (test : ℕ → Bool) →
+    ((k : ℕ) → k < length rs → test (i + k) ≡ eqb (get_or rs k no_row).rec.shape ValDef) →
+    length (filter test (range_with_len i (length rs))) ≡ definitions rs
+unfolding definitions
+counted_at [] i test h = refl
+counted_at (r ∷ rs) i test h =
+    let e : i + 0 ≡ i = omega arith in
+    let own : test i ≡ eqb r.rec.shape ValDef = rw e at (h 0 (omega arith)) in
+    let rest =
+    counted_at rs (i + 1) test
+    (λ k l. let f : i + 1 + k ≡ i + suc k = omega arith in rw f (h (suc k) (omega arith))) in
+    rw own (go (eqb r.rec.shape ValDef) _ rest)
+  where
+    go : (b : Bool) (later : List ℕ) → length later ≡ definitions rs →
+        ◌≡◌ {A = ℕ} (length (cond b (i ∷ later) later)) (elim b [ true ↦ suc (definitions rs) | false ↦ definitions rs ])
+    go true later e = ap suc e
+    go false later e = e
 
-pub counted_start : (bs : List ℕ) (n : ℕ) → n ≡ record_count bs → Counted bs n 0 0
-counted_start bs n e = record { records = e; reached = omega arith; few = omega arith; left = omega arith }
-
-module _ {bs : List ℕ} {n count i : ℕ} (h : Counted bs n count i) where
-  pub counted_all : n ≤ i → count ≡ definitions (rows_in bs)
-  unfolding definitions
-  counted_all l = omega (arith, ap definitions (rows_end bs i (omega (arith, h.records))), h.left)
-
-  -- record i, and those after it
-  definitions_at : i < n → (b : Bool) → eqb (row_at bs i).rec.shape ValDef ≡ b →
-      let later = definitions (drop (i + 1) (rows_in bs)) in
-      ◌≡◌ {A = ℕ} (definitions (drop i (rows_in bs))) (elim b [ true ↦ suc later | false ↦ later ])
-  unfolding definitions
-  definitions_at l b e =
-      let later = definitions (drop (i + 1) (rows_in bs)) in
-      ap definitions (rows_at bs i (omega (arith, h.records))) ∙
-      ap (λ (z : Bool). elim z as (λ _. ℕ) [ true ↦ suc later | false ↦ later ]) e
-
-  module _ (s : ℕ) (is : s ≡ (row_at bs i).rec.shape) (l : i < n) where
-    pub counted_more : s ≡ ValDef → Counted bs n (count + 1) (i + 1)
-    counted_more e = record {
-      records = h.records;
-      reached = omega arith;
-      few = omega (arith, h.few);
-      left = omega (arith, h.left, definitions_at l true (eq-eqb _ _ (sym is ∙ e)));
-    }
-
-    pub counted_same : (s ≡ ValDef → ⊥) → Counted bs n count (i + 1)
-    counted_same e = record {
-      records = h.records;
-      reached = omega arith;
-      few = omega (arith, h.few);
-      left = omega (arith, h.left, definitions_at l false (ne_eqb _ _ (λ f. e (is ∙ f))));
-    }
+-- the records of a tree that are definitions, by number
+pub counted : (bs : List ℕ) → length (filter (λ i. eqb (row_at bs i).rec.shape ValDef) (range_with_len 0 (record_count bs))) ≡ definitions (rows_in bs)
+unfolding row_at
+counted bs =
+    rw (← row_count bs)
+    (counted_at (rows_in bs) 0 (λ i. eqb (get_or (rows_in bs) i no_row).rec.shape ValDef)
+    (λ k l. let e : 0 + k ≡ k = omega arith in rw e))

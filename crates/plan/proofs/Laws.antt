@@ -1,66 +1,81 @@
 -- Planned rows in words. In order: a row's three words; a row stored is loaded again, and words elsewhere are kept; the
 -- words that a plan hangs on; one row more at a plan's end; joined plans.
 -- Assumes nothing.
-use Prim.Native.Nat.{ℕ, zero, suc, ◌+◌, ◌*◌, ◌≤◌}
-use mathlib.Core.Path.{◌≡◌, refl, ap, ap₂, ◌∙◌}
+use Prim.Native.Nat.{ℕ, zero, suc, ◌+◌, ◌*◌, ◌≤◌, ◌<◌}
+use mathlib.Core.Path.{◌≡◌, refl, sym, ap, ap₂, ◌∙◌}
 use mathlib.Core.List.{List, [], ◌∷◌, ◌++◌}
 use native.Mathlib.Omega.{arith}
-use lib.ListN.{length, get_or, set, length-set}
-use lib.Seq.{get_or-set_same, get_or-set_other}
+use Rattle.std.proofs.Common.{add-zero}
+use lib.ListN.{length, get_or, set}
+use lib.Seq.{sets, length-sets}
 use Rattle.model.specs.Tree.{Row}
 use Rattle.laws.specs.Frame.{Agree, Frame}
-use Rattle.laws.proofs.Frame.{frame_then, frame_below, frame_store}
-use Rattle.plan.specs.Plan.{put3, store_planned, planned_of, planned_at, plan_from, row_for, rows_for, AllWritable}
+use Rattle.laws.proofs.Frame.{frame_below}
+use Rattle.laws.proofs.Runs.{sets_run, sets_before, sets_after}
+use Rattle.plan.specs.Plan.{words_of, store_planned, planned_of, planned_at, plan_from, row_for, rows_for, AllWritable}
 use Rattle.plan.specs.declared.Planned.{Planned}
 use Rattle.plan.specs.declared.Planned.TheVariants.{Copy, Field, ValUse, ValDef, Block, Lambda}
 
-module _ (ws : List ℕ) (at tag a b : ℕ) where
-  put3-first : at + 3 ≤ length ws → get_or (put3 ws at tag a b) at 0 ≡ tag
-  put3-first h =
-      get_or-set_other (set (set ws at tag) (at + 1) a) (at + 2) at b 0 (λ e. omega arith)
-      ∙ (get_or-set_other (set ws at tag) (at + 1) at a 0 (λ e. omega arith)
-      ∙ get_or-set_same ws at tag 0 (omega arith))
+words_length : (p : Planned) → length (words_of p) ≡ 3
+words_length (Copy i) = refl
+words_length (Field f) = refl
+words_length (ValUse id) = refl
+words_length (ValDef id) = refl
+words_length (Block kids) = refl
+words_length (Lambda i last) = refl
 
-  put3_second : at + 3 ≤ length ws → get_or (put3 ws at tag a b) (at + 1) 0 ≡ a
-  put3_second h =
-      get_or-set_other (set (set ws at tag) (at + 1) a) (at + 2) (at + 1) b 0 (λ e. omega arith)
-      ∙ get_or-set_same (set ws at tag) (at + 1) a 0 (simp length-set (omega arith))
+words_planned : (p : Planned) → planned_of (get_or (words_of p) 0 0) (get_or (words_of p) 1 0) (get_or (words_of p) 2 0) ≡ p
+unfolding planned_of
+words_planned (Copy i) = refl
+words_planned (Field f) = refl
+words_planned (ValUse id) = refl
+words_planned (ValDef id) = refl
+words_planned (Block kids) = refl
+words_planned (Lambda i last) = refl
 
-  put3_third : at + 3 ≤ length ws → get_or (put3 ws at tag a b) (at + 2) 0 ≡ b
-  put3_third h = get_or-set_same (set (set ws at tag) (at + 1) a) (at + 2) b 0 (simp length-set (omega arith))
+-- ---- stored word by word, and loaded
 
-  put3_planned : at + 3 ≤ length ws → planned_at (put3 ws at tag a b) at ≡ planned_of tag a b
+set3_sets : (ws : List ℕ) (at a b c : ℕ) → set (set (set ws at a) (at + 1) b) (at + 2) c ≡ sets ws at (a ∷ b ∷ c ∷ [])
+set3_sets ws at a b c =
+    let e : at + 1 ≡ suc at = omega arith in
+    let f : at + 2 ≡ suc (suc at) = omega arith in
+    rw (e, f)
+
+pub stored_words : (ws : List ℕ) (at : ℕ) (p : Planned) (row : List ℕ) → row ≡ words_of p
+    → set (set (set ws at (get_or row 0 0)) (at + 1) (get_or row 1 0)) (at + 2) (get_or row 2 0) ≡ store_planned ws at p
+unfolding store_planned
+stored_words ws at p row e = rw e (go p)
+  where
+    go : (q : Planned) → set (set (set ws at (get_or (words_of q) 0 0)) (at + 1) (get_or (words_of q) 1 0)) (at + 2) (get_or (words_of q) 2 0) ≡ sets ws at (words_of q)
+    go (Copy i) = set3_sets ws at 0 i 0
+    go (Field f) = set3_sets ws at 1 f 0
+    go (ValUse id) = set3_sets ws at 2 id 0
+    go (ValDef id) = set3_sets ws at 3 id 0
+    go (Block kids) = set3_sets ws at 4 kids 0
+    go (Lambda i last) = set3_sets ws at 5 i last
+
+module _ (ws : List ℕ) (at : ℕ) (p : Planned) where
+  stored_word : (j : ℕ) → j < 3 → at + 3 ≤ length ws → get_or (store_planned ws at p) (at + j) 0 ≡ get_or (words_of p) j 0
+  unfolding store_planned
+  stored_word j lt h =
+      let l = words_length p in
+      sets_run (words_of p) ws at j (omega arith) (omega arith)
+
+  stored_loaded : at + 3 ≤ length ws → planned_at (store_planned ws at p) at ≡ p
   unfolding planned_at
-  put3_planned h = rw (put3-first h, put3_second h, put3_third h)
+  stored_loaded h =
+      let first : get_or (store_planned ws at p) at 0 ≡ get_or (words_of p) 0 0 =
+      ap (λ (k : ℕ). get_or (store_planned ws at p) k 0) (sym (add-zero at)) ∙ stored_word 0 (omega arith) h in
+      rw (first, stored_word 1 (omega arith) h, stored_word 2 (omega arith) h) (words_planned p)
 
   -- no word outside the row changes
-  put3_frame : Frame at (at + 3) ws (put3 ws at tag a b)
-  put3_frame =
-      frame_then _ _ _ _ _
-      (frame_then _ _ _ _ _ (frame_store _ _ at tag ws (omega arith) (omega arith))
-      (frame_store _ _ (at + 1) a (set ws at tag) (omega arith) (omega arith)))
-      (frame_store _ _ (at + 2) b (set (set ws at tag) (at + 1) a) (omega arith) (omega arith))
-
--- ---- load after store
-
-stored_loaded : (ws : List ℕ) (at : ℕ) (p : Planned) → at + 3 ≤ length ws → planned_at (store_planned ws at p) at ≡ p
-unfolding store_planned planned_of
-stored_loaded ws at (Copy i) h = put3_planned ws at 0 i 0 h
-stored_loaded ws at (Field f) h = put3_planned ws at 1 f 0 h
-stored_loaded ws at (ValUse id) h = put3_planned ws at 2 id 0 h
-stored_loaded ws at (ValDef id) h = put3_planned ws at 3 id 0 h
-stored_loaded ws at (Block kids) h = put3_planned ws at 4 kids 0 h
-stored_loaded ws at (Lambda i last) h = put3_planned ws at 5 i last h
-
--- no word outside the row changes
-pub stored_frame : (ws : List ℕ) (at : ℕ) (p : Planned) → Frame at (at + 3) ws (store_planned ws at p)
-unfolding store_planned
-stored_frame ws at (Copy i) = put3_frame ws at 0 i 0
-stored_frame ws at (Field f) = put3_frame ws at 1 f 0
-stored_frame ws at (ValUse id) = put3_frame ws at 2 id 0
-stored_frame ws at (ValDef id) = put3_frame ws at 3 id 0
-stored_frame ws at (Block kids) = put3_frame ws at 4 kids 0
-stored_frame ws at (Lambda i last) = put3_frame ws at 5 i last
+  pub stored_frame : Frame at (at + 3) ws (store_planned ws at p)
+  unfolding store_planned
+  stored_frame = record {
+    long = length-sets ws at (words_of p);
+    before = λ k lt. sets_before (words_of p) ws at k lt;
+    after = λ k le. sets_after (words_of p) ws at k (omega (arith, words_length p));
+  }
 
 -- ---- the words that a plan hangs on: its own
 

@@ -1,7 +1,8 @@
 -- A plan's rows in work words. In order: a row in words; the rows of a written tree that they stand for; rows that can
 -- be written.
 -- Assumes nothing.
-use Rattle.std.specs.Prelude.{ℕ, zero, suc, ◌+◌, ◌<◌, ◌≡◌, Bool, true, false, List, [], ◌∷◌, ◌++◌, eqb, length, get_or, set}
+use Rattle.std.specs.Prelude.{ℕ, zero, suc, ◌+◌, ◌<◌, ◌≡◌, Bool, true, false, List, [], ◌∷◌, ◌++◌, eqb, length, get_or}
+use Rattle.std.proofs.lemmas.List.Edits.{sets}
 use Rattle.model.specs.Bytes.{put32}
 use Rattle.model.specs.Tree.{rec, Row}
 use Rattle.model.specs.Opcodes as code
@@ -13,18 +14,19 @@ use Rattle.record.specs.Record.{row_at}
 use Rattle.plan.specs.declared.Planned.{Planned}
 use Rattle.plan.specs.declared.Planned.TheVariants.{Copy, Field, ValUse, ValDef, Block, Lambda}
 
--- ---- in words: a tag and two numbers
+-- ---- in words: which kind of row it is, and two numbers
 
-abbrev pub put3 : List ℕ → ℕ → ℕ → ℕ → ℕ → List ℕ
-put3 ws at tag a b = set (set (set ws at tag) (at + 1) a) (at + 2) b
+abbrev pub words_of : Planned → List ℕ
+words_of (Copy i) = 0 ∷ i ∷ 0 ∷ []
+words_of (Field f) = 1 ∷ f ∷ 0 ∷ []
+words_of (ValUse id) = 2 ∷ id ∷ 0 ∷ []
+words_of (ValDef id) = 3 ∷ id ∷ 0 ∷ []
+words_of (Block kids) = 4 ∷ kids ∷ 0 ∷ []
+words_of (Lambda i last) = 5 ∷ i ∷ last ∷ []
 
+-- the row p stored from word `at` on
 unfoldable pub store_planned : List ℕ → ℕ → Planned → List ℕ
-store_planned ws at (Copy i) = put3 ws at 0 i 0
-store_planned ws at (Field f) = put3 ws at 1 f 0
-store_planned ws at (ValUse id) = put3 ws at 2 id 0
-store_planned ws at (ValDef id) = put3 ws at 3 id 0
-store_planned ws at (Block kids) = put3 ws at 4 kids 0
-store_planned ws at (Lambda i last) = put3 ws at 5 i last
+store_planned ws at p = sets ws at (words_of p)
 
 abbrev pub choose : Bool → Planned → Planned → Planned
 choose true p q = p

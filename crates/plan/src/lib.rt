@@ -2,11 +2,11 @@
 #![tactic(auto)]
 
 ghost use Rattle.std.specs.Prelude.{◌≡◌, ◌+◌, ◌≤◌, length};
-ghost use Rattle.plan.specs.Plan.{put3, planned_of, planned_at, store_planned};
+ghost use Rattle.plan.specs.Plan.{words_of, planned_at, store_planned};
 
 // A record to be written. Field is made beside a projection that was read, so no record of the forest has its
 // literal.
-#[derive(Clone, Copy)]
+#[derive(Clone, Copy, Debug, PartialEq, Eq)]
 pub enum Planned {
     // the forest's record, as it stands
     Copy(u32),
@@ -22,13 +22,18 @@ pub enum Planned {
     Lambda(u32, u32),
 }
 
-fn put3(words: &mut [u32], at: usize, tag: u32, a: u32, b: u32)
-    requires { at + 3 ≤ length words.old }
-    ensures { words.new ≡ put3 words.old at tag a b }
+// A row's words: which kind it is, and its numbers.
+fn words_of(p: Planned) -> [u32; 3]
+    ensures { result ≡ words_of p }
 {
-    words[at] = tag;
-    words[at + 1] = a;
-    words[at + 2] = b;
+    match p {
+        Planned::Copy(i) => [0, i, 0],
+        Planned::Field(f) => [1, f, 0],
+        Planned::ValUse(id) => [2, id, 0],
+        Planned::ValDef(id) => [3, id, 0],
+        Planned::Block(kids) => [4, kids, 0],
+        Planned::Lambda(i, last) => [5, i, last],
+    }
 }
 
 // The row p at word `at`. Rules out: a definition stored as a use; a word outside the row touched.
@@ -36,20 +41,21 @@ pub fn store(words: &mut [u32], at: usize, p: Planned)
     requires { at + 3 ≤ length words.old }
     ensures { words.new ≡ store_planned words.old at p }
 {
-    match p {
-        Planned::Copy(i) => put3(words, at, 0, i, 0),
-        Planned::Field(f) => put3(words, at, 1, f, 0),
-        Planned::ValUse(id) => put3(words, at, 2, id, 0),
-        Planned::ValDef(id) => put3(words, at, 3, id, 0),
-        Planned::Block(kids) => put3(words, at, 4, kids, 0),
-        Planned::Lambda(i, last) => put3(words, at, 5, i, last),
-    }
+    // word by word: copied as an array, they cost some ten instructions a row more
+    let [kind, a, b] = words_of(p);
+    words[at] = kind;
+    words[at + 1] = a;
+    words[at + 2] = b;
 }
 
-fn planned_of(tag: u32, a: u32, b: u32) -> Planned
-    ensures { result ≡ planned_of tag a b }
+// The row at word `at`. Rules out: the row after it; a use read as a definition.
+#[tactic(auto, unfolding(crate::specs::Plan::planned_at, crate::specs::Plan::planned_of))]
+pub fn load(words: &[u32], at: usize) -> Planned
+    requires { at + 3 ≤ length words.now }
+    ensures { result ≡ planned_at words.now at }
 {
-    match tag {
+    let (a, b) = (words[at + 1], words[at + 2]);
+    match words[at] {
         0 => Planned::Copy(a),
         1 => Planned::Field(a),
         2 => Planned::ValUse(a),
@@ -57,12 +63,4 @@ fn planned_of(tag: u32, a: u32, b: u32) -> Planned
         4 => Planned::Block(a),
         _ => Planned::Lambda(a, b),
     }
-}
-
-// The row at word `at`. Rules out: the row after it; a use read as a definition.
-pub fn load(words: &[u32], at: usize) -> Planned
-    requires { at + 3 ≤ length words.now }
-    ensures { result ≡ planned_at words.now at }
-{
-    planned_of(words[at], words[at + 1], words[at + 2])
 }

@@ -1,16 +1,16 @@
--- The ids of symbols in words. In order: a copy word by word; ids given one after the other; no ids; one id more; a
+-- The ids of symbols in words. In order: ids given one after the other; no ids; one id more; a
 -- lambda's arguments numbered.
 -- Assumes nothing.
 use Prim.Native.Nat.{ℕ, zero, suc, ◌+◌, ◌-◌, ◌≤◌, ◌<◌}
 use mathlib.Core.Path.{◌≡◌, refl, sym, ap, ◌∙◌}
 use mathlib.Core.Bool.{Bool, true, false}
 use Rattle.std.specs.Prelude.{Some}
-use mathlib.Core.List.{List, [], ◌∷◌, ◌++◌}
+use mathlib.Core.List.{List, [], ◌∷◌}
 use native.Mathlib.Omega.{arith}
 use native.Mathlib.Numerals.{add-one}
 use lib.Dec.{eqb, ltb}
-use lib.ListN.{length, get_or, set, take, replicate}
-use lib.Seq.{sets, take-suc, take-suc-set, take_all, get_or-set_same, get_or-set_other}
+use lib.ListN.{length, get_or, set, replicate}
+use lib.Seq.{sets, get_or-set_same, get_or-set_other}
 use borrow.Author.Tests.{eqb-true, eqb-false, ltb-true, ltb-false}
 use Rattle.model.specs.Intern.{Env, with_opts}
 use Rattle.model.specs.Materialize.{id_given, arg_env}
@@ -20,17 +20,6 @@ use Rattle.laws.proofs.Ranges.{range_length, range-more, range_at}
 use Rattle.laws.proofs.Numbering.{given_new, given_before, given-after}
 use Rattle.laws.proofs.Runs.{sets_run, sets_before, sets_after, sets_more}
 use Rattle.planner.specs.Building.{id_in, Maps}
-
--- ---- a copy
-
-pub copy_more : (ids map : List ℕ) (s : ℕ) → take s map ≡ take s ids → s < length map → s < length ids
-    → take (s + 1) (set map s (get_or ids s 0)) ≡ take (s + 1) ids
-copy_more ids map s e l h =
-    rw (add-one s, take-suc-set map s (get_or ids s 0) l, take-suc ids s 0 h)
-    (ap (λ (x : List ℕ). x ++ (get_or ids s 0 ∷ [])) e)
-
-pub copy_end : (ids map : List ℕ) (s : ℕ) → take s map ≡ take s ids → length map ≤ s → length ids ≤ s → map ≡ ids
-copy_end ids map s e l h = sym (take_all s map l) ∙ (e ∙ take_all s ids h)
 
 -- ---- ids given one after the other
 
@@ -48,10 +37,9 @@ replicate-zero zero (suc s) = refl
 replicate-zero (suc n) zero = refl
 replicate-zero (suc n) (suc s) = replicate-zero n s
 
-pub maps_none : (ids : List ℕ) → ids ≡ replicate 512 0 → Maps ids []
+pub maps_none : Maps (replicate 512 0) []
 unfolding id_given
-maps_none ids e =
-    record { is = λ s l. sym (ap id_in (ap (λ (x : List ℕ). get_or x s 0) e ∙ replicate-zero 512 s)) }
+maps_none = record { is = λ s l. sym (ap id_in (replicate-zero 512 s)) }
 
 -- ---- one id more
 

@@ -4,6 +4,7 @@
 use Prim.Native.Nat.{ℕ, ◌+◌, ◌*◌, ◌<◌, ◌≤◌}
 use mathlib.Core.Path.{◌≡◌, refl, sym, ap, ◌∙◌, subst}
 use mathlib.Core.Bool.{Bool, true, false}
+use Rattle.std.specs.Prelude.{Option}
 use mathlib.Core.List.{List, [], ◌∷◌}
 use native.Mathlib.Omega.{arith}
 use lib.Dec.{eqb}
@@ -31,7 +32,7 @@ use Rattle.plan.specs.declared.Planned.TheVariants.{Copy, Field}
 use Rattle.plan.specs.Plan.{row_for, Writable}
 use Rattle.plan.specs.Plan as plan
 use Rattle.planner.specs.declared.Plan.{Plan}
-use Rattle.planner.specs.Grew.{Grew}
+use Rattle.planner.specs.Grew.{Grows}
 use Rattle.planner.specs.Building.{Opens, Buildable, GraphIn, row_of}
 use Rattle.planner.specs.Planning.{fresh_tree}
 use Rattle.planner.proofs.Graphs.{node_is, rec_is}
@@ -54,11 +55,11 @@ pub node_loaded : (ws : List ℕ) (s : ℕ) {y : Symbol} {nd : Node} → y ≡ s
     → (symbol_at ws s).node ≡ nd
 node_loaded ws s e f = sym (ap (λ (y : Symbol). y.node) e) ∙ f
 
-pub put_as : {bs ws : List ℕ} {p : Plan} {row row₁ : Planned} {d : ℕ} {ws' : List ℕ} {r : Plan} → row ≡ row₁
-    → ((cs : List ℕ) → Writable cs row → Grew cs ws p (row_for cs row ∷ []) d ws' r) → Writable bs row₁
-    → Grew bs ws p (row_for bs row₁ ∷ []) d ws' r
+pub put_as : {bs ws : List ℕ} {p : Plan} {row row₁ : Planned} {d : ℕ} {ws' : List ℕ} {r : Option Plan} → row ≡ row₁
+    → ((cs : List ℕ) → Writable cs row → Grows cs ws p (row_for cs row ∷ []) d ws' r) → Writable bs row₁
+    → Grows bs ws p (row_for bs row₁ ∷ []) d ws' r
 put_as {bs} {ws} {p} {row} {row₁} {d} {ws'} {r} e h w =
-    subst (λ (x : Planned). Grew bs ws p (row_for bs x ∷ []) d ws' r) e (h bs (subst (Writable bs) (sym e) w))
+    subst (λ (x : Planned). Grows bs ws p (row_for bs x ∷ []) d ws' r) e (h bs (subst (Writable bs) (sym e) w))
 
 -- ---- symbol s
 

@@ -1,9 +1,9 @@
 -- Which symbols get a definition. In order: the graph's symbol s from its words, and as the code tests it; the tests
 -- of `member` one by one; one symbol more of an order; whether there is one among all symbols below a number.
 -- Assumes nothing.
-use Prim.Native.Nat.{ℕ, zero, suc, ◌+◌, ◌<◌, ◌≤◌}
+use Prim.Native.Nat.{ℕ, zero, suc, ◌+◌, ◌<◌}
 use mathlib.Core.Path.{◌≡◌, refl, sym, ap, ap₂, ◌∙◌}
-use mathlib.Core.Bool.{Bool, true, false, not, ◌&&◌, and-true, and-false}
+use mathlib.Core.Bool.{Bool, true, false, not, ◌&&◌, ◌||◌, and-true, and-false}
 use Rattle.std.specs.Prelude.{Option, None, Some}
 use mathlib.Core.Logic.{inl, inr}
 use mathlib.Core.List.{List, [], ◌∷◌}
@@ -12,7 +12,8 @@ use native.Mathlib.Numerals.{add-one}
 use lib.Dec.{eqb, ltb}
 use lib.ListN.{length, get_or, take}
 use lib.Seq.{take-suc}
-use borrow.Author.Tests.{eq-eqb, ne_eqb, ltb-false, lt-ltb}
+use borrow.Author.Tests.{eqb-true, eqb-false, ltb-false, lt-ltb}
+use Rattle.std.specs.List.{list_any, range_with_len}
 use Rattle.model.specs.Intern.{Sym, Env, sym_at}
 use Rattle.model.specs.Gate.{Graph, sym_of, usage, should_hoist}
 use Rattle.model.specs.Schedule.{is_arg}
@@ -21,7 +22,7 @@ use Rattle.laws.specs.Defining.{members_in}
 use Rattle.laws.specs.Range.{range}
 use Rattle.laws.proofs.Defining.{members_append, members_member, members_other}
 use Rattle.laws.specs.Members.{In, Under}
-use Rattle.laws.proofs.Ranges.{range-more, in_range}
+use Rattle.laws.proofs.Ranges.{in_range}
 use Rattle.regions.specs.Regions.{USES}
 use Rattle.key.specs.declared.Symbol.{Symbol}
 use Rattle.key.specs.Key.{symbol_at}
@@ -30,7 +31,7 @@ use Rattle.symbols.specs.Symbols as words
 use Rattle.symbols.proofs.Laws.{sym_at_lem}
 use Rattle.gate.proofs.Gate.{hoist_few}
 use Rattle.graph.specs.Graph.{Tests, graph_of}
-use Rattle.planner.specs.Building.{GraphIn, Maps, id_in, more}
+use Rattle.planner.specs.Building.{GraphIn, Maps, id_in}
 
 -- ---- the graph in the words
 
@@ -47,12 +48,8 @@ module _ {bs ws : List ℕ} {n m : ℕ} {gr : Graph} (st : GraphIn bs ws n m gr)
     scope_is = ap (λ (y : Sym). y.scope) sym_is
 
     -- what the code has loaded and tested
-    pub scope_not : {y : Symbol} {k sc : ℕ} → y ≡ symbol_at ws s → k ≡ y.scope → (k ≡ sc → ⊥)
-        → (sym_of gr s).scope ≡ sc → ⊥
-    scope_not e f other is = other (f ∙ ap (λ (y : Symbol). y.scope) e ∙ sym scope_is ∙ is)
-
-    pub scope_yes : {y : Symbol} {k sc : ℕ} → y ≡ symbol_at ws s → k ≡ y.scope → k ≡ sc → (sym_of gr s).scope ≡ sc
-    scope_yes e f is = scope_is ∙ (sym (f ∙ ap (λ (y : Symbol). y.scope) e) ∙ is)
+    pub in_scope : {y : Symbol} (sc : ℕ) → y ≡ symbol_at ws s → eqb (sym_of gr s).scope sc ≡ eqb y.scope sc
+    in_scope {y} sc e = ap (λ (k : ℕ). eqb k sc) (scope_is ∙ sym (ap (λ (y : Symbol). y.scope) e))
 
     pub arg_is : {r : Bool} → Tests ws n m (λ h. is_arg (sym_of h s).node) r → is_arg (sym_of gr s).node ≡ r
     arg_is t = ap (λ (h : Graph). is_arg (sym_of h s).node) graph_is ∙ sym (t bs gr.slots)
@@ -79,75 +76,67 @@ given_old zero n = absurd (n refl)
 given_old (suc i) n = refl
 
 module _ (gr : Graph) (sc : ℕ) (ids : List ℕ) (env : Env) (s : ℕ) (few : s < 512) (maps : Maps ids env) where
-  pub member-given : (get_or ids s 0 ≡ 0 → ⊥) → false ≡ member gr sc env s
+  pub member-given : eqb (get_or ids s 0) 0 ≡ false → member gr sc env s ≡ false
   unfolding member is_new
   member-given n =
-      let e : is_new (id_given env s) ≡ false = ap is_new (maps.is s few) ∙ given_old (get_or ids s 0) n in
+      let e : is_new (id_given env s) ≡ false = ap is_new (maps.is s few) ∙ given_old (get_or ids s 0) (eqb-false _ 0 n) in
       rw (e, member)
-      (sym (and-false
-      (eqb (sym_of gr s).scope sc && not (is_arg (sym_of gr s).node) && should_hoist (sym_of gr s) (usage gr s))))
+      (and-false
+      (eqb (sym_of gr s).scope sc && not (is_arg (sym_of gr s).node) && should_hoist (sym_of gr s) (usage gr s)))
 
-  pub member_rare : should_hoist (sym_of gr s) (usage gr s) ≡ false → false ≡ member gr sc env s
+  pub member_rare : should_hoist (sym_of gr s) (usage gr s) ≡ false → member gr sc env s ≡ false
   unfolding member
   member_rare e = rw (e, member) (go (eqb (sym_of gr s).scope sc && not (is_arg (sym_of gr s).node)) _)
     where
-      go : (a d : Bool) → false ≡ ((a && false) && d)
+      go : (a d : Bool) → ((a && false) && d) ≡ false
       go true d = refl
       go false d = refl
 
-  pub member_elsewhere : ((sym_of gr s).scope ≡ sc → ⊥) → false ≡ member gr sc env s
+  pub member_elsewhere : eqb (sym_of gr s).scope sc ≡ false → member gr sc env s ≡ false
   unfolding member
-  member_elsewhere n = rw (ne_eqb (sym_of gr s).scope sc n, member)
+  member_elsewhere n = rw (n, member)
 
-  pub member_arg : is_arg (sym_of gr s).node ≡ true → false ≡ member gr sc env s
+  pub member_arg : is_arg (sym_of gr s).node ≡ true → member gr sc env s ≡ false
   unfolding member
   member_arg e = rw (e, member) (go (eqb (sym_of gr s).scope sc) (should_hoist (sym_of gr s) (usage gr s)) _)
     where
-      go : (a h d : Bool) → false ≡ (((a && false) && h) && d)
+      go : (a h d : Bool) → (((a && false) && h) && d) ≡ false
       go true h d = refl
       go false h d = refl
 
-  pub member_hoisted : get_or ids s 0 ≡ 0 → (sym_of gr s).scope ≡ sc → is_arg (sym_of gr s).node ≡ false
-      → should_hoist (sym_of gr s) (usage gr s) ≡ member gr sc env s
+  pub member_hoisted : eqb (get_or ids s 0) 0 ≡ true → eqb (sym_of gr s).scope sc ≡ true → is_arg (sym_of gr s).node ≡ false
+      → member gr sc env s ≡ should_hoist (sym_of gr s) (usage gr s)
   unfolding member
   member_hoisted z e f =
-      let id : id_given env s ≡ None = maps.is s few ∙ ap id_in z in
-      rw (eq-eqb (sym_of gr s).scope sc e, f, id, member) (sym (and-true (should_hoist (sym_of gr s) (usage gr s))))
+      let id : id_given env s ≡ None = maps.is s few ∙ ap id_in (eqb-true _ 0 z) in
+      rw (e, f, id, member) (and-true (should_hoist (sym_of gr s) (usage gr s)))
 
 -- ---- one symbol more
-
-pub counted_true : (b : Bool) (k : ℕ) → b ≡ true → k + 1 ≡ more b k
-counted_true b k e = rw e
-
-pub counted_false : (b : Bool) (k : ℕ) → b ≡ false → k ≡ more b k
-counted_false b k e = rw e
 
 pub members_none : (gr : Graph) (sc : ℕ) (env : Env) → 0 ≡ members_in gr sc env []
 unfolding members_in
 members_none gr sc env = refl
 
-pub counted_few : (b : Bool) (k i : ℕ) → k ≤ i → more b k ≤ i + 1
-counted_few true k i l = omega arith
-counted_few false k i l = omega arith
+module _ (gr : Graph) (sc : ℕ) (env : Env) (order : List ℕ) (i s k : ℕ) (b : Bool) (lt : i < length order)
+    (at : s ≡ get_or order i 0) (tested : b ≡ member gr sc env s) (counted : k ≡ members_in gr sc env (take i order)) where
+  one_more : members_in gr sc env (take (i + 1) order)
+      ≡ members_in gr sc env (take i order) + members_in gr sc env (s ∷ [])
+  one_more = rw (add-one i, take-suc order i 0 lt, at) (members_append gr sc env (take i order) (get_or order i 0 ∷ []))
 
-pub members_more : (gr : Graph) (sc : ℕ) (env : Env) (order : List ℕ) (i s k : ℕ) (b : Bool) → i < length order
-    → s ≡ get_or order i 0 → b ≡ member gr sc env s → k ≡ members_in gr sc env (take i order)
-    → more b k ≡ members_in gr sc env (take (i + 1) order)
-unfolding members_in
-members_more gr sc env order i s k b lt e f g =
-    rw (add-one i, take-suc order i 0 lt)
-    (go b (sym (f ∙ ap (member gr sc env) e))
-    ∙ sym (members_append gr sc env (take i order) (get_or order i 0 ∷ [])))
-  where
-    x : ℕ
-    x = get_or order i 0
+  pub members_found : b ≡ true → k + 1 ≡ members_in gr sc env (take (i + 1) order)
+  members_found is =
+      omega (arith, one_more, counted, members_none gr sc env, members_member gr sc s [] env (sym tested ∙ is))
 
-    go : (b : Bool) → member gr sc env x ≡ b
-        → more b k ≡ members_in gr sc env (take i order) + members_in gr sc env (x ∷ [])
-    go true h = omega (arith, g, members_member gr sc x [] env h)
-    go false h = omega (arith, g, members_other gr sc x [] env h)
+  pub members_passed : b ≡ false → k ≡ members_in gr sc env (take (i + 1) order)
+  members_passed isnt =
+      omega (arith, one_more, counted, members_none gr sc env, members_other gr sc s [] env (sym tested ∙ isnt))
 
 -- ---- all symbols below a number
+
+range_is : (first n : ℕ) → range_with_len first n ≡ range first n
+unfolding range
+range_is first zero = refl
+range_is first (suc n) = ap (λ (xs : List ℕ). first ∷ xs) (ap (λ (k : ℕ). range_with_len k n) (add-one first) ∙ range_is (suc first) n)
 
 module _ (gr : Graph) (sc : ℕ) (env : Env) where
   members_some : (xs : List ℕ) (s : ℕ) → In s xs → member gr sc env s ≡ true → 0 < members_in gr sc env xs
@@ -173,33 +162,22 @@ module _ (gr : Graph) (sc : ℕ) (env : Env) where
           absurd (omega (arith, z, members_some (range 0 n) x (in_range 0 n x (omega arith) (omega arith)) e))
       go false e h = members_other gr sc x xs env e ∙ h
 
-  -- none found so far
-  pub none_start : 0 ≡ members_in gr sc env (range 0 0)
-  unfolding range members_in
-  none_start = refl
+  -- the code asks of each whether it is one
+  pub any_counted : (xs : List ℕ) → list_any (member gr sc env) xs ≡ ltb 0 (members_in gr sc env xs)
+  unfolding members_in
+  any_counted [] = refl
+  any_counted (x ∷ xs) = go (member gr sc env x) refl (any_counted xs)
+    where
+      go : (b : Bool) → member gr sc env x ≡ b → list_any (member gr sc env) xs ≡ ltb 0 (members_in gr sc env xs)
+          → list_any (member gr sc env) (x ∷ xs) ≡ ltb 0 (members_in gr sc env (x ∷ xs))
+      go true e h = ap (λ (t : Bool). t || list_any (member gr sc env) xs) e
+          ∙ sym (lt-ltb 0 _ (omega (arith, members_member gr sc x xs env e)))
+      go false e h = ap (λ (t : Bool). t || list_any (member gr sc env) xs) e
+          ∙ (h ∙ ap (ltb 0) (sym (members_other gr sc x xs env e)))
 
-  pub none_more : (s : ℕ) (b : Bool) → b ≡ false → b ≡ member gr sc env s → 0 ≡ members_in gr sc env (range 0 s)
-      → 0 ≡ members_in gr sc env (range 0 (s + 1))
-  none_more s b isnt e z =
-      let at : 0 + s ≡ s = omega arith in
-      rw (add-one s, range-more 0 s, at)
-      (omega (
-        arith,
-        z,
-        members_append gr sc env (range 0 s) (s ∷ []),
-        members_other gr sc s [] env (sym e ∙ isnt),
-        members_none gr sc env,
-      ))
-
-  -- the answer, as the code finds it and as it is read
-  pub any_found : (n s : ℕ) (b : Bool) → b ≡ true → b ≡ member gr sc env s → s < n
-      → true ≡ ltb 0 (members_in gr sc env (range 0 n))
-  any_found n s b is e l =
-      sym (lt-ltb 0 _ (members_some (range 0 n) s (in_range 0 n s (omega arith) (omega arith)) (sym e ∙ is)))
-
-  pub any_none : (n s : ℕ) → s ≡ n → 0 ≡ members_in gr sc env (range 0 s)
-      → false ≡ ltb 0 (members_in gr sc env (range 0 n))
-  any_none n s e z = rw (← e, ← z)
+  pub any_below : (n : ℕ) (r : Bool) → r ≡ list_any (member gr sc env) (range_with_len 0 n)
+      → r ≡ ltb 0 (members_in gr sc env (range 0 n))
+  any_below n r e = e ∙ (ap (list_any (member gr sc env)) (range_is 0 n) ∙ any_counted (range 0 n))
 
   pub any_false : (n : ℕ) (b : Bool) → b ≡ false → b ≡ ltb 0 (members_in gr sc env (range 0 n))
       → members_in gr sc env (range 0 n) ≡ 0

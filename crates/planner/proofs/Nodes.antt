@@ -2,7 +2,8 @@
 -- Assumes nothing.
 use Prim.Native.Nat.{ℕ, zero, suc, ◌+◌, ◌<◌, ◌≤◌}
 use mathlib.Core.Path.{◌≡◌, refl, sym, ap, ◌∙◌, subst}
-use Rattle.std.specs.Prelude.{None, Some}
+use Rattle.std.specs.Prelude.{Option, None, Some}
+use mathlib.Core.Logic.{◌⊎◌, inl, inr}
 use mathlib.Core.List.{List, [], ◌∷◌}
 use native.Mathlib.Omega.{arith}
 use lib.ListN.{get_or}
@@ -20,22 +21,16 @@ use Rattle.graph.specs.declared.Graph.{Graph}
 use Rattle.plan.specs.declared.Planned.TheVariants.{Copy, ValUse}
 use Rattle.plan.specs.Plan.{row_for}
 use Rattle.planner.specs.declared.Plan.{Plan}
-use Rattle.planner.specs.declared.Opened.{Opened}
-use Rattle.planner.specs.declared.Opened.TheVariants.{Thunk}
-use Rattle.planner.specs.Grew.{Grew, Grown}
+use Rattle.planner.specs.Grew.{Grows, Grown}
 use Rattle.planner.specs.Building.{Buildable, GraphIn, Maps, id_in, operand_tree}
 use Rattle.planner.specs.Planning.{Plans, fresh_tree}
-use Rattle.planner.proofs.Growing.{grew_as}
+use Rattle.planner.proofs.Growing.{over_then, grows_as, grows_kept, grows_few}
 use Rattle.planner.proofs.Loaded.{fresh_is, rec_of_lem, source_fits, leaf_is}
 use Rattle.planner.proofs.Graphs.{kids_low, body_lower}
 
 -- ---- trees in general
 
-pub grew_few : {bs ws : List ℕ} {p : Plan} {rs : List Row} {d : ℕ} {ws' : List ℕ} {r : Plan} → Grew bs ws p rs d ws' r
-    → r.rows ≤ 257
-grew_few g = omega (arith, g.count)
-
-module _ {bs ws : List ℕ} {g : Graph} {ids : List ℕ} {p : Plan} {above : ℕ} {ws' : List ℕ} {r : Plan} where
+module _ {bs ws : List ℕ} {g : Graph} {ids : List ℕ} {p : Plan} {above : ℕ} {ws' : List ℕ} {r : Option Plan} where
   -- the same tree, otherwise said
   plans_as : {t u : model.Graph → ℕ → Env → Tree} → Plans bs ws g ids p above t ws' r
       → ((gr : model.Graph) (sc : ℕ) (env : Env) → GraphIn bs ws g.symbols g.scopes gr → Maps ids env
@@ -45,35 +40,40 @@ module _ {bs ws : List ℕ} {g : Graph} {ids : List ℕ} {p : Plan} {above : ℕ
     grown = λ gr sc env st maps.
         subst (λ (x : Tree). Grown bs ws p above x ws' r) (e gr sc env st maps) (h.grown gr sc env st maps);
     kept = h.kept;
-    full = h.full;
+    few = h.few;
   }
 
   -- a tree of one row
-  plans_row : {row : Row} → Grew bs ws p (row ∷ []) (above + 1) ws' r
+  plans_row : {row : Row} → Grows bs ws p (row ∷ []) (above + 1) ws' r
       → (tree : model.Graph → ℕ → Env → Tree)
       → ((gr : model.Graph) (sc : ℕ) (env : Env) → GraphIn bs ws g.symbols g.scopes gr → Maps ids env
       → (rows (tree gr sc env) ≡ row ∷ []) × (depth (tree gr sc env) ≡ 1))
       → Plans bs ws g ids p above tree ws' r
   plans_row h tree e = record {
     grown = λ gr sc env st maps.
-        grew_as h (sym (e gr sc env st maps).0) (omega (arith, (e gr sc env st maps).1));
-    kept = h.kept;
-    full = grew_few h;
+        grows_as h (sym (e gr sc env st maps).0) (omega (arith, (e gr sc env st maps).1));
+    kept = grows_kept h;
+    few = grows_few h;
   }
 
--- an operand in a thunk
-module _ {bs ws : List ℕ} {g : Graph} {ids : List ℕ} {p : Plan} {above : ℕ} {ws' : List ℕ} {r : Plan} where
-  pub plans_thunk : (s last : ℕ) {w : Opened} (b sc : ℕ) → w ≡ Thunk b → sc ≡ b
-      → Plans bs ws g ids p above (λ gr x env. process_scope gr (build_value gr) s sc env last) ws' r
-      → Plans bs ws g ids p above (λ gr x env. operand_tree w gr s x env last) ws' r
-  plans_thunk s last b sc e f h = plans_as h (λ gr x env st maps.
-      ap (λ (y : ℕ). process_scope gr (build_value gr) s y env last) f
-      ∙ ap (λ (y : Opened). operand_tree y gr s x env last) (sym e))
+  -- an operand in a thunk
+  pub plans_thunk : (s last : ℕ) {scope : Option ℕ} (b : ℕ) → scope ≡ Some b
+      → Plans bs ws g ids p above (λ gr x env. process_scope gr (build_value gr) s b env last) ws' r
+      → Plans bs ws g ids p above (λ gr x env. operand_tree scope gr s x env last) ws' r
+  plans_thunk s last b e h =
+      plans_as h (λ gr x env st maps. ap (λ (y : Option ℕ). operand_tree y gr s x env last) (sym e))
 
-  -- the same ids, copied
-  pub plans_copied : {map : List ℕ} {tree : model.Graph → ℕ → Env → Tree} → map ≡ ids
-      → Plans bs ws g map p above tree ws' r → Plans bs ws g ids p above tree ws' r
-  plans_copied e h = rw e at h
+-- a tree whose first row has no room
+pub plans_over : {bs ws : List ℕ} {g : Graph} {ids : List ℕ} {p : Plan} {above d : ℕ} {ws' : List ℕ} {row : Row}
+    → Grows bs ws p (row ∷ []) d ws' None → (tree : model.Graph → ℕ → Env → Tree)
+    → ((gr : model.Graph) (sc : ℕ) (env : Env) → GraphIn bs ws g.symbols g.scopes gr → Maps ids env
+    → (rest : List Row) × (rows (tree gr sc env) ≡ row ∷ rest))
+    → Plans bs ws g ids p above tree ws' None
+plans_over h tree starts = record {
+  grown = λ gr sc env st maps. let w = starts gr sc env st maps in record { is = rw w.1 (over_then h.is w.0) };
+  kept = h.is.kept;
+  few = tt;
+}
 
 -- ---- symbol s
 
@@ -85,10 +85,10 @@ given_some : (i : ℕ) → (i ≡ 0 → ⊥) → id_in i ≡ Some i
 given_some zero n = absurd (n refl)
 given_some (suc i) n = refl
 
-module _ {bs ws : List ℕ} {g : Graph} {ids : List ℕ} {p : Plan} {above : ℕ} {ws' : List ℕ} {r : Plan}
+module _ {bs ws : List ℕ} {g : Graph} {ids : List ℕ} {p : Plan} {above : ℕ} {ws' : List ℕ} {r : Option Plan}
     (b : Buildable bs ws g.symbols g.scopes) (s : ℕ) (lt : s < g.symbols) (last : ℕ) where
   -- its id
-  pub plans_use : (get_or ids s 0 ≡ 0 → ⊥) → Grew bs ws p (row_for bs (ValUse (get_or ids s 0)) ∷ []) (above + 1) ws' r
+  pub plans_use : (get_or ids s 0 ≡ 0 → ⊥) → Grows bs ws p (row_for bs (ValUse (get_or ids s 0)) ∷ []) (above + 1) ws' r
       → Plans bs ws g ids p above (λ gr sc env. build_value gr s sc env last) ws' r
   plans_use n h =
       plans_row h (λ gr sc env. build_value gr s sc env last)
@@ -110,22 +110,18 @@ module _ {bs ws : List ℕ} {g : Graph} {ids : List ℕ} {p : Plan} {above : ℕ
       let e : id_given env s ≡ None = maps.is s (omega (arith, b.arena.scoped.few)) ∙ ap id_in z in
       sym (build_step_lem gr (kids_low b st) s (body_lower b st s lt) sc env last ∙ rw (e, build_step)))
 
-  pub plans_const : (l : Leaf) → (symbol_at ws s).node ≡ Const l
-      → Grew bs ws p (row_for bs (Copy l.source) ∷ []) (above + 1) ws' r
+  -- a record of the forest, as it stands
+  pub plans_leaf : (l : Leaf) → ((symbol_at ws s).node ≡ Const l) ⊎ ((symbol_at ws s).node ≡ Unparsed l)
+      → Grows bs ws p (row_for bs (Copy l.source) ∷ []) (above + 1) ws' r
       → Plans bs ws g ids p above (fresh_tree s last) ws' r
   unfolding build_node
-  plans_const l e h =
+  plans_leaf l (inl e) h =
       plans_row h (fresh_tree s last) (λ gr sc env st maps.
       let q = leaf_is bs l.source (source_fits b s lt (Const l) e).0 (sym_of gr s).rec (rec_of_lem b s lt (Const l)
       e gr st) in
       let f = fresh_is b s lt (Const l) e gr sc env last st in
       (ap rows f ∙ q.0, ap depth f ∙ q.1))
-
-  pub plans_unparsed : (l : Leaf) → (symbol_at ws s).node ≡ Unparsed l
-      → Grew bs ws p (row_for bs (Copy l.source) ∷ []) (above + 1) ws' r
-      → Plans bs ws g ids p above (fresh_tree s last) ws' r
-  unfolding build_node
-  plans_unparsed l e h =
+  plans_leaf l (inr e) h =
       plans_row h (fresh_tree s last) (λ gr sc env st maps.
       let q = leaf_is bs l.source (source_fits b s lt (Unparsed l) e).0 (sym_of gr s).rec (rec_of_lem b s lt
       (Unparsed l) e gr st) in
@@ -133,7 +129,7 @@ module _ {bs ws : List ℕ} {g : Graph} {ids : List ℕ} {p : Plan} {above : ℕ
       (ap rows f ∙ q.0, ap depth f ∙ q.1))
 
   pub plans_argument : (l : Leaf) → (symbol_at ws s).node ≡ Arg l
-      → Grew bs ws p (row_for bs (ValUse 0) ∷ []) (above + 1) ws' r
+      → Grows bs ws p (row_for bs (ValUse 0) ∷ []) (above + 1) ws' r
       → Plans bs ws g ids p above (fresh_tree s last) ws' r
   unfolding build_node
   plans_argument l e h =

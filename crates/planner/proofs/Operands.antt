@@ -1,15 +1,17 @@
--- Where operands are built. In order: an operation's row; the scopes left where there are none, and at the two operands
+-- Where operands are built. In order: the scopes left where there are none, and at the two operands
 -- that can be thunks; the first of them; all are there; one operand of an operation.
 -- Assumes nothing.
-use Prim.Native.Nat.{ℕ, zero, suc, ◌≤◌, ◌<◌}
+use Prim.Native.Nat.{ℕ, zero, suc, ◌<◌}
 use mathlib.Core.Path.{◌≡◌, refl, sym, ap, subst, ◌∙◌}
 use mathlib.Core.Logic.{inl, inr}
 use mathlib.Core.Bool.{Bool, true, false, ◌&&◌, ◌||◌}
+use Rattle.std.specs.Prelude.{Option, None, Some, IfSome}
+use Rattle.std.specs.Bool.{then_some}
 use mathlib.Core.List.{List, [], ◌∷◌}
 use native.Mathlib.Omega.{arith}
-use lib.Dec.{eqb}
+use lib.Dec.{eqb, ltb}
 use lib.ListN.{take, drop}
-use borrow.Author.Tests.{eqb-true, ne_eqb}
+use borrow.Author.Tests.{eqb-true, ne_eqb, lt-ltb}
 use Rattle.model.specs.Tree.{Trees, cons}
 use Rattle.model.specs.Intern.{thunked, Env}
 use Rattle.model.specs.Gate.{Graph}
@@ -19,18 +21,7 @@ use Rattle.laws.proofs.Apart.{false_true}
 use Rattle.laws.proofs.Building.{op_left, op_eager, op_thunk}
 use Rattle.key.specs.declared.Operation.{Operation}
 use Rattle.shape.proofs.Thunks.{first_eager}
-use Rattle.plan.specs.declared.Planned.TheVariants.{Copy, Field}
-use Rattle.planner.specs.declared.Opened.{Opened}
-use Rattle.planner.specs.declared.Opened.TheVariants.{Same, Thunk}
-use Rattle.planner.specs.Building.{Thunks, row_of, branches_of, left_at, first_scope, opened_at, OpenLow, operand_tree}
-
--- ---- an operation's row
-
-pub row_copy : (o : Operation) → o.field ≡ 0 → Copy o.source ≡ row_of o
-row_copy o e = rw e
-
-pub row_field : (o : Operation) → (o.field ≡ 0 → ⊥) → Field o.field ≡ row_of o
-row_field o n = rw (ne_eqb o.field 0 n)
+use Rattle.planner.specs.Building.{Thunks, branches_of, left_at, first_scope, opened_at, operand_tree}
 
 -- ---- the scopes left
 
@@ -58,19 +49,19 @@ left_none op (suc j) = go (thunked op j) (left_none op j)
     go false e = e
 
 -- an operation without thunks
-pub opened-same : (op : ℕ) (o : Operation) (j : ℕ) → o.branches ≡ 0 → opened_at op (branches_of o) j ≡ Same
+pub opened_unbranched : (op : ℕ) (o : Operation) (j : ℕ) → o.branches ≡ 0 → opened_at op (branches_of o) j ≡ None
 unfolding opened_at
-opened-same op o j e = go (thunked op j) (ap (λ (brs : List ℕ). left_at op brs j) none ∙ left_none op j)
+opened_unbranched op o j e = go (thunked op j) (ap (λ (brs : List ℕ). left_at op brs j) none ∙ left_none op j)
   where
     none : branches_of o ≡ []
     none = rw e
 
-    go : (b : Bool) {brs : List ℕ} → brs ≡ [] → ◌≡◌ {A = Opened} (elim b [ true ↦ first_scope brs | false ↦ Same ]) Same
+    go : (b : Bool) {brs : List ℕ} → brs ≡ [] → ◌≡◌ {A = Option ℕ} (elim b [ true ↦ first_scope brs | false ↦ None ]) None
     go true f = rw f
     go false f = refl
 
 module _ (op : ℕ) (brs : List ℕ) (j : ℕ) where
-  pub opened_none : thunked op j ≡ false → opened_at op brs j ≡ Same
+  pub opened_none : thunked op j ≡ false → opened_at op brs j ≡ None
   unfolding opened_at
   opened_none e = rw (e, opened_at)
 
@@ -87,22 +78,17 @@ module _ (op : ℕ) (brs : List ℕ) (j : ℕ) where
       let two : left_at op brs j ≡ drop 1 brs = rw (w.0, w.1) in
       rw (e, opened_at, two)
 
--- ---- the first of two scopes, of which b count
+-- ---- the two scopes, of which b count
 
 module _ (f s : ℕ) where
-  pub scope_first : (b : ℕ) → (b ≡ 0 → ⊥) → first_scope (take b (f ∷ s ∷ [])) ≡ Thunk f
+  pub scope_first : (b : ℕ) → (b ≡ 0 → ⊥) → first_scope (take b (f ∷ s ∷ [])) ≡ Some f
   scope_first zero n = absurd (n refl)
   scope_first (suc b) n = refl
 
-  pub scope_one : (b : ℕ) → b < 2 → first_scope (drop 1 (take b (f ∷ s ∷ []))) ≡ Same
-  scope_one zero l = refl
-  scope_one (suc zero) l = refl
-  scope_one (suc (suc b)) l = absurd (omega arith)
-
-  pub scope_second : (b : ℕ) → 2 ≤ b → first_scope (drop 1 (take b (f ∷ s ∷ []))) ≡ Thunk s
-  scope_second zero l = absurd (omega arith)
-  scope_second (suc zero) l = absurd (omega arith)
-  scope_second (suc (suc b)) l = refl
+  pub scope_second : (b : ℕ) → first_scope (drop 1 (take b (f ∷ s ∷ []))) ≡ then_some (ltb 1 b) s
+  scope_second zero = refl
+  scope_second (suc zero) = refl
+  scope_second (suc (suc b)) = rw (lt-ltb 1 (suc (suc b)) (omega arith))
 
 -- ---- all scopes are there
 
@@ -121,15 +107,15 @@ module _ (m : ℕ) where
       go true k = low_drop (left_at op brs j) k
       go false k = k
 
-  low_first : (brs : List ℕ) → Every (λ b. b < m) brs → OpenLow m (first_scope brs)
+  low_first : (brs : List ℕ) → Every (λ b. b < m) brs → IfSome (first_scope brs) (λ b. b < m)
   low_first [] h = tt
   low_first (b ∷ brs) h = h b (inl refl)
 
-  low_opened : (op : ℕ) (brs : List ℕ) → Every (λ b. b < m) brs → (j : ℕ) → OpenLow m (opened_at op brs j)
+  low_opened : (op : ℕ) (brs : List ℕ) → Every (λ b. b < m) brs → (j : ℕ) → IfSome (opened_at op brs j) (λ b. b < m)
   unfolding opened_at
   low_opened op brs h j = go (thunked op j)
     where
-      go : (t : Bool) → OpenLow m (elim t [ true ↦ first_scope (left_at op brs j) | false ↦ Same ])
+      go : (t : Bool) → IfSome (elim t [ true ↦ first_scope (left_at op brs j) | false ↦ None ]) (λ b. b < m)
       go true = low_first (left_at op brs j) (low_left op brs h j)
       go false = tt
 
@@ -145,13 +131,13 @@ module _ (m : ℕ) where
       go zero i = absurd i
       go (suc k) i = absurd i
 
-  opened_low : (op : ℕ) (o : Operation) (j : ℕ) → Thunks m o → OpenLow m (opened_at op (branches_of o) j)
+  opened_low : (op : ℕ) (o : Operation) (j : ℕ) → Thunks m o → IfSome (opened_at op (branches_of o) j) (λ b. b < m)
   opened_low op o j h =
       low_opened op (branches_of o) (low_branches o.branches o.first o.second h.first h.second) j
 
-pub opened_there : {m : ℕ} (op : ℕ) (o : Operation) (j : ℕ) {w : Opened} → w ≡ opened_at op (branches_of o) j
-    → Thunks m o → OpenLow m w
-opened_there {m} op o j e h = subst (OpenLow m) (sym e) (opened_low m op o j h)
+pub opened_there : {m : ℕ} (op : ℕ) (o : Operation) (j : ℕ) {w : Option ℕ} → w ≡ opened_at op (branches_of o) j
+    → Thunks m o → IfSome w (λ b. b < m)
+opened_there {m} op o j e h = subst (λ (x : Option ℕ). IfSome x (λ b. b < m)) (sym e) (opened_low m op o j h)
 
 -- ---- one operand
 
@@ -166,7 +152,7 @@ module _ (gr : Graph) (sc : ℕ) (env : Env) (last op : ℕ) (brs : List ℕ) (j
     where
       go : (t : Bool) → thunked op j ≡ t → (l : List ℕ)
           → build_op gr (build_value gr) sc env last op j (k ∷ ks) l
-          ≡ cons (operand_tree (elim t [ true ↦ first_scope l | false ↦ Same ]) gr k sc env last)
+          ≡ cons (operand_tree (elim t [ true ↦ first_scope l | false ↦ None ]) gr k sc env last)
           (after (elim t [ true ↦ drop 1 l | false ↦ l ]))
       go true e [] = op_left gr (build_value gr) sc env last op j k ks
       go true e (b ∷ l) = op_thunk gr (build_value gr) sc env last op j k ks b l e

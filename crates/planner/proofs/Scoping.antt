@@ -4,16 +4,17 @@
 use Prim.Native.Nat.{ℕ, suc, ◌+◌, ◌<◌, ◌≤◌, max}
 use mathlib.Core.Path.{◌≡◌, refl, sym, ap, ◌∙◌, subst}
 use mathlib.Core.Bool.{Bool, true, false}
+use Rattle.std.specs.Prelude.{Option, None, Some}
 use mathlib.Core.List.{List, [], ◌∷◌, ◌++◌}
 use native.Mathlib.Omega.{arith}
 use native.Mathlib.Numerals.{add-one}
-use lib.ListN.{length, get_or, set, take}
+use lib.ListN.{length, get_or, set, take, drop, take-append-drop}
 use lib.Seq.{take-suc}
-use Rattle.model.specs.Tree.{Row, Tree, Trees, nil, cons, rows, depth}
+use Rattle.model.specs.Tree.{Row, Tree, Trees, nil, cons, rows, rows_of, depth}
 use Rattle.model.specs.Intern.{Env}
 use Rattle.model.specs.Gate as model
 use Rattle.model.specs.Schedule.{schedule}
-use Rattle.model.specs.Materialize.{Defined, val_def_of, define, build_value, process_scope}
+use Rattle.model.specs.Materialize.{Defined, member, val_def_of, define, build_value, process_scope}
 use Rattle.laws.specs.Defining.{join_t, members_in}
 use Rattle.laws.proofs.Trees.{rows_join, def_rows, def_depth}
 use Rattle.laws.proofs.Defining.{define-member, members_member, define_other, members_other, along, define-append}
@@ -25,17 +26,58 @@ use Rattle.graph.specs.Graph.{graph_of}
 use Rattle.plan.specs.declared.Planned.TheVariants.{ValDef, Block}
 use Rattle.plan.specs.Plan.{row_for}
 use Rattle.planner.specs.declared.Plan.{Plan}
-use Rattle.planner.specs.Grew.{Grew, Grown, deep_in}
+use Rattle.planner.specs.Grew.{Grew, Over, Grown, deep_in}
 use Rattle.planner.specs.Building.{Buildable, GraphIn, Maps, Member, Members, AnyMember}
-use Rattle.planner.specs.Planning.{Plans, DefinesIn, Defines}
-use Rattle.planner.proofs.Growing.{grew_none, grew_then, grew_as}
+use Rattle.planner.specs.Planning.{Plans, DefinesIn, Defines, DefinesOver}
+use Rattle.planner.proofs.Growing.{grew_none, grew_then, grew_as, grew_over, over_then, grows_then, grows_as}
 use Rattle.planner.proofs.Ids.{maps_more}
 use Rattle.planner.proofs.Keeping.{graph_kept}
 use Rattle.planner.proofs.Membership.{graph_is, none_under, any_false}
 use Rattle.planner.proofs.Graphs.{kids_low, only_arguments, scheduled_once}
 use Rattle.planner.proofs.Applying.{deep_node}
 
--- ---- definitions side by side
+-- ---- one definition, and definitions side by side
+
+row_def : (bs : List ℕ) (last : ℕ) (t : Tree) → row_for bs (ValDef (last + 1)) ∷ rows t ≡ rows (val_def_of (suc last) t)
+unfolding row_for
+row_def bs last t = rw (add-one last) (sym (def_rows (suc last) t))
+
+one_defined : (gr : model.Graph) (sc : ℕ) (env : Env) (s last : ℕ) → member gr sc env s ≡ true
+    → define gr (build_value gr) sc (s ∷ []) env last ≡ record {
+      defs = cons (val_def_of (suc last) (build_value gr s sc env last)) nil;
+      env = (s, suc last) ∷ env;
+      last = suc last;
+    }
+unfolding define
+one_defined gr sc env s last is = define-member gr sc s [] env is (build_value gr) last
+
+-- its row has no room
+pub define_over : {bs ws : List ℕ} {g : Graph} {map : List ℕ} {p : Plan} {sc : ℕ} (s last : ℕ) {t : Bool} {ws₁ : List ℕ}
+    → t ≡ true → Member bs ws g map sc s t → Over ws p (row_for bs (ValDef (last + 1)) ∷ []) ws₁
+    → DefinesOver bs ws g map p sc (s ∷ []) last ws₁
+unfolding rows
+define_over {bs} {ws} {g} {map} {p} {sc} s last {t} {ws₁} is m h = record {
+  over = λ gr env st maps.
+      let v = build_value gr s sc env last in
+      rw (one_defined gr sc env s last (sym (m gr env st maps) ∙ is), ← row_def bs last v)
+      (over_then (over_then h (rows v)) []);
+  kept = h.kept;
+}
+
+-- its value has no room
+pub value_over : {bs ws : List ℕ} {g : Graph} {map : List ℕ} {p : Plan} {sc : ℕ} (above s last : ℕ) {t : Bool}
+    {ws₁ ws₂ : List ℕ} {q : Plan} → Buildable bs ws g.symbols g.scopes → t ≡ true → Member bs ws g map sc s t
+    → Grew bs ws p (row_for bs (ValDef (last + 1)) ∷ []) (above + 1) ws₁ q
+    → Plans bs ws₁ g map q (above + 1) (λ gr x env. build_value gr s x env last) ws₂ None
+    → DefinesOver bs ws g map p sc (s ∷ []) last ws₂
+unfolding rows
+value_over {bs} {ws} {g} {map} {p} {sc} above s last {t} {ws₁} {ws₂} {q} b is m h v = record {
+  over = λ gr env st maps.
+      let inside = (v.grown gr sc env (graph_kept h.kept b st) maps).is in
+      rw (one_defined gr sc env s last (sym (m gr env st maps) ∙ is), ← row_def bs last (build_value gr s sc env last))
+      (over_then (grew_over h inside) []);
+  kept = frame_then _ _ _ _ _ h.kept v.kept;
+}
 
 deep_join : (a : ℕ) (ts us : Trees) → deep_in a (join_t ts us) ≡ max (deep_in a ts) (deep_in a us)
 unfolding join_t
@@ -45,19 +87,19 @@ deep_join a (cons t ts) us = omega (arith, deep_join a ts us)
 module _ {bs ws : List ℕ} {g : Graph} {map : List ℕ} {p : Plan} {above sc : ℕ} where
   -- ---- no symbol
 
-  pub defines_none : {last : ℕ} → p.rows ≤ 257 → Defines bs ws g map p above sc [] last 0 ws map p last
+  pub defines_none : {last : ℕ} → p.rows ≤ 256 → Defines bs ws g map p above sc [] last 0 ws map p last
   unfolding define rows
   defines_none l = record {
     defined = λ gr env st maps. record { grown = grew_none bs ws p l; maps = maps; last_is = refl };
     kept = frame_none _ _ ws;
-    full = l;
-    few = omega arith;
+    few = l;
+    ids = omega arith;
   }
 
   -- ---- one symbol
 
   module _ (s last : ℕ) where
-    pub defines_other : {t : Bool} → t ≡ false → Member bs ws g map sc s t → p.rows ≤ 257
+    pub defines_other : {t : Bool} → t ≡ false → Member bs ws g map sc s t → p.rows ≤ 256
         → Defines bs ws g map p above sc (s ∷ []) last 1 ws map p last
     defines_other isnt m l =
         let h = defines_none {last = last} l in
@@ -66,35 +108,32 @@ module _ {bs ws : List ℕ} {g : Graph} {map : List ℕ} {p : Plan} {above sc : 
               rw (define_other gr sc s [] env (sym (m gr env st maps) ∙ isnt) (build_value gr) last)
               (h.defined gr env st maps);
           kept = h.kept;
-          full = l;
-          few = omega arith;
+          few = l;
+          ids = omega arith;
         }
 
     -- the value is built with the ids before its number is given
     pub defines_one : {t : Bool} {ws₁ ws₂ : List ℕ} {q r : Plan} → Buildable bs ws g.symbols g.scopes
         → t ≡ true → Member bs ws g map sc s t → s < length map
         → Grew bs ws p (row_for bs (ValDef (last + 1)) ∷ []) (above + 1) ws₁ q
-        → Plans bs ws₁ g map q (above + 1) (λ gr x env. build_value gr s x env last) ws₂ r
+        → Plans bs ws₁ g map q (above + 1) (λ gr x env. build_value gr s x env last) ws₂ (Some r)
         → Defines bs ws g map p above sc (s ∷ []) last 1 ws₂ (set map s (last + 1)) r (last + 1)
-    unfolding define rows row_for
+    unfolding rows
     defines_one {t} {ws₁} {ws₂} {q} {r} b is m l h v = record {
       defined = λ gr env st maps.
           let v₁ = build_value gr s sc env last in
-          let inside = v.grown gr sc env (graph_kept h.kept b st) maps in
-          rw (define-member gr sc s [] env (sym (m gr env st maps) ∙ is) (build_value gr) last)
+          let inside = (v.grown gr sc env (graph_kept h.kept b st) maps).is in
+          rw (one_defined gr sc env s last (sym (m gr env st maps) ∙ is))
           (record {
-            grown = grew_as (grew_then (grew_then h inside) (grew_none bs ws₂ r v.full))
-                (ap (λ (x : List Row). x ++ []) (row_def v₁)) (omega (arith, def_depth (suc last) v₁));
+            grown = grew_as (grew_then (grew_then h inside) (grew_none bs ws₂ r v.few))
+                (ap (λ (x : List Row). x ++ []) (row_def bs last v₁)) (omega (arith, def_depth (suc last) v₁));
             maps = maps_more map env s last maps l;
             last_is = omega arith;
           });
       kept = frame_then _ _ _ _ _ h.kept v.kept;
-      full = v.full;
-      few = omega arith;
+      few = v.few;
+      ids = omega arith;
     }
-      where
-        row_def : (t : Tree) → row_for bs (ValDef (last + 1)) ∷ rows t ≡ rows (val_def_of (suc last) t)
-        row_def t = rw (add-one last) (sym (def_rows (suc last) t))
 
   -- ---- one symbol more
 
@@ -122,8 +161,35 @@ module _ {bs ws : List ℕ} {g : Graph} {map : List ℕ} {p : Plan} {above sc : 
               last_is = c.last_is;
             });
         kept = frame_then _ _ _ _ _ h.kept d.kept;
-        full = d.full;
-        few = omega (arith, h.few, d.few);
+        few = d.few;
+        ids = omega (arith, h.ids, d.ids);
+      }
+
+  -- there is no room for it, whatever comes after it
+  pub defines_over : (order : List ℕ) {last i s : ℕ} {ws₁ ws₂ map₁ : List ℕ} {q : Plan} {last₁ : ℕ}
+      → Buildable bs ws g.symbols g.scopes
+      → i < length order → s ≡ get_or order i 0
+      → Defines bs ws g map p above sc (take i order) last i ws₁ map₁ q last₁
+      → DefinesOver bs ws₁ g map₁ q sc (s ∷ []) last₁ ws₂
+      → DefinesOver bs ws g map p sc order last ws₂
+  defines_over order {last} {i} {s} {ws₁} {ws₂} {map₁} {q} {last₁} b lt e h d =
+      let more : take (i + 1) order ≡ take i order ++ (s ∷ []) =
+      rw (add-one i, e) (take-suc order i 0 lt) in
+      let whole : order ≡ take i order ++ (s ∷ []) ++ drop (i + 1) order =
+      sym (take-append-drop (i + 1) order) ∙ ap (λ (x : List ℕ). x ++ drop (i + 1) order) more in
+      record {
+        over = λ gr env st maps.
+            let build = build_value gr in
+            let a = h.defined gr env st maps in
+            let first = define gr build sc (take i order) env last in
+            let c = d.over gr first.env (graph_kept h.kept b st) a.maps in
+            let then = define gr build sc (s ∷ []) first.env last₁ in
+            let both : Over ws p (rows_of first.defs ++ rows_of then.defs) ws₂ = grew_over a.grown c in
+            let front : Over ws p (rows_of (define gr build sc (take i order ++ (s ∷ [])) env last).defs) ws₂ =
+            rw (define-append gr build sc (s ∷ []) (take i order) env last, ← a.last_is, rows_join first.defs then.defs) both in
+            rw (whole, define-append gr build sc (drop (i + 1) order) (take i order ++ (s ∷ [])) env last, rows_join)
+            (over_then front _);
+        kept = frame_then _ _ _ _ _ h.kept d.kept;
       }
 
 -- ---- a scope without definitions
@@ -139,7 +205,7 @@ none_defined gr sc =
 
 module _ {bs ws : List ℕ} (g : Graph) (map : List ℕ) (b : Buildable bs ws g.symbols g.scopes)
     (root sc last : ℕ) where
-  plans_none : {p : Plan} {above : ℕ} {ws₁ : List ℕ} {r : Plan}
+  plans_none : {p : Plan} {above : ℕ} {ws₁ : List ℕ} {r : Option Plan}
       → ((gr : model.Graph) (env : Env) → GraphIn bs ws g.symbols g.scopes gr → Maps map env
       → members_in gr sc env (schedule gr root sc) ≡ 0)
       → Plans bs ws g map p above (λ gr x env. build_value gr root x env last) ws₁ r
@@ -148,7 +214,7 @@ module _ {bs ws : List ℕ} (g : Graph) (map : List ℕ) (b : Buildable bs ws g.
     grown = λ gr x env st maps.
         subst (λ (t : Tree). Grown bs ws p above t ws₁ r) (sym (is gr env st maps)) (h.grown gr sc env st maps);
     kept = h.kept;
-    full = h.full;
+    few = h.few;
   }
     where
       is : (gr : model.Graph) (env : Env) → GraphIn bs ws g.symbols g.scopes gr → Maps map env
@@ -161,7 +227,7 @@ module _ {bs ws : List ℕ} (g : Graph) (map : List ℕ) (b : Buildable bs ws g.
 
   -- no symbol up to the result's is a member, and the schedule has no others
   pub plans_memberless : {any : Bool} → AnyMember bs ws g map sc root any → any ≡ false
-      → {p : Plan} {above : ℕ} {ws₁ : List ℕ} {r : Plan}
+      → {p : Plan} {above : ℕ} {ws₁ : List ℕ} {r : Option Plan}
       → Plans bs ws g map p above (λ gr x env. build_value gr root x env last) ws₁ r
       → Plans bs ws g map p above (λ gr x env. process_scope gr (build_value gr) root sc env last) ws₁ r
   plans_memberless {any} m isnt = plans_none λ gr env st maps.
@@ -179,7 +245,15 @@ module _ {bs ws : List ℕ} (g : Graph) (map : List ℕ) (b : Buildable bs ws g.
       → members_in gr sc env (schedule gr root sc) ≡ k
   count_is gr env st maps = sym (members gr env st maps ∙ ap (members_in gr sc env) (order_is gr st))
 
-  pub plans_result : {p : Plan} {above : ℕ} {ws₁ : List ℕ} {r : Plan} → k ≡ 0
+  pub block_rows : 0 < k → (gr : model.Graph) (env : Env) → GraphIn bs ws g.symbols g.scopes gr → Maps map env
+      → let d = define gr (build_value gr) sc (schedule gr root sc) env last in
+      rows (process_scope gr (build_value gr) root sc env last)
+      ≡ row_for bs (Block (k + 1)) ∷ (rows_of d.defs ++ rows (build_value gr root sc d.env d.last))
+  unfolding row_for
+  block_rows some gr env st maps =
+      scope_rows gr (only_arguments b st) root sc (scheduled_once b st root sc) env last k (count_is gr env st maps) some
+
+  pub plans_result : {p : Plan} {above : ℕ} {ws₁ : List ℕ} {r : Option Plan} → k ≡ 0
       → Plans bs ws g map p above (λ gr x env. build_value gr root x env last) ws₁ r
       → Plans bs ws g map p above (λ gr x env. process_scope gr (build_value gr) root sc env last) ws₁ r
   plans_result z =
@@ -187,12 +261,12 @@ module _ {bs ws : List ℕ} (g : Graph) (map : List ℕ) (b : Buildable bs ws g.
 
   -- ---- a block
 
-  pub plans_block : {p : Plan} {above : ℕ} {ws₁ ws₂ ws₃ map₂ : List ℕ} {q q₂ r : Plan} {last₂ count : ℕ} → 0 < k
+  pub plans_block : {p : Plan} {above : ℕ} {ws₁ ws₂ ws₃ map₂ : List ℕ} {q q₂ : Plan} {r : Option Plan} {last₂ count : ℕ}
+      → 0 < k
       → Grew bs ws p (row_for bs (Block (k + 1)) ∷ []) (above + 1) ws₁ q
       → Defines bs ws₁ g map q (above + 1) sc list last count ws₂ map₂ q₂ last₂
       → Plans bs ws₂ g map₂ q₂ (above + 1) (λ gr x env. build_value gr root x env last₂) ws₃ r
       → Plans bs ws g map p above (λ gr x env. process_scope gr (build_value gr) root sc env last) ws₃ r
-  unfolding row_for
   plans_block {p} {above} {ws₁} {ws₂} {ws₃} {map₂} {q} {q₂} {r} {last₂} some h d v = record {
     grown = λ gr x env st maps.
         let d₁ = define gr (build_value gr) sc (schedule gr root sc) env last in
@@ -201,17 +275,31 @@ module _ {bs ws : List ℕ} (g : Graph) (map : List ℕ) (b : Buildable bs ws g.
         rw (← order_is gr st) (d.defined gr env st₁ maps) in
         let st₂ = graph_kept (frame_then _ _ _ _ _ h.kept d.kept) b st in
         let w = v.grown gr sc d₁.env st₂ a.maps in
-        let c = count_is gr env st maps in
-        let once = scheduled_once b st root sc in
         let f = a.last_is in
-        grew_as (grew_then h (grew_then a.grown w))
-        (sym (scope_rows gr (only_arguments b st) root sc once env last k c some ∙ rw (← f)))
+        grows_as (grows_then h (grows_then a.grown w))
+        (sym (block_rows some gr env st maps ∙ rw (← f)))
         (omega (
           arith,
           deep_node above d₁.defs,
-          scope_depth gr (only_arguments b st) root sc once env last k c some,
+          scope_depth gr (only_arguments b st) root sc (scheduled_once b st root sc) env last k (count_is gr env st maps) some,
           ap (λ (l : ℕ). depth (build_value gr root sc d₁.env l)) f,
         ));
     kept = frame_then _ _ _ _ _ h.kept (frame_then _ _ _ _ _ d.kept v.kept);
-    full = v.full;
+    few = v.few;
+  }
+
+  -- its definitions have no room
+  pub block_over : {p : Plan} {above : ℕ} {ws₁ ws₂ : List ℕ} {q : Plan} → 0 < k
+      → Grew bs ws p (row_for bs (Block (k + 1)) ∷ []) (above + 1) ws₁ q
+      → DefinesOver bs ws₁ g map q sc list last ws₂
+      → Plans bs ws g map p above (λ gr x env. process_scope gr (build_value gr) root sc env last) ws₂ None
+  block_over {p} {above} {ws₁} {ws₂} {q} some h d = record {
+    grown = λ gr x env st maps.
+        let d₁ = define gr (build_value gr) sc (schedule gr root sc) env last in
+        let st₁ = graph_kept h.kept b st in
+        let a : Over ws₁ q (rows_of d₁.defs) ws₂ = rw (← order_is gr st) (d.over gr env st₁ maps) in
+        let both = grew_over h (over_then a (rows (build_value gr root sc d₁.env d₁.last))) in
+        record { is = rw (block_rows some gr env st maps) both };
+    kept = frame_then _ _ _ _ _ h.kept d.kept;
+    few = tt;
   }

@@ -27,8 +27,6 @@ use Rattle.free_lists.specs.FreeLists.{Lists}
 use Rattle.plan.specs.declared.Planned.{Planned}
 use Rattle.plan.specs.declared.Planned.TheVariants.{Copy, Field}
 use Rattle.plan.specs.Plan.{choose}
-use Rattle.planner.specs.declared.Opened.{Opened}
-use Rattle.planner.specs.declared.Opened.TheVariants.{Same, Thunk}
 
 -- ---- symbols that a tree can be built from
 
@@ -97,22 +95,18 @@ unfoldable pub left_at : ℕ → List ℕ → ℕ → List ℕ
 left_at op brs zero = brs
 left_at op brs (suc j) = elim (thunked op j) [ true ↦ drop 1 (left_at op brs j) | false ↦ left_at op brs j ]
 
-abbrev pub first_scope : List ℕ → Opened
-first_scope [] = Same
-first_scope (b ∷ brs) = Thunk b
+abbrev pub first_scope : List ℕ → Option ℕ
+first_scope [] = None
+first_scope (b ∷ brs) = Some b
 
-unfoldable pub opened_at : ℕ → List ℕ → ℕ → Opened
-opened_at op brs j = elim (thunked op j) [ true ↦ first_scope (left_at op brs j) | false ↦ Same ]
-
--- an operand's scope is there
-abbrev pub OpenLow : ℕ → Opened → Type 0
-OpenLow m Same = Unit {0}
-OpenLow m (Thunk b) = b < m
+-- the scope of operand j, if it is a thunk
+unfoldable pub opened_at : ℕ → List ℕ → ℕ → Option ℕ
+opened_at op brs j = elim (thunked op j) [ true ↦ first_scope (left_at op brs j) | false ↦ None ]
 
 -- an operand's tree, in scope sc if it is no thunk
-abbrev pub operand_tree : Opened → model.Graph → ℕ → ℕ → Env → ℕ → Tree
-operand_tree Same gr k sc env last = build_value gr k sc env last
-operand_tree (Thunk b) gr k sc env last = process_scope gr (build_value gr) k b env last
+abbrev pub operand_tree : Option ℕ → model.Graph → ℕ → ℕ → Env → ℕ → Tree
+operand_tree None gr k sc env last = build_value gr k sc env last
+operand_tree (Some b) gr k sc env last = process_scope gr (build_value gr) k b env last
 
 -- ---- members of a scope
 
@@ -130,7 +124,3 @@ abbrev pub AnyMember : List ℕ → List ℕ → Graph → List ℕ → ℕ → 
 AnyMember bs ws g ids sc root r =
     (gr : model.Graph) (env : Env) → GraphIn bs ws g.symbols g.scopes gr → Maps ids env
     → r ≡ ltb 0 (members_in gr sc env (range 0 (root + 1)))
-
-abbrev pub more : Bool → ℕ → ℕ
-more true k = k + 1
-more false k = k

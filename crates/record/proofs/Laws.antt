@@ -1,5 +1,5 @@
 -- Where records lie, from checks 2 and 3: a row of the forest is what its pair cuts out. In order: the pairs; the rows
--- that sound pairs cut out; `laid_lies`; a row's fields; a row's length.
+-- that sound pairs cut out; where a record lies; what is read; a row's fields.
 -- Assumes nothing.
 use Prim.Native.Nat.{ℕ, zero, suc, ◌+◌, ◌*◌, ◌-◌, ◌<◌, ◌≤◌}
 use mathlib.Core.Path.{◌≡◌, refl, sym, ap, ◌∙◌, subst}
@@ -8,7 +8,9 @@ use Rattle.std.specs.Prelude.{Option, None, Some}
 use mathlib.Core.List.{List, [], ◌∷◌}
 use native.Mathlib.Omega.{arith}
 use lib.Dec.{eqb, ltb}
-use lib.ListN.{length, get_or, take, drop, length-take, length-drop}
+use lib.ListN.{length, get_or, take, drop, length-drop}
+use native.Mathlib.Nat.{add-zero}
+use Rattle.std.proofs.lemmas.List.{length-take-le}
 use lib.Seq.{drop-drop, get_or-drop, get_or-take, take-nil}
 use borrow.Author.Tests.{ltb-false, eqb-true, not-false}
 use Rattle.model.specs.Lists.{first}
@@ -22,7 +24,7 @@ use Rattle.laws.specs.Clear.{Clear}
 use Rattle.laws.proofs.Clear.{first_clear}
 use Rattle.laws.proofs.Header.{header_of, pairs_length}
 use Rattle.laws.proofs.Members.{or_neither}
-use Rattle.record.specs.Record.{Laid, Lies, start_of, size_of, no_row, row_at}
+use Rattle.record.specs.Record.{Laid, start_of, size_of, no_row, row_at}
 
 -- ---- the pairs
 
@@ -91,10 +93,15 @@ fits-directory bs e = go (ltb (length bs) (body_start bs)) refl e
     go true f g = some_none g
     go false f g = (ltb-false (length bs) (body_start bs) f, first_clear _ g)
 
-pub laid_lies : (bs : List ℕ) (i : ℕ) → Laid bs → i < record_count bs → Lies bs i
+-- record i lies where its pair says, within the forest
+record Lies (bs : List ℕ) (i : ℕ) : Type 0 where
+  fixed : 5 ≤ size_of bs i
+  inside : start_of bs i + size_of bs i ≤ length bs
+  row : row_at bs i ≡ row_of (take (size_of bs i) (drop (start_of bs i) bs))
+
+laid_lies : (bs : List ℕ) (i : ℕ) → Laid bs → i < record_count bs → Lies bs i
 unfolding row_at rows_in pairs_of body_start start_of size_of
 laid_lies bs i laid l = record {
-  entry = omega (arith, directory.0);
   fixed = subst (λ (z : ℕ × ℕ). 5 ≤ z.1) pair cut.long;
   inside = subst (λ (z : ℕ × ℕ). z.0 + z.1 ≤ length bs) pair cut.inside;
   row = subst (λ (z : ℕ × ℕ). row_at bs i ≡ row_of (take z.1 (drop z.0 bs))) pair cut.row;
@@ -113,10 +120,15 @@ laid_lies bs i laid l = record {
         let e : 4 + (2 + 4 * i) ≡ 6 + 4 * i = omega arith in
         pair_at (record_count bs) (drop 4 bs) i l ∙ rw (drop-drop (4 * i) 4 bs, drop-drop (2 + 4 * i) 4 bs, e)
 
--- record i's pair is within bounds, and in the forest
-pub pair_low : (bs : List ℕ) (i : ℕ) → Laid bs → i < record_count bs → (i ≤ 256) × (8 + 4 * i ≤ length bs)
-pair_low bs i laid l =
-    (omega (arith, (header_of bs laid.header).records_most), (laid_lies bs i laid l).entry)
+pub records_few : (bs : List ℕ) → Laid bs → record_count bs ≤ 256
+records_few bs laid = (header_of bs laid.header).records_most
+
+pub pairs_inside : (bs : List ℕ) → Laid bs → 4 + 4 * record_count bs ≤ length bs
+unfolding body_start
+pairs_inside bs laid = omega (arith, (fits-directory bs laid.directory).0)
+
+-- `start`
+pub ruleset pairs = (records_few, pairs_inside)
 
 -- ---- what is read
 
@@ -133,57 +145,67 @@ pub u16_at : (s : List ℕ) (at : ℕ) → u16 (drop at s) ≡ get_or s at 0 + 2
 unfolding u16
 u16_at s at = let e : at + 0 ≡ at = omega arith in rw (get_or-drop at s 0 0, get_or-drop at s 1 0, e)
 
-module _ (bs : List ℕ) (i : ℕ) (h : Lies bs i) where
+-- ---- a row's fields
+
+module _ (bs : List ℕ) (i : ℕ) (laid : Laid bs) (l : i < record_count bs) where
+  lies : Lies bs i
+  lies = laid_lies bs i laid l
+
+  pub fixed_inside : start_of bs i + 5 ≤ length bs
+  fixed_inside = omega (arith, lies.fixed, lies.inside)
+
   -- a byte of the record
-  byte_at : (k : ℕ) → k < size_of bs i
+  byte_at : (k : ℕ) → k < 5
       → get_or (take (size_of bs i) (drop (start_of bs i) bs)) k 0 ≡ get_or bs (start_of bs i + k) 0
-  byte_at k l = get_or-take (size_of bs i) (drop (start_of bs i) bs) k 0 l ∙ get_or-drop (start_of bs i) bs k 0
+  byte_at k low =
+      let lt : k < size_of bs i = omega (arith, lies.fixed) in
+      get_or-take (size_of bs i) (drop (start_of bs i) bs) k 0 lt ∙ get_or-drop (start_of bs i) bs k 0
 
-  -- the byte k after the record's start, wherever `x` says that this is
-  byte_from : (x k : ℕ) → x ≡ start_of bs i → k < 5 →
-      get_or bs (x + k) 0 ≡ get_or (take (size_of bs i) (drop (start_of bs i) bs)) k 0
-  byte_from x k e l = ap (λ (z : ℕ). get_or bs (z + k) 0) e ∙ sym (byte_at k (omega (arith, h.fixed)))
+  pub shape_at : (row_at bs i).rec.shape ≡ get_or bs (start_of bs i) 0
+  unfolding row_of
+  shape_at = ap (λ (z : Row). z.rec.shape) lies.row ∙ byte_at 0 (omega arith) ∙ rw add-zero
 
-  module _ (x : ℕ) (e : x ≡ start_of bs i) where
-    pub shape_at : get_or bs x 0 ≡ (row_at bs i).rec.shape
-    unfolding row_of
-    shape_at =
-        let f : x + 0 ≡ x = omega arith in
-        ap (λ (z : ℕ). get_or bs z 0) (sym f) ∙ byte_from x 0 e (omega arith)
-        ∙ ap (λ (z : Row). z.rec.shape) (sym h.row)
+  pub opcode_at : (row_at bs i).rec.opcode ≡ get_or bs (start_of bs i + 1) 0
+  unfolding row_of
+  opcode_at = ap (λ (z : Row). z.rec.opcode) lies.row ∙ byte_at 1 (omega arith)
 
-    pub opcode_at : get_or bs (x + 1) 0 ≡ (row_at bs i).rec.opcode
-    unfolding row_of
-    opcode_at = byte_from x 1 e (omega arith) ∙ ap (λ (z : Row). z.rec.opcode) (sym h.row)
+  pub aux_at : (row_at bs i).rec.aux ≡ get_or bs (start_of bs i + 4) 0
+  unfolding row_of
+  aux_at = ap (λ (z : Row). z.rec.aux) lies.row ∙ byte_at 4 (omega arith)
 
-    pub aux_at : get_or bs (x + 4) 0 ≡ (row_at bs i).rec.aux
-    unfolding row_of
-    aux_at = byte_from x 4 e (omega arith) ∙ ap (λ (z : Row). z.rec.aux) (sym h.row)
+  pub kids_at_lem : (row_at bs i).kids ≡ u16 (drop (start_of bs i + 2) bs)
+  unfolding row_of
+  kids_at_lem =
+      let f : start_of bs i + 2 + 1 ≡ start_of bs i + 3 = omega arith in
+      ap (λ (z : Row). z.kids) lies.row
+      ∙ rw (u16_at (take (size_of bs i) (drop (start_of bs i) bs)) 2, u16_at bs (start_of bs i + 2), f)
+      (rw (byte_at 2 (omega arith), byte_at 3 (omega arith)))
 
-    pub kids_at_lem : u16 (drop (x + 2) bs) ≡ (row_at bs i).kids
-    unfolding row_of
-    kids_at_lem =
-        let f : x + 2 + 1 ≡ x + 3 = omega arith in
-        let low = byte_from x 2 e (omega arith) in
-        let high = byte_from x 3 e (omega arith) in
-        u16_at bs (x + 2) ∙ rw (f, low, high) (sym (u16_at (take (size_of bs i) (drop (start_of bs i) bs)) 2))
-        ∙ ap (λ (z : Row). z.kids) (sym h.row)
+  -- a record is as long as its pair says
+  pub size_at : row_len (row_at bs i) ≡ size_of bs i
+  unfolding row_len row_of
+  size_at =
+      let rest = drop (start_of bs i) bs in
+      let cut = take (size_of bs i) rest in
+      let enough : size_of bs i ≤ length rest = omega (arith, length-drop (start_of bs i) bs, lies.inside) in
+      let long : length cut ≡ size_of bs i = length-take-le (size_of bs i) rest enough in
+      ap row_len lies.row ∙ omega (arith, length-drop 5 cut, long, lies.fixed)
 
-  pub literal_at : take (size_of bs i - 5) (drop (start_of bs i + 5) bs) ≡ (row_at bs i).rec.lit
+  pub size_inside : start_of bs i + row_len (row_at bs i) ≤ length bs
+  size_inside = omega (arith, size_at, lies.inside)
+
+  pub size_long : 5 ≤ row_len (row_at bs i)
+  size_long = omega (arith, size_at, lies.fixed)
+
+  pub literal_at : (row_at bs i).rec.lit ≡ take (row_len (row_at bs i) - 5) (drop (start_of bs i + 5) bs)
   unfolding row_of
   literal_at =
-      ap (λ (z : List ℕ). take (size_of bs i - 5) z) (sym (drop-drop 5 (start_of bs i) bs))
-      ∙ (sym (drop-take 5 (size_of bs i) (drop (start_of bs i) bs)) ∙ ap (λ (z : Row). z.rec.lit) (sym h.row))
+      ap (λ (z : Row). z.rec.lit) lies.row ∙ drop-take 5 (size_of bs i) (drop (start_of bs i) bs)
+      ∙ rw (size_at, drop-drop)
 
--- ---- a row's length
+-- by function: `size`; `shape`, `opcode`, `kids` and `aux`; `literal`
+pub ruleset lengths = (pairs, size_at)
 
--- a record is as long as its pair says
-cut_length : (bs : List ℕ) (i : ℕ) → Lies bs i → length (take (size_of bs i) (drop (start_of bs i) bs)) ≡ size_of bs i
-cut_length bs i h =
-    length-take (size_of bs i) (drop (start_of bs i) bs) ∙ omega (arith, length-drop (start_of bs i) bs, h.inside)
+pub ruleset fields = (fixed_inside, shape_at, opcode_at, aux_at, kids_at_lem)
 
-pub size_at : (bs : List ℕ) (i : ℕ) → Lies bs i → size_of bs i ≡ row_len (row_at bs i)
-unfolding row_len row_of
-size_at bs i h =
-    let d = length-drop 5 (take (size_of bs i) (drop (start_of bs i) bs)) in
-    sym (ap row_len h.row ∙ omega (arith, d, cut_length bs i h, h.fixed))
+pub ruleset part = (literal_at, size_inside, size_long)

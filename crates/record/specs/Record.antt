@@ -1,9 +1,9 @@
 -- Records by number: where a record lies in the forest, and the row that stands there.
 -- Assumes nothing.
-use Rattle.std.specs.Prelude.{ℕ, ◌+◌, ◌*◌, ◌≤◌, ◌≡◌, List, [], length, get_or, take, drop, None}
+use Rattle.std.specs.Prelude.{ℕ, ◌+◌, ◌*◌, ◌≡◌, List, [], get_or, drop, None}
 use Rattle.model.specs.Bytes.{u16}
 use Rattle.model.specs.Tree.{rec, Row}
-use Rattle.model.specs.Forest.{row_of, rows_in, check2, check3}
+use Rattle.model.specs.Forest.{rows_in, check2, check3}
 
 -- header and directory stand: neither check 2 nor check 3 fails
 pub record Laid (bs : List ℕ) : Type 0 where
@@ -23,10 +23,3 @@ no_row = record { rec = rec 0 0 0 []; kids = 0 }
 -- record i
 unfoldable pub row_at : List ℕ → ℕ → Row
 row_at bs i = get_or (rows_in bs) i no_row
-
--- record i lies where its pair says, within the forest
-pub record Lies (bs : List ℕ) (i : ℕ) : Type 0 where
-  pub entry : 8 + 4 * i ≤ length bs
-  pub fixed : 5 ≤ size_of bs i
-  pub inside : start_of bs i + size_of bs i ≤ length bs
-  pub row : row_at bs i ≡ row_of (take (size_of bs i) (drop (start_of bs i) bs))

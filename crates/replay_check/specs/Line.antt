@@ -1,6 +1,9 @@
--- The line that is printed for a forest: what checks 2 to 10 say of it.
+-- What the program prints. In order: a forest's line, which is what checks 2 to 10 say of it; a row of the list; the lines
+-- of its rows.
 -- Assumes nothing.
-use Rattle.std.specs.Prelude.{ℕ, List}
+use Rattle.std.specs.Prelude.{◌≡◌, ℕ, zero, suc, ◌+◌, Bool, true, false, ◌&&◌, List, [], ◌++◌, leb, length, take, drop, Option, None, Some}
+use Rattle.std.specs.Io.KnownBytes.{Appends}
+use Rattle.model.specs.Bytes.{u32}
 use Rattle.model.specs.Answer.{Answer, refused, good}
 use Rattle.model.specs.Tree.{Trees}
 use Rattle.model.specs.Accept.{accept}
@@ -13,3 +16,26 @@ line_of (good ts) = text "accepted\n"
 
 abbrev pub line : List ℕ → List ℕ
 line bs = line_of (accept bs)
+
+-- ---- rows
+
+-- the forest of the row that a list begins with, a 32-bit length and so many bytes; none where the list ends within the
+-- row, or the forest has more than `room` bytes
+unfoldable pub forest_of : ℕ → List ℕ → Option (List ℕ)
+forest_of room bs =
+    elim (leb 4 (length bs) && leb (u32 bs) room && leb (4 + u32 bs) (length bs)) [
+      | true ↦ Some (take (u32 bs) (drop 4 bs))
+      | false ↦ None
+    ]
+
+-- the list's row was answered, and what is left of the list stands behind it; or there is none, and nothing was printed
+abbrev pub Answered : Option (List ℕ) → List ℕ → Bool → Option (List ℕ) → Option (List ℕ) → Option (List ℕ) → Type 0
+Answered None bs more left old new = (more ≡ false) × Appends old new []
+Answered (Some f) bs more left old new =
+    (more ≡ true) × (left ≡ Some (drop (4 + length f) bs)) × Appends old new (line f)
+
+-- the lines of up to n rows
+unfoldable pub lines : ℕ → ℕ → List ℕ → List ℕ
+lines room zero bs = []
+lines room (suc n) bs =
+    elim (forest_of room bs) [ None ↦ [] | Some f ↦ line f ++ lines room n (drop (4 + length f) bs) ]

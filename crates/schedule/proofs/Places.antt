@@ -1,107 +1,97 @@
--- Where the neighbours of a symbol stand in the words. In order: its children's words; by how it lies, no words, these,
--- or those of its free list.
+-- The neighbours of a symbol, by how it lies: its children, its free list, or none.
 -- Assumes nothing.
-use Prim.Native.Nat.{ℕ, suc, ◌+◌, ◌-◌, ◌<◌, ◌≤◌}
-use mathlib.Core.Path.{◌≡◌, refl, sym, ap, subst, ◌∙◌}
+use Prim.Native.Nat.{ℕ, ◌+◌, ◌<◌, ◌≤◌}
+use mathlib.Core.Path.{◌≡◌, sym, ap, ◌∙◌}
 use mathlib.Core.Bool.{Bool, true, false}
 use mathlib.Core.List.{List, []}
-use native.Mathlib.Omega.{arith}
 use native.Mathlib.Numerals.{add-one}
-use lib.Dec.{ltb}
-use lib.ListN.{length, get_or}
-use borrow.Author.Tests.{ltb-false}
+use Rattle.std.specs.Prelude.{Option, None, Some, MatchOption}
+use Rattle.std.proofs.Common.{Bor}
 use Rattle.model.specs.Gate.{sym_of}
-use Rattle.model.specs.Schedule.{deeper, rel_of, free_vars}
-use Rattle.laws.specs.Members.{Under}
-use Rattle.laws.proofs.Falls.{under_at, free_falls}
-use Rattle.regions.specs.Regions.{SLOTS, FREE_LISTS}
+use Rattle.model.specs.Schedule.{local, deeper, outside, free_vars}
+use Rattle.laws.proofs.Falls.{free_falls}
+use Rattle.regions.specs.Regions.{FREE_LISTS}
 use Rattle.key.specs.declared.Symbol.{Symbol}
 use Rattle.key.specs.Key.{symbol_at}
-use Rattle.symbols.specs.Words.{words_from, slots_from}
-use Rattle.symbols.proofs.Words.{words_length, words_at}
+use Rattle.symbols.specs.Words.{slots_from}
 use Rattle.symbols.proofs.Laws.{kids_at_lem}
 use Rattle.scopes.specs.declared.Rel as code
 use Rattle.scopes.specs.declared.Rel.TheVariants.{Local, Deeper, Outside}
+use Rattle.scopes.specs.Relation.{rel_in}
 use Rattle.graph.specs.Graph.{Arena, graph_of, Related, Tests}
 use Rattle.graph.proofs.Laws.{kids_low}
-use Rattle.free_lists.specs.declared.Run.{Run}
-use Rattle.free_lists.specs.declared.Run.TheVariants.{Words, Unstored}
-use Rattle.free_lists.specs.FreeLists.{end_at, list_at, run_of, Stocked}
+use Rattle.outsiders.proofs.Offers.{kids_below}
+use Rattle.free_lists.specs.FreeLists.{end_at, list_at, Stocked}
 use Rattle.free_lists.proofs.Filed.{stored_rising, stored_is}
-use Rattle.free_lists.proofs.Giving.{kids_below}
-use Rattle.schedule.specs.Schedule.{stops, near_of, NearWords, Nearby}
+use Rattle.schedule.specs.declared.Order.{Order}
+use Rattle.schedule.specs.Schedule.{scope_of, stops, near_of, Near, LiesDeeper}
 use Rattle.schedule.proofs.Orders.{near_end, near_rel, told}
 
--- ---- the words of the children
+-- the children
+pub kids_are : (bs ws : List ℕ) (n m s : ℕ) → s < n → {y : Symbol} → y ≡ symbol_at ws s → {run : List ℕ} →
+    run ≡ slots_from ws y.kids y.count → run ≡ (sym_of (graph_of bs ws n m []) s).kids
+kids_are bs ws n m s lt loaded r =
+    r ∙ (ap (λ (z : Symbol). slots_from ws z.kids z.count) loaded ∙ sym (kids_at_lem bs ws n s lt))
 
-module _ {bs ws : List ℕ} {n m : ℕ} (arena : Arena bs ws n m) {s : ℕ} (lt : s < n) {y : Symbol}
-    (loaded : y ≡ symbol_at ws s) where
-  pub kids_are : slots_from ws y.kids y.count ≡ (sym_of (graph_of bs ws n m []) s).kids
-  kids_are = ap (λ (z : Symbol). slots_from ws z.kids z.count) loaded ∙ sym (kids_at_lem bs ws n s lt)
+no_near : {bs ws : List ℕ} {n m : ℕ} {o : Order} {s : ℕ} → near_of (graph_of bs ws n m []) o s ≡ [] →
+    Near bs ws n m o s []
+no_near e = record { below = λ x i. absurd i; is = sym e }
 
--- ---- by how the symbol lies
-
-no_words : {bs ws : List ℕ} {n m : ℕ} {b : Bool} {cs s : ℕ} → near_of (graph_of bs ws n m []) b cs s ≡ [] →
-    NearWords bs ws n m b cs s SLOTS.first 0
-unfolding words_from
-no_words e = record { below = record { fit = omega arith; low = λ j l. absurd (omega arith) }; is = sym e }
+-- a deeper symbol's free list
+pub near_free : {bs ws : List ℕ} {n m : ℕ} {o : Order} {s : ℕ} → Arena bs ws n m → LiesDeeper bs ws n m o s →
+    {list : List ℕ} → list ≡ free_vars (graph_of bs ws n m []) s → Near bs ws n m o s list
+near_free {bs} {ws} {n} {m} {o} {s} arena h is =
+    let g = graph_of bs ws n m [] in
+    record {
+      below = rw is (free_falls g (kids_low bs ws n m arena []) s);
+      is = is ∙ sym (near_rel g o s h.goes_on deeper (sym h.lies));
+    }
 
 -- an end of the list of s, asked for only if the list is stored
 pub rises : {bs ws : List ℕ} {n m : ℕ} → Stocked bs ws n m → (s : ℕ) → s < n → end_at ws (s + 1) ≤ (FREE_LISTS).size →
     end_at ws s ≤ end_at ws (s + 1)
 rises stock s lt = rw (add-one s) (stored_rising stock.lists s lt)
 
-module _ {bs ws : List ℕ} {n m : ℕ} (stock : Stocked bs ws n m) (b : Bool) (cs s : ℕ) (lt : s < n) {p : Bool}
-    (test : Tests ws n m (λ g. stops g b s) p) where
-  pub at_end : p ≡ true → NearWords bs ws n m b cs s SLOTS.first 0
-  at_end e = no_words (near_end (graph_of bs ws n m []) b cs s (sym (test bs []) ∙ e))
+module _ {bs ws : List ℕ} {n m : ℕ} (stock : Stocked bs ws n m) (o : Order) (s : ℕ) (lt : s < n) {p : Bool}
+    (test : Tests ws n m (λ g. stops g o s) p) where
+  pub at_end : p ≡ true → Near bs ws n m o s []
+  at_end e = no_near (near_end (graph_of bs ws n m []) o s (sym (test bs []) ∙ e))
 
-  module _ (left : p ≡ false) {r : code.Rel} (rel : Related ws n m s cs r) where
-    pub at_local : r ≡ Local → (y : Symbol) → y ≡ symbol_at ws s →
-        NearWords bs ws n m b cs s (SLOTS.first + y.kids) y.count
-    at_local e y loaded = record {
-      below = kids_below bs ws n m s lt _ loaded stock.arena;
-      is =
-          kids_are stock.arena lt loaded
-          ∙ sym (near_rel (graph_of bs ws n m []) b cs s (sym (test bs []) ∙ left) _ (told bs ws n m s cs r Local e rel []));
+  module _ (left : p ≡ false) (cs : ℕ) (from : cs ≡ scope_of o) (r : code.Rel) (rel : Related ws n m s cs r) where
+    lies : (v : code.Rel) → r ≡ v → near_of (graph_of bs ws n m []) o s ≡ elim (rel_in v) [
+      | local ↦ (sym_of (graph_of bs ws n m []) s).kids
+      | deeper ↦ free_vars (graph_of bs ws n m []) s
+      | outside ↦ []
+    ]
+    lies v e =
+        near_rel (graph_of bs ws n m []) o s (sym (test bs []) ∙ left) (rel_in v)
+        (told bs ws n m s (scope_of o) e (rw from at rel) [])
+
+    pub at_local : r ≡ Local → {y : Symbol} → y ≡ symbol_at ws s → {run : List ℕ} →
+        run ≡ slots_from ws y.kids y.count → Near bs ws n m o s run
+    at_local e loaded is = record {
+      below = kids_below bs ws n m s stock.arena lt _ loaded _ is;
+      is = kids_are bs ws n m s lt loaded is ∙ sym (lies Local e);
     }
 
-    pub at_outside : r ≡ Outside → NearWords bs ws n m b cs s SLOTS.first 0
-    at_outside e =
-        no_words (near_rel (graph_of bs ws n m []) b cs s (sym (test bs []) ∙ left) _
-        (told bs ws n m s cs r Outside e rel []))
+    pub at_outside : r ≡ Outside → Near bs ws n m o s []
+    at_outside e = no_near (lies Outside e)
 
-    pub at_deeper : r ≡ Deeper → (run : Run) → run ≡ run_of ws s → Nearby bs ws n m b cs s run
-    unfolding run_of
-    at_deeper e run f =
-        subst (Nearby bs ws n m b cs s) (sym f) (go (ltb (FREE_LISTS).size (end_at ws (suc s))) refl)
+    pub at_deeper : r ≡ Deeper → (found : Option (Bor (List ℕ))) →
+        MatchOption found ((FREE_LISTS).size < end_at ws (s + 1))
+        (λ list. (end_at ws (s + 1) ≤ (FREE_LISTS).size) × (list.now ≡ list_at ws s)) →
+        MatchOption found (LiesDeeper bs ws n m o s) (λ near. Near bs ws n m o s near.now)
+    at_deeper e = go
       where
-        lies : deeper ≡ rel_of (graph_of bs ws n m []) s cs
-        lies = told bs ws n m s cs r Deeper e rel []
+        deep : LiesDeeper bs ws n m o s
+        deep = record {
+          goes_on = sym (test bs []) ∙ left;
+          lies = sym (told bs ws n m s (scope_of o) e (rw from at rel) []);
+        }
 
-        goes : stops (graph_of bs ws n m []) b s ≡ false
-        goes = sym (test bs []) ∙ left
-
-        low : list_at ws s ≡ free_vars (graph_of bs ws n m []) s → (j : ℕ) → j < end_at ws (suc s) - end_at ws s →
-            get_or ws ((FREE_LISTS).first + end_at ws s + j) 0 < s
-        low is j l =
-            let at : get_or (list_at ws s) j 0 ≡ get_or ws ((FREE_LISTS).first + end_at ws s + j) 0 =
-            words_at ws ((FREE_LISTS).first + end_at ws s) (end_at ws (suc s) - end_at ws s) j l in
-            let long : length (list_at ws s) ≡ end_at ws (suc s) - end_at ws s =
-            words_length ws ((FREE_LISTS).first + end_at ws s) (end_at ws (suc s) - end_at ws s) in
-            let under : Under s (list_at ws s) =
-            rw is (free_falls (graph_of bs ws n m []) (kids_low bs ws n m stock.arena []) s) in
-            omega (arith, under_at s (list_at ws s) under j (omega arith))
-
-        go : (t : Bool) → ltb (FREE_LISTS).size (end_at ws (suc s)) ≡ t → Nearby bs ws n m b cs s (elim t [
-          | true ↦ Unstored
-          | false ↦ Words ((FREE_LISTS).first + end_at ws s) (end_at ws (suc s) - end_at ws s)
-        ])
-        go true t = record { goes_on = goes; lies = sym lies }
-        go false t =
-            let fits : end_at ws (suc s) ≤ (FREE_LISTS).size = ltb-false (FREE_LISTS).size (end_at ws (suc s)) t in
-            let is = stored_is stock.lists s lt fits in
-            record {
-              below = record { fit = omega (arith, stored_rising stock.lists s lt fits); low = low is };
-              is = is ∙ sym (near_rel (graph_of bs ws n m []) b cs s goes deeper lies);
-            }
+        go : (found : Option (Bor (List ℕ))) → MatchOption found ((FREE_LISTS).size < end_at ws (s + 1))
+            (λ list. (end_at ws (s + 1) ≤ (FREE_LISTS).size) × (list.now ≡ list_at ws s)) →
+            MatchOption found (LiesDeeper bs ws n m o s) (λ near. Near bs ws n m o s near.now)
+        go None q = deep
+        go (Some list) q =
+            near_free stock.arena deep (q.1 ∙ stored_is stock.lists s lt (rw (add-one s) at q.0))

@@ -1,160 +1,144 @@
 // The order of a scope's symbols (materialize.rs): `free_vars`, `body_schedule`, `neighbours`, `schedule_order`.
-// In order: tests of a symbol; lists that are lent; the neighbours of a symbol; a symbol after its neighbours; the cycle
-// of free lists, body order and neighbours; a scope's schedule.
-// A body's order (`body_schedule`) is walked for its outsiders alone: where a schedule lists the symbol that was visited,
-// it lists the outsiders that the symbol needs.
+// In order: orders, and tests of a symbol; the neighbours of a symbol; a symbol after its neighbours; the cycle of free
+// lists, body order and neighbours; a scope's schedule.
+// A body's order (`body_schedule`) is walked for its outsiders alone: where a schedule lists the symbol that was
+// visited, it lists the outsiders that the symbol needs.
 // What nests: `visit` and `run` once a symbol, with no array. `across` (1 KB) and `free` (0.5 KB) open arrays: they are
 // called only for a symbol in a deeper scope whose free list is not stored.
 #![tactic(auto)]
 
-ghost use Rattle.std.specs.Prelude.{◌≡◌, true, [], ◌∷◌, ◌++◌, ◌+◌, ◌<◌, length, get_or, set, replicate};
-ghost use Rattle.model.specs.Schedule.{each, outsiders};
+ghost use Rattle.std.specs.Prelude.{◌≡◌, false, [], ◌∷◌, ◌++◌, ◌<◌, get_or, MatchOption};
+ghost use Rattle.model.specs.Schedule.{each, outsiders, free_vars};
+ghost use Rattle.laws.specs.Members.{Under};
 ghost use Rattle.record.specs.Record.{Laid};
-ghost use Rattle.symbols.specs.Words.{words_from};
-ghost use Rattle.graph.specs.Graph.{Arena, Scoped, Tests};
-ghost use Rattle.outsiders.specs.Outsiders.{WordsBelow, Held, Listed};
-ghost use Rattle.free_lists.specs.declared.Run.TheVariants.{Words, Unstored};
+ghost use Rattle.graph.specs.Graph.{Arena, Scoped, Tests, graph_of};
+ghost use Rattle.outsiders.specs.Outsiders.{Held, Listed};
 ghost use Rattle.free_lists.specs.FreeLists.{Stocked};
-ghost use Rattle.schedule.specs.Schedule.{passed, stops, step_of, visit_of, needs_of, Nearby, Lent};
-ghost use Rattle.schedule.specs.Schedule.{Walked, Freed, Scheduled};
+ghost use Rattle.schedule.specs.Schedule.{scope_of, passed, stops, step_of, visit_of, needs_of, Near, LiesDeeper, Lent};
+ghost use Rattle.schedule.specs.Schedule.{Walked, Scheduled};
 
-use free_lists::Run;
+use arrayvec::ArrayVec;
 use graph::Graph;
+use outsiders::Entry;
 use scopes::Rel;
 
-// An order: the scope that it is seen from, and whether it is that of a body or a schedule.
+// The order of a body in a scope, or the schedule of a scope.
 #[derive(Clone, Copy)]
-struct Order {
-    scope: usize,
-    body: bool,
+enum Order {
+    Body(usize),
+    Schedule(usize),
 }
 
 // ---- tests of a symbol
 
+// The scope that an order is seen from.
+fn scope(o: Order) -> usize
+    ensures { result ≡ scope_of o }
+{
+    match o {
+        Order::Body(cs) => cs,
+        Order::Schedule(sc) => sc,
+    }
+}
+
 // Body order passes over arguments and outsiders.
+#[tactic(auto, unfolding(crate::specs::Schedule::passed))]
 fn is_passed(work: &[u32], g: Graph, o: Order, d: usize) -> bool
     requires scoped { Scoped work.now g.symbols g.scopes }
     requires d_lt_symbols { d < g.symbols }
-    ensures { Tests work.now g.symbols g.scopes (λ h. passed h o.body o.scope d) result }
+    ensures { Tests work.now g.symbols g.scopes (λ h. passed h o d) result }
 {
-    if o.body {
-        if graph::is_arg(work, g, d) {
-            return true;
-        }
-        return graph::is_outside(graph::relation(work, g, d, o.scope));
+    match o {
+        Order::Body(cs) => graph::is_arg(work, g, d)
+            || graph::is_outside(graph::relation(work, g, d, cs)),
+        Order::Schedule(_) => false,
     }
-    false
 }
 
 // In a schedule an argument has no neighbours.
+#[tactic(auto, unfolding(crate::specs::Schedule::stops))]
 fn is_end(work: &[u32], g: Graph, o: Order, s: usize) -> bool
     requires scoped { Scoped work.now g.symbols g.scopes }
     requires s_lt_symbols { s < g.symbols }
-    ensures { Tests work.now g.symbols g.scopes (λ h. stops h o.body s) result }
+    ensures { Tests work.now g.symbols g.scopes (λ h. stops h o s) result }
 {
-    if o.body {
-        return false;
+    match o {
+        Order::Body(_) => false,
+        Order::Schedule(_) => graph::is_arg(work, g, s),
     }
-    graph::is_arg(work, g, s)
-}
-
-// ---- lists that are lent
-
-fn zeros8() -> [u8; 512]
-    ensures { result ≡ replicate 512 0 }
-{
-    [0u8; 512]
-}
-
-// Symbol s at the end of the n that stand in the list.
-fn append(list: &mut [u16], n: usize, s: usize) -> usize
-    requires { (n < 512) × (s < 512) × (length list.old ≡ 512) }
-    ensures { (result ≡ n + 1) × (list.new ≡ set list.old n s) }
-{
-    list[n] = s as u16;
-    n + 1
 }
 
 // ---- the neighbours of a symbol
 
-// Where the neighbours of s stand: its children, or its free list, if that is stored.
-fn neighbours(forest: &[u8], work: &[u32], g: Graph, o: Order, s: usize) -> Run
+// The neighbours of s: its children, or its free list, if that is stored.
+fn neighbours<'a>(forest: &[u8], work: &'a [u32], g: Graph, o: Order, s: usize) -> Option<&'a [u32]>
     requires stocked { Stocked forest.now work.now g.symbols g.scopes }
     requires s_lt_symbols { s < g.symbols }
-    ensures { Nearby forest.now work.now g.symbols g.scopes o.body o.scope s result }
+    ensures { MatchOption result (LiesDeeper forest.now work.now g.symbols g.scopes o s)
+        (λ near. Near forest.now work.now g.symbols g.scopes o s near.now) }
 {
     if is_end(work, g, o, s) {
-        return Run::Words(regions::SLOTS, 0);
+        return Some(&[]);
     }
-    let rel = graph::relation(work, g, s, o.scope);
-    match rel {
-        Rel::Local => {
-            let y = key::load(work, s);
-            Run::Words(regions::SLOTS + y.kids as usize, y.count as usize)
-        }
+    match graph::relation(work, g, s, scope(o)) {
+        Rel::Local => Some(graph::children(work, key::load(work, s))),
         Rel::Deeper => free_lists::stored(work, s),
-        Rel::Outside => Run::Words(regions::SLOTS, 0),
+        Rel::Outside => Some(&[]),
     }
 }
 
 // ---- a symbol after its neighbours
 
-// With the outsiders that symbol s of a body needs: those among its children, or those in its free list, which stands in
-// `count` words from `from` on.
-fn needs(
+// With the outsiders that symbol s of a body needs: those among its children, or those in its free list, `near`.
+fn needs<T: Entry>(
     forest: &[u8],
     work: &[u32],
     g: Graph,
     cs: usize,
     s: usize,
-    from: usize,
-    count: usize,
-    list: &mut [u16],
-    n: usize,
-) -> usize
+    near: &[T],
+    list: &mut ArrayVec<u16, 512>,
+)
     requires laid { Laid forest.now }
     requires arena { Arena forest.now work.now g.symbols g.scopes }
     requires s_lt_symbols { s < g.symbols }
-    requires nearby { Nearby forest.now work.now g.symbols g.scopes true cs s (Words from count) }
-    requires held { Held g.symbols list.old n }
-    ensures { Listed forest.now work.now g.symbols g.scopes
-        (λ h. outsiders h cs (needs_of h cs s)) list.old n list.new result }
+    requires near { Near forest.now work.now g.symbols g.scopes (Order.Body cs) s (T.numbers near.now) }
+    requires held { Held g.symbols list.old.items }
+    ensures { Listed forest.now work.now g.symbols g.scopes (λ h. outsiders h cs (needs_of h cs s)) list.old.items
+        list.new.items }
 {
-    let rel = graph::relation(work, g, s, cs);
-    match rel {
-        Rel::Local => outsiders::offer_kids(forest, work, g, cs, s, list, n),
-        Rel::Deeper => outsiders::offer_run(work, g, cs, from, count, list, n),
-        Rel::Outside => n,
+    match graph::relation(work, g, s, cs) {
+        Rel::Local => outsiders::offer_kids(forest, work, g, cs, s, list),
+        Rel::Deeper => outsiders::offer_run(work, g, cs, near, list),
+        Rel::Outside => {}
     }
 }
 
-// Symbol s after those visited, its neighbours among them, which stand in `count` words from `from` on.
-fn put(
+// Symbol s after those visited, its neighbours among them.
+fn put<T: Entry>(
     forest: &[u8],
     work: &[u32],
     g: Graph,
     o: Order,
     s: usize,
-    from: usize,
-    count: usize,
-    seen: &mut [u8],
-    list: &mut [u16],
-    n: usize,
-) -> usize
+    near: &[T],
+    seen: &mut [bool; 512],
+    list: &mut ArrayVec<u16, 512>,
+)
     requires laid { Laid forest.now }
     requires arena { Arena forest.now work.now g.symbols g.scopes }
     requires s_lt_symbols { s < g.symbols }
-    requires nearby { Nearby forest.now work.now g.symbols g.scopes o.body o.scope s (Words from count) }
-    requires lent { Lent forest.now work.now g.symbols g.scopes o.body o.scope seen.old list.old n }
-    requires s_value { get_or seen.old s 0 ≡ 0 }
-    ensures { Walked forest.now work.now g.symbols g.scopes o.body o.scope
-        (λ _ vs. vs ++ (s ∷ [])) seen.old list.old n seen.new list.new result }
+    requires near { Near forest.now work.now g.symbols g.scopes o s (T.numbers near.now) }
+    requires lent { Lent forest.now work.now g.symbols g.scopes o seen.old list.old.items }
+    requires s_value { get_or seen.old s false ≡ false }
+    ensures { Walked forest.now work.now g.symbols g.scopes o (λ _ vs. vs ++ (s ∷ [])) seen.old list.old.items
+        seen.new list.new.items }
 {
-    seen[s] = 1;
-    if o.body {
-        return needs(forest, work, g, o.scope, s, from, count, list, n);
+    seen[s] = true;
+    match o {
+        Order::Body(cs) => needs(forest, work, g, cs, s, near, list),
+        Order::Schedule(_) => list.push(s as u16),
     }
-    append(list, n, s)
 }
 
 // ---- free lists, body order and neighbours: each calls the next on the same symbol, or `visit` on lower ones
@@ -167,32 +151,30 @@ fn visit(
     g: Graph,
     o: Order,
     s: usize,
-    seen: &mut [u8],
-    list: &mut [u16],
-    n: usize,
-) -> usize
+    seen: &mut [bool; 512],
+    list: &mut ArrayVec<u16, 512>,
+)
     requires laid { Laid forest.now }
     requires stocked { Stocked forest.now work.now g.symbols g.scopes }
     requires s_lt_symbols { s < g.symbols }
-    requires lent { Lent forest.now work.now g.symbols g.scopes o.body o.scope seen.old list.old n }
-    requires s_value { get_or seen.old s 0 ≡ 0 }
-    ensures { Walked forest.now work.now g.symbols g.scopes o.body o.scope
-        (λ h. step_of h o.body o.scope s) seen.old list.old n seen.new
-        list.new result }
+    requires lent { Lent forest.now work.now g.symbols g.scopes o seen.old list.old.items }
+    requires s_value { get_or seen.old s false ≡ false }
+    ensures { Walked forest.now work.now g.symbols g.scopes o (λ h. step_of h o s) seen.old list.old.items
+        seen.new list.new.items }
 {
     if is_passed(work, g, o, s) {
-        return n;
+        return;
     }
     match neighbours(forest, work, g, o, s) {
-        Run::Words(from, count) => {
-            let m = run(forest, work, g, o, s, from, count, seen, list, n);
-            put(forest, work, g, o, s, from, count, seen, list, m)
+        Some(near) => {
+            run(forest, work, g, o, s, near, seen, list);
+            put(forest, work, g, o, s, near, seen, list);
         }
-        Run::Unstored => across(forest, work, g, o, s, seen, list, n),
+        None => across(forest, work, g, o, s, seen, list),
     }
 }
 
-// The symbols in `count` words from `from` on, all below `top`, each visited.
+// The symbols of a run, all below `top`, each visited.
 #[cycle(scheduling)]
 fn run(
     forest: &[u8],
@@ -200,31 +182,24 @@ fn run(
     g: Graph,
     o: Order,
     top: usize,
-    from: usize,
-    count: usize,
-    seen: &mut [u8],
-    list: &mut [u16],
-    n: usize,
-) -> usize
+    near: &[u32],
+    seen: &mut [bool; 512],
+    list: &mut ArrayVec<u16, 512>,
+)
     requires laid { Laid forest.now }
     requires stocked { Stocked forest.now work.now g.symbols g.scopes }
-    requires top_lt_symbols { (top < g.symbols) × WordsBelow work.now from count top }
-    requires lent { Lent forest.now work.now g.symbols g.scopes o.body o.scope seen.old list.old n }
-    ensures { Walked forest.now work.now g.symbols g.scopes o.body o.scope
-        (λ h. each (step_of h o.body o.scope) (words_from work.now from count)) seen.old
-        list.old n seen.new list.new result }
+    requires top_lt_symbols { (top < g.symbols) × Under top near.now }
+    requires lent { Lent forest.now work.now g.symbols g.scopes o seen.old list.old.items }
+    ensures { Walked forest.now work.now g.symbols g.scopes o (λ h. each (step_of h o) near.now) seen.old
+        list.old.items seen.new list.new.items }
 {
-    let mut at = n;
-    let mut k = 0;
-    while k < count {
-        let d = work[from + k] as usize;
+    for &entry in near {
+        let d = entry as usize;
         // a symbol that was seen needs no call
-        if seen[d] == 0 {
-            at = visit(forest, work, g, o, d, seen, list, at);
+        if !seen[d] {
+            visit(forest, work, g, o, d, seen, list);
         }
-        k += 1;
     }
-    at
 }
 
 // Symbol s, whose free list is its neighbours' and is not stored, after each of these.
@@ -235,95 +210,76 @@ fn across(
     g: Graph,
     o: Order,
     s: usize,
-    seen: &mut [u8],
-    list: &mut [u16],
-    n: usize,
-) -> usize
+    seen: &mut [bool; 512],
+    list: &mut ArrayVec<u16, 512>,
+)
     requires laid { Laid forest.now }
     requires stocked { Stocked forest.now work.now g.symbols g.scopes }
     requires s_lt_symbols { s < g.symbols }
-    requires nearby { Nearby forest.now work.now g.symbols g.scopes o.body o.scope s Unstored }
-    requires lent { Lent forest.now work.now g.symbols g.scopes o.body o.scope seen.old list.old n }
-    requires s_value { get_or seen.old s 0 ≡ 0 }
-    ensures { Walked forest.now work.now g.symbols g.scopes o.body o.scope
-        (λ h. visit_of h o.body o.scope s) seen.old list.old n seen.new
-        list.new result }
+    requires deeper { LiesDeeper forest.now work.now g.symbols g.scopes o s }
+    requires lent { Lent forest.now work.now g.symbols g.scopes o seen.old list.old.items }
+    requires s_value { get_or seen.old s false ≡ false }
+    ensures { Walked forest.now work.now g.symbols g.scopes o (λ h. visit_of h o s) seen.old list.old.items
+        seen.new list.new.items }
 {
-    let mut own = outsiders::zeros16();
-    let count = free(forest, work, g, s, &mut own);
-    let mut at = n;
-    let mut k = 0;
-    while k < count {
-        let d = outsiders::wide(own[k]);
-        if seen[d] == 0 {
-            at = visit(forest, work, g, o, d, seen, list, at);
+    let mut own = ArrayVec::new();
+    free(forest, work, g, s, &mut own);
+    let near = own.as_slice();
+    // `run` takes no such entries: the functions of a cycle have the same type parameters
+    for &entry in near {
+        let d = usize::from(entry);
+        if !seen[d] {
+            visit(forest, work, g, o, d, seen, list);
         }
-        k += 1;
     }
-    seen[s] = 1;
-    if o.body {
-        return outsiders::offer_list(work, g, o.scope, &own, count, list, at);
-    }
-    append(list, at, s)
+    put(forest, work, g, o, s, near, seen, list);
 }
 
-// What symbol c refers to outside its scope (`free_vars`), into the list; how many there are. The body is walked once:
-// each symbol's outsiders are listed when it is visited.
-// Rules out: a symbol twice; the eager children of an IF before its arms; a change past the list's end.
+// What symbol c refers to outside its scope (`free_vars`), into an empty list. The body is walked once: each symbol's
+// outsiders are listed when it is visited.
+// Rules out: a symbol twice; the eager children of an IF before its arms.
 #[cycle(scheduling)]
-fn free(forest: &[u8], work: &[u32], g: Graph, c: usize, list: &mut [u16]) -> usize
+fn free(forest: &[u8], work: &[u32], g: Graph, c: usize, list: &mut ArrayVec<u16, 512>)
     requires laid { Laid forest.now }
     requires stocked { Stocked forest.now work.now g.symbols g.scopes }
     requires c_lt_symbols { c < g.symbols }
-    requires list_len { length list.old ≡ 512 }
-    ensures { Freed forest.now work.now g.symbols g.scopes c list.old
-        list.new result }
+    requires empty { list.old.items ≡ [] }
+    ensures { list.new.items ≡ free_vars (graph_of forest.now work.now g.symbols g.scopes []) c }
 {
-    let mut seen = zeros8();
+    let mut seen = [false; 512];
     let y = key::load(work, c);
-    let o = Order {
-        scope: y.scope as usize,
-        body: true,
-    };
-    let n = run(
+    let cs = y.scope as usize;
+    run(
         forest,
         work,
         g,
-        o,
+        Order::Body(cs),
         c,
-        regions::SLOTS + y.kids as usize,
-        y.count as usize,
+        graph::children(work, y),
         &mut seen,
         list,
-        0,
     );
-    outsiders::offer_kids(forest, work, g, o.scope, c, list, n)
+    outsiders::offer_kids(forest, work, g, cs, c, list);
 }
 
 // ---- a scope's schedule
 
-// The symbols that scope `sc` needs for `root`, each after its neighbours (`schedule_order`), into `order`; how many.
-// Rules out: a symbol before one that it needs; what stands inside a lambda in place of what the lambda needs; a change
-// past the order's end.
+// The symbols that scope `sc` needs for `root`, each after its neighbours (`schedule_order`): what `order` is then.
+// Rules out: a symbol before one that it needs; what stands inside a lambda in place of what the lambda needs.
 pub fn schedule(
     forest: &[u8],
     work: &[u32],
     g: Graph,
     root: usize,
     sc: usize,
-    order: &mut [u16],
-) -> usize
+    order: &mut ArrayVec<u16, 512>,
+)
     requires laid { Laid forest.now }
     requires stocked { Stocked forest.now work.now g.symbols g.scopes }
     requires root_lt_symbols { (root < g.symbols) × (sc < g.scopes) }
-    requires order_len { length order.old ≡ 512 }
-    ensures { Scheduled forest.now work.now g.symbols g.scopes root sc order.old
-        order.new result }
+    ensures { Scheduled forest.now work.now g.symbols g.scopes root sc order.new.items }
 {
-    let mut seen = zeros8();
-    let o = Order {
-        scope: sc,
-        body: false,
-    };
-    visit(forest, work, g, o, root, &mut seen, order, 0)
+    order.clear();
+    let mut seen = [false; 512];
+    visit(forest, work, g, Order::Schedule(sc), root, &mut seen, order)
 }

@@ -1,5 +1,6 @@
 -- Steps from a scope outwards.
--- In order: what a scope's word says; placement; levels that track a fresh argument; ancestors, and where a scope lies. Assumes nothing.
+-- In order: what a scope's word says; placement; levels that track a fresh argument; ancestors, and where a scope
+-- lies. Assumes nothing.
 use Prim.Native.Nat.{ℕ, zero, suc, ◌-◌, ◌<◌, ◌≤◌}
 use mathlib.Core.Path.{◌≡◌, refl, sym, ap, ◌∙◌, subst}
 use mathlib.Core.Bool.{Bool, true, false, not, ◌&&◌}
@@ -12,7 +13,7 @@ use lib.Dec.{eqb, eqb-suc-zero}
 use Rattle.model.specs.Lists.{is_in, any_in}
 use Rattle.model.specs.Intern.{Scope, State, scope_at, climb, placement}
 use Rattle.model.specs.Gate.{Graph}
-use Rattle.model.specs.Schedule.{local, deeper, outside, classify}
+use Rattle.model.specs.Schedule.{local, deeper, classify}
 use Rattle.laws.specs.Members.{In}
 use Rattle.laws.proofs.Apart.{true_false, some_none}
 use Rattle.scopes.specs.Levels.{has}
@@ -22,19 +23,6 @@ use Rattle.scopes.specs.Scopes.{outward, left_by, lambdas, Tracks, Placed}
 use Rattle.scopes.proofs.Laws.{scope_args, scope_around, scope_level, outermost_around}
 
 -- ---- what a scope's word says
-
-module _ (levels w : ℕ) where
-  pub left_thunk : code_of w ≡ 0 → false ≡ left_by levels w
-  unfolding left_by
-  left_thunk e = rw (eq-eqb (code_of w) 0 e)
-
-  pub left_kept : (code_of w ≡ 0 → ⊥) → has levels (level_of w) ≡ true → false ≡ left_by levels w
-  unfolding left_by
-  left_kept n e = rw (ne_eqb (code_of w) 0 n, e)
-
-  pub left_past : (code_of w ≡ 0 → ⊥) → has levels (level_of w) ≡ false → true ≡ left_by levels w
-  unfolding left_by
-  left_past n e = rw (ne_eqb (code_of w) 0 n, e)
 
 stays : (f c : ℕ) (h : Bool) → (not (eqb c 0) && not h) ≡ false → (xs : List ℕ) → args_from f c ≡ Some xs → h ≡ true
 stays f zero h e xs a = some_none (sym a)
@@ -164,8 +152,3 @@ module _ (g : Graph) (sc cur : ℕ) where
       → deeper ≡ classify g sc cur
   unfolding classify
   classify_deeper n e = rw (ne_eqb sc cur n, classify) (rw e)
-
-  pub classify_outside : (sc ≡ cur → ⊥) → is_in cur (scope_at g.scopes sc).around ≡ false
-      → outside ≡ classify g sc cur
-  unfolding classify
-  classify_outside n e = rw (ne_eqb sc cur n, classify) (rw e)

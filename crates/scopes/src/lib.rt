@@ -1,5 +1,5 @@
 // Scopes in work words: opening one, its parts, where a new symbol is placed, where a scope lies seen from another.
-// levels.rt has sets of nesting levels.
+// levels.rt has sets of nesting levels. A climb from scope to scope is a `while`: no range or list holds its steps.
 #![tactic(auto)]
 
 pub mod levels;
@@ -13,7 +13,7 @@ ghost use Rattle.scopes.specs.Scopes.{scopes_of, Nested, left_by, Placed};
 ghost use Rattle.scopes.specs.Relation.{Classified};
 
 // Where a scope lies, seen from another.
-#[derive(Clone, Copy)]
+#[derive(Clone, Copy, Debug, PartialEq, Eq)]
 pub enum Rel {
     Local,
     Deeper,
@@ -22,6 +22,7 @@ pub enum Rel {
 
 // ---- opening scopes
 
+// The parts of a scope in one word, for a thunk and for a lambda.
 fn packed(parent: u32, first: u32, code: u32, level: u32) -> u32
     requires parent_bound { parent < 4096 }
     requires first_bound { first < 512 }
@@ -84,18 +85,13 @@ pub fn level(work: &[u32], k: usize) -> u32
 // ---- placement
 
 // Whether a symbol with these levels moves out of scope k.
+#[tactic(auto, unfolding(crate::specs::Scopes::left_by))]
 fn leaves(work: &[u32], k: usize, levels: u64) -> bool
     requires { SCOPES.first + k < length work.now }
     ensures { result ≡ left_by levels (scope_word work.now k) }
 {
     let w = work[regions::SCOPES + k];
-    if w / 2097152 % 32 == 0 {
-        return false;
-    }
-    if levels::has(levels, w / 67108864) {
-        return false;
-    }
-    true
+    w / 2097152 % 32 != 0 && !levels::has(levels, w / 67108864)
 }
 
 // The scope that a symbol met in `cur` is placed in: out of each lambda whose level is not among `levels`, never out
@@ -132,16 +128,17 @@ fn is_ancestor(work: &[u32], ancestor: usize, sc: usize) -> bool
 }
 
 // Where scope `sc` lies, seen from `cur`. Rules out: where `cur` lies, seen from `sc`; deeper for `cur` itself.
+#[tactic(auto, unfolding(model::specs::Schedule::classify))]
 pub fn classify(work: &[u32], sc: usize, cur: usize) -> Rel
     requires sc_in_bounds { SCOPES.first + sc < length work.now }
     requires nested { Nested work.now (sc + 1) }
     ensures { Classified work.now sc cur result }
 {
     if sc == cur {
-        return Rel::Local;
+        Rel::Local
+    } else if is_ancestor(work, cur, sc) {
+        Rel::Deeper
+    } else {
+        Rel::Outside
     }
-    if is_ancestor(work, cur, sc) {
-        return Rel::Deeper;
-    }
-    Rel::Outside
 }

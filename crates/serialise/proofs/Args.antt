@@ -16,7 +16,7 @@ use Rattle.shape.proofs.Args.{args_step, left_next, left_stands, left_none, stan
 use Rattle.output.specs.Output.{over}
 use Rattle.output.proofs.Over.{over-over, over-nil, over_then}
 
-put32-length : (n : ℕ) → length (put32 n) ≡ 4
+pub put32-length : (n : ℕ) → length (put32 n) ≡ 4
 unfolding put32
 put32-length n = refl
 

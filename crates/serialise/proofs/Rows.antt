@@ -1,11 +1,11 @@
--- Planned rows written one by one. In order: a lambda's row and a field's; lengths; what is left of a
+-- Planned rows written one by one. In order: a lambda's row; lengths; what is left of a
 -- plan from row i on; one turn of the loops that write the records and the directory; the whole tree from its parts.
 -- Assumes nothing.
-use Prim.Native.Nat.{ℕ, zero, suc, ◌+◌, ◌*◌, ◌-◌, ◌%◌, ◌<◌, ◌≤◌}
+use Prim.Native.Nat.{ℕ, zero, suc, ◌+◌, ◌*◌, ◌-◌, ◌<◌, ◌≤◌}
 use mathlib.Core.Path.{◌≡◌, refl, sym, ap, ap₂, ◌∙◌, subst}
 use mathlib.Core.List.{List, [], ◌∷◌, ◌++◌}
 use native.Mathlib.Omega.{arith}
-use lib.ListN.{length}
+use lib.ListN.{length, length-append}
 use Rattle.model.specs.Bytes.{put16}
 use Rattle.model.specs.Opcodes.{FuncValue, FuncValueOp}
 use Rattle.model.specs.Tree.{Row, row_bytes, row_len, directory, bodies, forest_of}
@@ -16,14 +16,14 @@ use Rattle.laws.proofs.ArgLists.{args_length}
 use Rattle.laws.proofs.Lengths.{row_length, directory-length, bodies-length, forest_length}
 use Rattle.record.specs.Record.{row_at}
 use Rattle.plan.specs.declared.Planned.{Planned}
-use Rattle.plan.specs.declared.Planned.TheVariants.{Field, Lambda}
+use Rattle.plan.specs.declared.Planned.TheVariants.{Lambda}
 use Rattle.plan.specs.Plan.{planned_at, plan_from, row_for, rows_for, Renumbered, Writable, AllWritable, planned_rows}
 use Rattle.output.specs.Output.{over, Wrote}
 use Rattle.writer.specs.Writer.{fixed}
 use Rattle.output.proofs.Wrote.{wrote_as, wrote_then}
 use Rattle.output.proofs.Over.{over-over, over-nil, over_then}
 use Rattle.serialise.specs.Serialise.{planned_bytes}
-use Rattle.serialise.proofs.Args.{lit_length}
+use Rattle.serialise.proofs.Args.{put32-length, lit_length}
 
 -- ---- a lambda's row: its arguments numbered anew take as many bytes as they took
 
@@ -34,6 +34,10 @@ module _ (bs : List ℕ) (i last : ℕ) where
       let r = (row_at bs i).rec in
       omega (arith, lit_length r.aux r.lit 0 last (record { is = h.args }) (omega arith))
 
+-- how long an id is, and a lambda's row
+pub ruleset lengths = (put32-length, length-append, lambda_length)
+
+module _ (bs : List ℕ) (i last : ℕ) where
   lambda-bytes :
       row_bytes (row_for bs (Lambda i last)) ≡
       fixed FuncValue FuncValueOp 1 (row_at bs i).rec.aux ++ arg_lit last (args_of (row_at bs i).rec.aux (row_at bs i).rec.lit)
@@ -45,11 +49,6 @@ module _ (bs : List ℕ) (i last : ℕ) where
       → Wrote o₁ next₁ (arg_lit last (args_of aux lit)) o₂ next₂
       → Wrote out at (row_bytes (row_for bs (Lambda i last))) o₂ next₂
   lambda_put e f w₁ w₂ = wrote_as (rw (e, f) (sym lambda-bytes)) (wrote_then w₁ w₂)
-
--- a field below 256 is written as it is
-pub field_row : (bs : List ℕ) (f : ℕ) → f < 256 → row_for bs (Field f) ≡ row_for [] (Field (f % 256))
-unfolding row_for
-field_row bs f h = let e : f % 256 ≡ f = omega arith in rw e
 
 -- ---- lengths
 
@@ -71,16 +70,7 @@ abbrev pub left_rows : List ℕ → List ℕ → ℕ → ℕ → ℕ → List Ro
 left_rows bs ws at n i = rows_for bs (left ws at n i)
 
 module _ (bs ws : List ℕ) (at n : ℕ) where
-  -- at row 0 all is left, from row n on nothing
-  left_all : left ws at n 0 ≡ plan_from ws at n
-  left_all = let e : at + 3 * 0 ≡ at = omega arith in let f : n - 0 ≡ n = omega arith in rw (e, f)
-
-  pub writable_all : AllWritable bs (plan_from ws at n) → AllWritable bs (left ws at n 0)
-  writable_all = subst (AllWritable bs) (sym left_all)
-
-  pub rows_all : left_rows bs ws at n 0 ≡ planned_rows bs ws at n
-  rows_all = ap (rows_for bs) left_all
-
+  -- from row n on nothing is left
   rows_none : (i : ℕ) → n ≤ i → left_rows bs ws at n i ≡ []
   unfolding plan_from rows_for
   rows_none i h = let e : n - i ≡ 0 = omega arith in rw e

@@ -1,5 +1,7 @@
 // A planned tree as bytes. In order: a lambda's arguments; one row, and its length; the tree's length; its directory,
 // its records, and the whole, front to back.
+// Three loops go over the rows by number: an iterator of rows would be a struct, an impl and their proofs, for lines
+// that stay as long.
 #![tactic(auto)]
 
 ghost use Rattle.std.specs.Prelude.{◌≡◌, true, ◌+◌, ◌*◌, ◌<◌, ◌≤◌, length};
@@ -20,22 +22,18 @@ use shape::{FUNC_VALUE, FUNC_VALUE_OP};
 
 // The arguments of the literal `lit`, their ids replaced by the numbers after `last`.
 // Rules out: the first argument numbered `last`; an opt left out.
-fn put_args(out: &mut [u8], at: usize, lit: &[u8], n: usize, last: u32) -> usize
+fn put_args(out: &mut [u8], at: usize, lit: &[u8], n: u8, last: u32) -> usize
     requires lit_value { whole (times n (a_id then a_opt)) lit.now ≡ true }
     requires lit_in_bounds { at + length lit.now ≤ length out.old }
     requires n_bound { last + n < 4294967296 }
     ensures { Wrote out.old at (arg_lit last (args_of n lit.now)) out.new result }
 {
     let mut place = 0;
-    let mut id = last;
-    let mut j = 0;
-    while j < n {
+    for j in 0..n {
         let end = shape::arg_end(lit, place);
-        id += 1;
-        let next = output::put_32(out, at + place, id);
+        let next = output::put_32(out, at + place, last + u32::from(j) + 1);
         output::put_bytes(out, next, &lit[place + 4..end]);
         place = end;
-        j += 1;
     }
     at + place
 }
@@ -51,10 +49,11 @@ fn put_lambda(forest: &[u8], out: &mut [u8], at: usize, i: u32, last: u32) -> us
     let aux = record::aux(forest, i as usize);
     let lit = record::literal(forest, i as usize);
     let next = writer::put_fixed(out, at, FUNC_VALUE, FUNC_VALUE_OP, 1, aux);
-    put_args(out, next, lit, aux as usize, last)
+    put_args(out, next, lit, aux, last)
 }
 
 // The bytes of one planned row.
+#[tactic(auto, using(crate::proofs::Rows::lengths), unfolding(plan::specs::Plan::row_for, model::specs::Tree::row_len))]
 fn put_row(forest: &[u8], out: &mut [u8], at: usize, p: Planned) -> usize
     requires laid { Laid forest.now }
     requires writable { Writable forest.now p }
@@ -63,7 +62,7 @@ fn put_row(forest: &[u8], out: &mut [u8], at: usize, p: Planned) -> usize
 {
     match p {
         Planned::Copy(i) => writer::put_copy(forest, out, at, i),
-        Planned::Field(f) => writer::put_field(out, at, (f % 256) as u8),
+        Planned::Field(f) => writer::put_field(out, at, f as u8),
         Planned::ValUse(id) => writer::put_val_use(out, at, id),
         Planned::ValDef(id) => writer::put_val_def(out, at, id),
         Planned::Block(kids) => writer::put_block(out, at, kids as usize),
@@ -72,18 +71,18 @@ fn put_row(forest: &[u8], out: &mut [u8], at: usize, p: Planned) -> usize
 }
 
 // How many bytes a planned row takes.
+#[tactic(auto, using(crate::proofs::Rows::lengths), unfolding(plan::specs::Plan::row_for, model::specs::Tree::row_len))]
 fn row_len(forest: &[u8], p: Planned) -> usize
     requires laid { Laid forest.now }
     requires writable { Writable forest.now p }
     ensures { (result ≡ row_len (row_for forest.now p)) × (result < 65536) }
 {
     match p {
-        Planned::Copy(i) => record::size(forest, i as usize),
+        Planned::Copy(i) | Planned::Lambda(i, _) => record::size(forest, i as usize),
         Planned::Field(_) => 6,
         Planned::ValUse(_) => 9,
         Planned::ValDef(_) => 10,
         Planned::Block(_) => 5,
-        Planned::Lambda(i, _) => record::size(forest, i as usize),
     }
 }
 
@@ -97,10 +96,8 @@ pub fn tree_length(forest: &[u8], work: &[u32], at: usize, n: usize) -> usize
     ensures { result ≡ length (planned_bytes forest.now work.now at n) }
 {
     let mut sum = 4 + 4 * n;
-    let mut i = 0;
-    while i < n {
+    for i in 0..n {
         sum += row_len(forest, plan::load(work, at + 3 * i));
-        i += 1;
     }
     sum
 }
@@ -117,13 +114,11 @@ fn put_directory(forest: &[u8], work: &[u32], at: usize, n: usize, out: &mut [u8
         (directory (4 + 4 * n) (planned_rows forest.now work.now at n)) }
 {
     let mut offset = 4 + 4 * n;
-    let mut i = 0;
-    while i < n {
+    for i in 0..n {
         let size = row_len(forest, plan::load(work, at + 3 * i));
         let next = output::put_16(out, 4 + 4 * i, offset);
         output::put_16(out, next, size);
         offset += size;
-        i += 1;
     }
     4 + 4 * n
 }
@@ -146,10 +141,8 @@ fn put_bodies(
         (bodies (planned_rows forest.now work.now at n)) }
 {
     let mut place = start;
-    let mut i = 0;
-    while i < n {
+    for i in 0..n {
         place = put_row(forest, out, place, plan::load(work, at + 3 * i));
-        i += 1;
     }
     place
 }

@@ -1,121 +1,103 @@
 -- For callers: a walk over the arguments in a lambda's literal, by `id_at` and `arg_end`.
--- In order: an id's bytes; an answer at every place; an argument that stands at a place; a step of the walk; a loop's
--- turn.
+-- In order: an id's bytes; an argument that stands at a place; a step of the walk; a loop's turn.
 -- Assumes nothing.
 use Prim.Native.Nat.{ℕ, suc, ◌+◌, ◌-◌, ◌*◌, ◌<◌, ◌≤◌}
 use mathlib.Core.Path.{◌≡◌, refl, sym, ap, ◌∙◌}
-use Rattle.std.specs.Prelude.{None, Some}
+use Rattle.std.specs.Prelude.{Option, None, Some, IsSome, option_copied}
+use Rattle.std.specs.Borrow.{Bor}
 use mathlib.Core.List.{List, [], ◌∷◌}
 use native.Mathlib.Omega.{arith}
-use native.Mathlib.Decide.{dec_lt, dec_le}
+use native.Mathlib.Decide.{dec_le}
 use native.Mathlib.Nat.{add-zero}
 use borrow.Author.Tests.{eqb-true}
-use lib.ListN.{length, get_or, drop, length-take, length-drop}
+use lib.ListN.{length, get_or, take, drop, length-take, length-drop}
 use lib.Seq.{get_or-drop, drop-drop}
+use Rattle.std.proofs.lemmas.List.{take_rest}
 use Rattle.model.specs.Bytes.{u32}
-use Rattle.model.specs.Shape.{Reader, a_id, a_type, a_opt, times, whole}
+use Rattle.model.specs.Shape.{a_id, a_opt, times, whole}
 use Rattle.model.specs.Binding.{opt_of, args_of}
-use Rattle.shape.specs.declared.parts.Part.{Part}
-use Rattle.shape.specs.declared.parts.Part.TheVariants.{End, Broken}
-use Rattle.shape.specs.Part.{Reads}
 use Rattle.model.specs.Shape.{a_arg}
 use Rattle.shape.specs.Args.{Left, arg_at, next_arg, ArgEnd}
-use Rattle.shape.proofs.Part.{id_short, id_end, type_none, type_zero, type_short, type_end}
-use Rattle.shape.proofs.Part.{opt_none, opt_absent, opt_type, opt_other}
-use Rattle.shape.proofs.Part.{then_some, then_none, broken_is, whole_stands}
+use Rattle.shape.proofs.Part.{then_is, id_some, id_none, Ends, opt_ends, whole_stands}
 
 -- ---- an id's bytes
 
 module _ (lit : List ℕ) (at : ℕ) where
-  pub u32_at : {b₀ b₁ b₂ b₃ : ℕ} → b₀ ≡ get_or lit at 0 → b₁ ≡ get_or lit (at + 1) 0 → b₂ ≡ get_or lit (at + 2) 0
-      → b₃ ≡ get_or lit (at + 3) 0 → b₀ + 256 * (b₁ + 256 * (b₂ + 256 * b₃)) ≡ u32 (drop at lit)
+  pub u32_at : u32 (drop at lit)
+      ≡ get_or lit at 0 + 256 * (get_or lit (at + 1) 0 + 256 * (get_or lit (at + 2) 0 + 256 * get_or lit (at + 3) 0))
   unfolding u32
-  u32_at e₀ e₁ e₂ e₃ = simp (get_or-drop, add-zero, e₀, e₁, e₂, e₃)
-
--- ---- an answer at every place
-
--- what the code finds at a place
-record Found (f : Reader) (lit : List ℕ) (at : ℕ) : Type 0 where
-  part : Part
-  reads : Reads f lit at part
-
-type_found : (lit : List ℕ) (at : ℕ) → Found a_type lit at
-type_found lit at = elim (dec_lt at (length lit)) [
-  | no g ↦ record { part = Broken; reads = type_none (omega arith) }
-  | yes l ↦
-      let n = get_or lit at 0 in
-      elim (dec_lt 0 n) [
-        | no z ↦ record { part = Broken; reads = type_zero {n = n} l refl (omega arith) }
-        | yes p ↦ elim (dec_lt n (length lit - at)) [
-          | yes w ↦ record { part = End (at + 1 + n); reads = type_end {n = n} l refl (λ e. omega arith) w }
-          | no s ↦ record { part = Broken; reads = type_short {n = n} l refl (λ e. omega arith) (omega arith) }
-        ]
-      ]
-]
-
-opt_found : (lit : List ℕ) (at : ℕ) → Found a_opt lit at
-opt_found lit at = elim (dec_lt at (length lit)) [
-  | no g ↦ record { part = Broken; reads = opt_none (omega arith) }
-  | yes l ↦
-      let n = get_or lit at 0 in
-      elim (dec_lt 0 n) [
-        | no z ↦ record { part = End (at + 1); reads = opt_absent l (omega arith) }
-        | yes p ↦ elim (dec_lt 1 n) [
-          | yes w ↦ record { part = Broken; reads = opt_other l (λ e. omega arith) (λ e. omega arith) }
-          | no s ↦
-              let t = type_found lit (at + 1) in
-              record { part = t.part; reads = opt_type l (omega arith) t.reads }
-        ]
-      ]
-]
+  u32_at = simp (get_or-drop, add-zero)
 
 -- ---- an argument that stands at a place
 
-record End-of (lit : List ℕ) (at : ℕ) : Type 0 where
-  end : ℕ
-  reads : Reads a_opt lit (at + 4) (End end)
+-- an argument is an id and an opt
+arg_is : (bs rest : List ℕ) → a_arg bs ≡ Some rest → (4 ≤ length bs) × (a_opt (drop 4 bs) ≡ Some rest)
+arg_is bs rest e = elim (dec_le 4 (length bs)) [
+  | yes h ↦ (h, rw (then_is a_id a_opt bs, id_some bs h) at e)
+  | no g ↦
+      let none : length bs < 4 = omega arith in
+      let gone : None ≡ Some rest = rw (then_is a_id a_opt bs, id_none bs none) at e in
+      cc
+]
 
-module _ (lit : List ℕ) (at : ℕ) where
-  -- the end of an opt is the end of its argument
-  pub opt_ends : {k : ℕ} → Reads a_opt lit (at + 4) (End k) → ArgEnd lit at k
+module _ (lit : List ℕ) (at : ℕ) (rest : List ℕ) (e : a_arg (drop at lit) ≡ Some rest) where
+  pub arg_id : at + 4 ≤ length lit
+  arg_id = omega (arith, rw length-drop at (arg_is (drop at lit) rest e).0)
+
+  arg_opt : a_opt (drop (at + 4) lit) ≡ Some rest
+  arg_opt = rw drop-drop at (arg_is (drop at lit) rest e).1
+
+  arg_left : Ends (drop (at + 4) lit) rest
+  arg_left = opt_ends (drop (at + 4) lit) rest arg_opt
+
+  pub arg_short : at + 4 + length rest ≤ length lit
+  arg_short = omega (arith, arg_id, rw length-drop at arg_left.short)
+
+  -- what is left tells where it ends
+  pub arg_ends : ArgEnd lit at (length lit - length rest)
   unfolding opt_of
-  opt_ends {k} t =
-      let w = t.within in
-      record {
-        is = rw (← t.is, opt_of, length-take, length-drop (at + 4) lit, length-drop k lit) (omega (arith, w.0, w.1));
-        within = t.within.1;
-      }
+  arg_ends = record {
+    is = rw (arg_opt, opt_of, length-take, length-drop) (omega (arith, arg_short));
+    within = omega arith;
+  }
 
-  module _ (s : a_arg (drop at lit) ≡ None → ⊥) where
-    pub stands_id : at + 4 ≤ length lit
-    stands_id = elim (dec_le (at + 4) (length lit)) [
-      | yes l ↦ l
-      | no g ↦ absurd (s (then_none a_id a_opt (drop at lit) (sym (id_short {lit = lit} {at = at} (omega arith)).is)))
-    ]
+  arg_rest : a_arg (drop at lit) ≡ Some (drop (next_arg lit at) lit)
+  arg_rest =
+      let n : at + 4 + (length lit - (at + 4) - length rest) ≡ next_arg lit at =
+      omega (arith, arg_ends.is, arg_short) in
+      e ∙ ap Some arg_left.is ∙ ap Some (rw (length-drop, drop-drop, n))
 
-    then_opt : a_arg (drop at lit) ≡ a_opt (drop (at + 4) lit)
-    then_opt =
-        let id = id_end {lit = lit} {at = at} (omega (arith, stands_id)) in
-        then_some a_id a_opt (drop at lit) (drop (at + 4) lit) (sym id.is)
+module _ (lit : List ℕ) (at : ℕ) (s : a_arg (drop at lit) ≡ None → ⊥) where
+  stands : (rest : List ℕ) × (a_arg (drop at lit) ≡ Some rest)
+  stands = go (a_arg (drop at lit)) refl
+    where
+      go : (r : Option (List ℕ)) → a_arg (drop at lit) ≡ r → (rest : List ℕ) × (a_arg (drop at lit) ≡ Some rest)
+      go (Some rest) e = (rest, e)
+      go None e = absurd (s e)
 
-    pub stands_opt : {p : Part} → p ≡ Broken → Reads a_opt lit (at + 4) p → ⊥
-    stands_opt e t = s (then_opt ∙ sym (broken_is e t).is)
+  pub stands_id : at + 4 ≤ length lit
+  stands_id = arg_id lit at stands.0 stands.1
 
-    stands_end : End-of lit at
-    stands_end = go (opt_found lit (at + 4)).part (opt_found lit (at + 4)).reads
+  pub stands_within : next_arg lit at ≤ length lit
+  stands_within = let a = arg_ends lit at stands.0 stands.1 in omega (arith, a.is, a.within)
+
+  stands_rest : a_arg (drop at lit) ≡ Some (drop (next_arg lit at) lit)
+  stands_rest = arg_rest lit at stands.0 stands.1
+
+  -- what the code has of the bytes from `at` on
+  module _ (r : Option (Bor (List ℕ))) (a : option_copied r ≡ a_arg (take (length lit - at) (drop at lit))) where
+    copied : option_copied r ≡ a_arg (drop at lit)
+    copied = a ∙ ap a_arg (take_rest lit at)
+
+    pub copied_stands : IsSome r
+    copied_stands = go r copied
       where
-        go : (p : Part) → Reads a_opt lit (at + 4) p → End-of lit at
-        go (End k) t = record { end = k; reads = t }
-        go Broken t = absurd (stands_opt refl t)
+        go : (r : Option (Bor (List ℕ))) → option_copied r ≡ a_arg (drop at lit) → IsSome r
+        go (Some rest) e = refl
+        go None e = absurd (s (sym e))
 
-    pub stands_within : next_arg lit at ≤ length lit
-    stands_within = let e = stands_end in omega (arith, (opt_ends e.reads).is, e.reads.within.1)
-
-    -- what is left after the argument
-    stands_rest : a_arg (drop at lit) ≡ Some (drop (next_arg lit at) lit)
-    stands_rest =
-        let e = stands_end in
-        then_opt ∙ sym e.reads.is ∙ ap (λ (n : ℕ). Some (drop n lit)) (opt_ends e.reads).is
+    pub copied_rest : {rest : Bor (List ℕ)} → r ≡ Some rest → a_arg (drop at lit) ≡ Some rest.now
+    copied_rest e = sym copied ∙ ap option_copied e
 
 -- ---- a step of the walk: with n + 1 arguments left at `at`, and with none
 
@@ -137,7 +119,7 @@ module _ {n : ℕ} {lit : List ℕ} {at : ℕ} (l : Left (suc n) lit at) where
   pub left_stands : a_arg (drop at lit) ≡ None → ⊥
   unfolding times
   left_stands e =
-      whole_stands (times (suc n) a_arg) (drop at lit) l.is (then_none a_arg (times n a_arg) (drop at lit) e)
+      whole_stands (times (suc n) a_arg) (drop at lit) l.is (rw (then_is a_arg (times n a_arg) (drop at lit), e))
 
   -- what `id_at` requires
   pub left_id : at + 4 ≤ length lit
@@ -148,7 +130,7 @@ module _ {n : ℕ} {lit : List ℕ} {at : ℕ} (l : Left (suc n) lit at) where
   unfolding whole times
   left_next =
       let s = stands_rest lit at left_stands in
-      record { is = rw (then_some a_arg (times n a_arg) (drop at lit) (drop (next_arg lit at) lit) s, whole) at l.is }
+      record { is = rw (then_is a_arg (times n a_arg) (drop at lit), s, whole) at l.is }
 
 pub left_none : {lit : List ℕ} {at : ℕ} → Left 0 lit at → length lit ≤ at
 unfolding whole times

@@ -1,20 +1,18 @@
 -- For callers: what a record that fits its shape has, part by part, and at the shapes that bind and use ids.
--- In order: the tests of `fits`; a literal that is an id; ValUse, ValDef, BlockValue, FuncValue, SelectField.
+-- In order: the tests of `fits`; ValUse, ValDef, BlockValue, FuncValue, SelectField.
 -- Assumes nothing.
-use Prim.Native.Nat.{ℕ, ◌≤◌}
+use Prim.Native.Nat.{◌≤◌}
 use mathlib.Core.Path.{◌≡◌, refl, sym, ◌∙◌}
 use mathlib.Core.Bool.{Bool, true, false, ◌&&◌}
-use mathlib.Core.List.{List}
 use native.Mathlib.Omega.{arith}
-use native.Mathlib.Decide.{dec_le}
 use borrow.Author.Tests.{leb-true, eqb-true}
 use lib.Dec.{leb}
 use lib.ListN.{length}
 use Rattle.model.specs.Tree.{Row}
-use Rattle.model.specs.Shape.{shapes, fits, whole, a_id}
+use Rattle.model.specs.Shape.{shapes, fits}
 use Rattle.model.specs.Shape.{a_arg}
 use Rattle.shape.specs.Args.{Left}
-use Rattle.shape.proofs.Part.{id_short, id_end, never, whole_stands, whole_ends, whole_byte}
+use Rattle.shape.proofs.Part.{never, whole_stands, whole_id, whole_byte}
 use Rattle.shape.proofs.Table.{shape_at}
 use Rattle.shape.proofs.Args.{stands_id}
 
@@ -52,14 +50,6 @@ fitting r h =
       literal = and_right (a && b && c) d h;
     }
 
--- ---- a literal that is an id
-
-whole_id : (lit : List ℕ) → whole a_id lit ≡ true → length lit ≡ 4
-whole_id lit w = elim (dec_le 4 (length lit)) [
-  | no g ↦ absurd (whole_stands a_id lit w (sym (id_short {lit = lit} {at = 0} (omega arith)).is))
-  | yes h ↦ sym (eqb-true 4 (length lit) (whole_ends _ (id_end {lit = lit} {at = 0} (omega arith)) ∙ w))
-]
-
 -- ---- shapes
 
 module _ (r : Row) (h : fits r ≡ true) where
@@ -94,5 +84,5 @@ module _ (r : Row) (h : fits r ≡ true) where
   fits_field e =
       let f = fitting r h in (
         omega (arith, rw e at f.few, rw e at f.many),
-        eqb-true (length r.rec.lit) 1 (whole_byte r.rec.lit ∙ rw e at f.literal),
+        eqb-true (length r.rec.lit) 1 (sym (whole_byte r.rec.lit) ∙ rw e at f.literal),
       )

@@ -1,8 +1,6 @@
 -- Laws that no one function owns, in reading order. `Fitting`, `Args` and `Thunks` are for callers. Assumes nothing.
 pub mod Part
-pub mod Missed
 pub mod Table
-pub mod Opcodes
 pub mod Args
 pub mod Fitting
 pub mod Thunks

@@ -1,243 +1,117 @@
--- Laws of the model's readers at a place of a literal, one for each answer of the code.
--- In order: the bytes from a place; a byte; an id; a type; an opt; one part after another; many; the whole; bits.
+-- Laws of the model's readers: one part after another; many; bits; an id; what is left after an opt; the whole literal.
 -- Assumes nothing.
-use Prim.Native.Nat.{ℕ, suc, ◌+◌, ◌-◌, ◌<◌, ◌≤◌}
-use mathlib.Core.Path.{◌≡◌, refl, sym, ◌∙◌}
-use mathlib.Core.Bool.{Bool, true, false}
-use Rattle.std.specs.Prelude.{None, Some}
+use Prim.Native.Nat.{ℕ, zero, suc, ◌+◌, ◌-◌, ◌<◌, ◌≤◌}
+use mathlib.Core.Path.{◌≡◌, refl, sym, ap}
+use mathlib.Core.Bool.{Bool, true, false, ◌&&◌}
+use Rattle.std.specs.Prelude.{Option, None, Some, option_and_then}
+use Rattle.std.specs.List.{list_all}
 use mathlib.Core.List.{List, [], ◌∷◌}
 use native.Mathlib.Omega.{arith}
-use native.Mathlib.Decide.{dec_lt}
-use native.Mathlib.Numerals.{add-one}
-use borrow.Author.Tests.{lt-ltb, le-ltb, le-leb, lt-leb, eq-eqb, ne_eqb}
-use lib.Dec.{eqb, eqb-suc-suc}
-use lib.ListN.{length, get_or, drop, length-drop, drop_of_length-le}
-use lib.Seq.{drop-cons, drop-drop}
-use Rattle.model.specs.Shape.{Reader, a_byte, a_id, a_type, a_opt, ◌then◌, times, a_counted, whole, bits}
-use Rattle.shape.specs.declared.parts.Part.{Part}
-use Rattle.shape.specs.declared.parts.Part.TheVariants.{End, Broken}
-use Rattle.shape.specs.Part.{Within, Reads, ends_at}
-
--- ---- the bytes from a place
-
-drop_byte : (lit : List ℕ) (at : ℕ) → at < length lit → drop at lit ≡ get_or lit at 0 ∷ drop (at + 1) lit
-drop_byte lit at h = rw (add-one at, drop-cons lit at 0)
-
--- an end from a later place is one from here
-within_from : (at k n : ℕ) (r : Part) → at ≤ k → Within k n r → Within at n r
-within_from at k n (End j) h w = omega arith
-within_from at k n Broken h w = tt
-
--- ---- a byte
-
-module _ {lit : List ℕ} {at : ℕ} where
-  pub byte_none : length lit ≤ at → Reads a_byte lit at Broken
-  unfolding a_byte
-  byte_none h = record { is = rw (drop_of_length-le lit h); within = tt }
-
-  pub byte_end : at < length lit → Reads a_byte lit at (End (at + 1))
-  unfolding a_byte
-  byte_end h = record { is = rw (drop_byte lit at h); within = omega arith }
-
-  -- ---- an id
-
-  pub id_short : length lit - at < 4 → Reads a_id lit at Broken
-  unfolding a_id
-  id_short h = record { is = rw (length-drop at lit, lt-leb 4 (length lit - at) h, a_id); within = tt }
-
-  pub id_end : 4 ≤ length lit - at → Reads a_id lit at (End (at + 4))
-  unfolding a_id
-  id_end h =
-      record {
-        is = rw (length-drop at lit, le-leb 4 (length lit - at) h, a_id, drop-drop);
-        within = omega arith;
-      }
-
-  -- ---- a type
-
-  pub type_none : length lit ≤ at → Reads a_type lit at Broken
-  unfolding a_type
-  type_none h = record { is = rw (drop_of_length-le lit h); within = tt }
-
-  module _ {n : ℕ} (h : at < length lit) (e : n ≡ get_or lit at 0) where
-    pub type_zero : n ≡ 0 → Reads a_type lit at Broken
-    unfolding a_type
-    type_zero z = record { is = rw (drop_byte lit at h, ← e, z); within = tt }
-
-    module _ (z : n ≡ 0 → ⊥) where
-      pub type_short : length lit - at ≤ n → Reads a_type lit at Broken
-      unfolding a_type
-      type_short l =
-          let some_bytes = lt-ltb 0 n (omega arith) in
-          let too_few = lt-leb n (length lit - (at + 1)) (omega arith) in
-          record { is = rw (drop_byte lit at h, ← e, a_type, some_bytes, length-drop, too_few); within = tt }
-
-      pub type_end : n < length lit - at → Reads a_type lit at (End (at + 1 + n))
-      unfolding a_type
-      type_end l =
-          let some_bytes = lt-ltb 0 n (omega arith) in
-          let enough = le-leb n (length lit - (at + 1)) (omega arith) in
-          record {
-            is = rw (drop_byte lit at h, ← e, a_type, some_bytes, length-drop, enough, drop-drop, ← e);
-            within = omega arith;
-          }
-
-  -- ---- an opt
-
-  pub opt_none : length lit ≤ at → Reads a_opt lit at Broken
-  unfolding a_opt
-  opt_none h = record { is = rw (drop_of_length-le lit h); within = tt }
-
-  module _ (h : at < length lit) where
-    pub opt_absent : get_or lit at 0 ≡ 0 → Reads a_opt lit at (End (at + 1))
-    unfolding a_opt
-    opt_absent z = record { is = rw (drop_byte lit at h, z); within = omega arith }
-
-    pub opt_type : {r : Part} → get_or lit at 0 ≡ 1 → Reads a_type lit (at + 1) r → Reads a_opt lit at r
-    unfolding a_opt
-    opt_type {r} o t =
-        record {
-          is = rw (drop_byte lit at h, o) t.is;
-          within = within_from at (at + 1) (length lit) r (omega arith) t.within;
-        }
-
-    pub opt_other : (get_or lit at 0 ≡ 0 → ⊥) → (get_or lit at 0 ≡ 1 → ⊥) → Reads a_opt lit at Broken
-    unfolding a_opt
-    opt_other z o =
-        let e : get_or lit at 0 ≡ suc (suc (get_or lit at 0 - 2)) = omega arith in
-        record { is = rw (drop_byte lit at h, e); within = tt }
+use native.Mathlib.Decide.{dec_le}
+use borrow.Author.Tests.{lt-leb, le-leb, leb-true, eqb-true}
+use lib.Dec.{eqb, leb, ltb, eqb-suc-suc}
+use lib.ListN.{length, drop, length-drop}
+use Rattle.model.specs.Shape.{Reader, a_byte, a_id, a_type, a_opt, ◌then◌, times, whole, bits}
 
 -- ---- one part after another
 
-pub then_some : (f g : Reader) (bs bs' : List ℕ) → f bs ≡ Some bs' → (f then g) bs ≡ g bs'
+pub then_is : (f g : Reader) (bs : List ℕ) → (f then g) bs ≡ option_and_then g (f bs)
 unfolding ◌then◌
-then_some f g bs bs' e = rw (e, ◌then◌)
+then_is f g bs = go (f bs)
+  where
+    go : (r : Option (List ℕ)) → elim r [ None ↦ None | Some rest ↦ g rest ] ≡ option_and_then g r
+    go None = refl
+    go (Some rest) = refl
 
-pub then_none : (f g : Reader) (bs : List ℕ) → f bs ≡ None → (f then g) bs ≡ None
-unfolding ◌then◌
-then_none f g bs e = rw (e, ◌then◌)
+-- ---- many: those left after k of n
 
-module _ {f : Reader} {lit : List ℕ} {at : ℕ} {p : Part} where
-  -- what an answer says, once it is known which it is
-  pub end_is : {k : ℕ} → p ≡ End k → Reads f lit at p → Reads f lit at (End k)
-  end_is e t = rw e at t
+module _ (f : Reader) (n k : ℕ) (bs : List ℕ) where
+  times_turn : k < n → times (n - k) f bs ≡ option_and_then (times (n - (k + 1)) f) (f bs)
+  unfolding times
+  times_turn l = let e : n - k ≡ suc (n - (k + 1)) = omega arith in rw e (then_is f (times (n - (k + 1)) f) bs)
 
-  pub broken_is : p ≡ Broken → Reads f lit at p → Reads f lit at Broken
-  broken_is e t = rw e at t
+  pub times_some : (bs' : List ℕ) → k < n → f bs ≡ Some bs' → times (n - k) f bs ≡ times (n - (k + 1)) f bs'
+  times_some bs' l e = rw (times_turn l, e)
 
-  pub then_end : {g : Reader} {k : ℕ} {r : Part} → p ≡ End k → Reads f lit at p → Reads g lit k r
-      → Reads (f then g) lit at r
-  then_end {g} {k} {r} e t u =
-      let t' = end_is e t in
-      record {
-        is = u.is ∙ sym (then_some f g (drop at lit) (drop k lit) (sym t'.is));
-        within = within_from at k (length lit) r t'.within.0 u.within;
-      }
+  pub times_none : k < n → f bs ≡ None → times (n - k) f bs ≡ None
+  times_none l e = rw (times_turn l, e)
 
-  pub then_broken : (g : Reader) → p ≡ Broken → Reads f lit at p → Reads (f then g) lit at Broken
-  then_broken g e t = record { is = sym (then_none f g (drop at lit) (sym (broken_is e t).is)); within = tt }
+  pub times_end : n ≤ k → times (n - k) f bs ≡ Some bs
+  unfolding times
+  times_end l = let e : n - k ≡ 0 = omega arith in rw e
 
--- ---- many
+-- a turn of the loop that reads them
+pub ruleset turns = (times_some, times_none, times_end)
 
--- where a loop that reads n parts stands: k are read, up to `end`
-pub record Reading (f : Reader) (lit : List ℕ) (at n k end : ℕ) : Type 0 where
-  pub count : k ≤ n
-  pub low : at ≤ end
-  pub high : end ≤ length lit
-  pub is : times (n - k) f (drop end lit) ≡ times n f (drop at lit)
+-- ---- bits
 
-module _ {f : Reader} {lit : List ℕ} {at n : ℕ} where
-  pub reading_none : at ≤ length lit → Reading f lit at n 0 at
-  reading_none h =
-      let e : n - 0 ≡ n = omega arith in
-      record { count = omega arith; low = omega arith; high = h; is = rw e }
+pub bits_is : (bs : List ℕ) → bits bs ≡ list_all (λ b. ltb b 2) bs
+unfolding bits
+bits_is [] = refl
+bits_is (b ∷ bs) = ap (λ z. ltb b 2 && z) (bits_is bs)
 
-  module _ {k end : ℕ} (i : Reading f lit at n k end) where
-    step : k < n → times (n - k) f (drop end lit) ≡ (f then times (n - (k + 1)) f) (drop end lit)
-    unfolding times
-    step l = let e : n - k ≡ suc (n - (k + 1)) = omega arith in rw e
+-- ---- an id
 
-    pub reading_more : {p : Part} {e : ℕ} → k < n → p ≡ End e → Reads f lit end p → Reading f lit at n (k + 1) e
-    reading_more {p} {e} l q t =
-        let t' = end_is q t in
-        record {
-          count = omega arith;
-          low = omega (arith, i.low, t'.within.0);
-          high = t'.within.1;
-          is = sym (step l ∙ then_some f _ (drop end lit) (drop e lit) (sym t'.is)) ∙ i.is;
-        }
+pub id_some : (bs : List ℕ) → 4 ≤ length bs → a_id bs ≡ Some (drop 4 bs)
+unfolding a_id
+id_some bs h = rw (a_id, le-leb 4 (length bs) h)
 
-    pub reading_broken : {p : Part} → k < n → p ≡ Broken → Reads f lit end p → Reads (times n f) lit at Broken
-    reading_broken l q t =
-        let e = sym (broken_is q t).is in
-        record { is = sym (step l ∙ then_none f _ (drop end lit) e) ∙ i.is; within = tt }
+pub id_none : (bs : List ℕ) → length bs < 4 → a_id bs ≡ None
+unfolding a_id
+id_none bs h = rw (a_id, lt-leb 4 (length bs) h)
 
-    pub reading_end : n ≤ k → Reads (times n f) lit at (End end)
-    unfolding times
-    reading_end l =
-        let e : n - k ≡ 0 = omega (arith, i.count) in
-        record { is = rw e at i.is; within = (i.low, i.high) }
+-- ---- what is left after an opt
 
--- a count byte and so many parts
-module _ (f : Reader) {lit : List ℕ} {at : ℕ} where
-  pub counted_none : length lit ≤ at → Reads (a_counted f) lit at Broken
-  unfolding a_counted
-  counted_none h = record { is = rw (drop_of_length-le lit h); within = tt }
+pub record Ends (bs rest : List ℕ) : Type 0 where
+  pub short : length rest ≤ length bs
+  pub is : rest ≡ drop (length bs - length rest) bs
 
-  pub counted : {n : ℕ} {r : Part} → at < length lit → n ≡ get_or lit at 0 → Reads (times n f) lit (at + 1) r
-      → Reads (a_counted f) lit at r
-  unfolding a_counted
-  counted {n} {r} h e t =
-      record {
-        is = rw (drop_byte lit at h, ← e) t.is;
-        within = within_from at (at + 1) (length lit) r (omega arith) t.within;
-      }
+ends_more : {b : ℕ} {bs rest : List ℕ} → Ends bs rest → Ends (b ∷ bs) rest
+ends_more {b} {bs} {rest} e =
+    let n : suc (length bs) - length rest ≡ suc (length bs - length rest) = omega (arith, e.short) in
+    record { short = omega (arith, e.short); is = rw n e.is }
+
+ends_drop : (n : ℕ) (bs : List ℕ) → n ≤ length bs → Ends bs (drop n bs)
+ends_drop n bs h =
+    let e : length bs - (length bs - n) ≡ n = omega arith in
+    record { short = rw length-drop (omega arith); is = rw (length-drop, e) }
+
+type_ends : (bs rest : List ℕ) → a_type bs ≡ Some rest → Ends bs rest
+unfolding a_type
+type_ends [] rest e = cc
+type_ends (n ∷ bs) rest e = go (ltb 0 n) (leb n (length bs)) refl e
+  where
+    go : (a b : Bool) → leb n (length bs) ≡ b → elim (a && b) [ true ↦ Some (drop n bs) | false ↦ None ] ≡ Some rest
+        → Ends (n ∷ bs) rest
+    go true true f g = let e : drop n bs ≡ rest = cc in rw (← e) (ends_more (ends_drop n bs (leb-true n (length bs) f)))
+    go true false f g = cc
+    go false b f g = cc
+
+pub opt_ends : (bs rest : List ℕ) → a_opt bs ≡ Some rest → Ends bs rest
+unfolding a_opt
+opt_ends [] rest e = cc
+opt_ends (zero ∷ bs) rest e = let e : bs ≡ rest = cc in rw (← e) (ends_more (ends_drop 0 bs (omega arith)))
+opt_ends (suc zero ∷ bs) rest e = ends_more (type_ends bs rest e)
+opt_ends (suc (suc n) ∷ bs) rest e = cc
 
 -- ---- the whole literal
 
 pub never : false ≡ true → ⊥
-never e = omega (arith, go e)
-  where
-    go : false ≡ true → ◌≡◌ {A = ℕ} 0 1
-    go q = cc
+never e = cc
 
 -- a part that is not there is not the whole
-pub whole_stands : (f : Reader) (lit : List ℕ) → whole f lit ≡ true → f lit ≡ None → ⊥
+pub whole_stands : (f : Reader) (bs : List ℕ) → whole f bs ≡ true → f bs ≡ None → ⊥
 unfolding whole
-whole_stands f lit w e = never (rw (e, whole) at w)
+whole_stands f bs w e = never (rw (e, whole) at w)
 
-left_over : (k n : ℕ) → k ≤ n → eqb k n ≡ eqb (n - k) 0
-left_over k n h = elim (dec_lt k n) [
-  | yes l ↦ ne_eqb k n (λ e. omega arith) ∙ sym (ne_eqb (n - k) 0 (λ e. omega arith))
-  | no g ↦ eq-eqb k n (omega arith) ∙ sym (eq-eqb (n - k) 0 (omega arith))
+pub whole_id : (bs : List ℕ) → whole a_id bs ≡ true → length bs ≡ 4
+unfolding whole
+whole_id bs w = elim (dec_le 4 (length bs)) [
+  | no g ↦ absurd (whole_stands a_id bs w (id_none bs (omega arith)))
+  | yes h ↦ omega (arith, h, rw length-drop at (eqb-true _ 0 (rw (id_some bs h, whole) at w)))
 ]
 
-pub whole_ends : {f : Reader} {lit : List ℕ} (p : Part) → Reads f lit 0 p → ends_at (length lit) p ≡ whole f lit
-unfolding whole
-whole_ends {f} {lit} (End k) t = rw (← t.is, whole, length-drop) (left_over k (length lit) t.within.1)
-whole_ends {f} {lit} Broken t = rw (← t.is, whole)
-
--- the code's answer for a part that is the whole
-pub ends_whole : {f : Reader} {lit : List ℕ} {p : Part} {b : Bool} → b ≡ ends_at (length lit) p → Reads f lit 0 p
-    → b ≡ whole f lit
-ends_whole {p = p} e t = e ∙ whole_ends p t
-
-pub whole_byte : (lit : List ℕ) → eqb (length lit) 1 ≡ whole a_byte lit
+pub whole_byte : (bs : List ℕ) → whole a_byte bs ≡ eqb (length bs) 1
 unfolding whole a_byte
 whole_byte [] = refl
-whole_byte (b ∷ bs) = eqb-suc-suc (length bs) 0
-
--- ---- bits
-
-module _ (lit : List ℕ) (i : ℕ) (s : bits (drop i lit) ≡ bits lit) where
-  pub bits-more : i < length lit → get_or lit i 0 < 2 → bits (drop (i + 1) lit) ≡ bits lit
-  unfolding bits
-  bits-more h l = rw (drop_byte lit i h, lt-ltb (get_or lit i 0) 2 l) at s
-
-  pub bits-not : i < length lit → 2 ≤ get_or lit i 0 → false ≡ bits lit
-  unfolding bits
-  bits-not h l = rw (drop_byte lit i h, le-ltb (get_or lit i 0) 2 l) at s
-
-  pub bits_all : length lit ≤ i → true ≡ bits lit
-  unfolding bits
-  bits_all h = rw (drop_of_length-le lit h) at s
+whole_byte (b ∷ bs) = sym (eqb-suc-suc (length bs) 0)

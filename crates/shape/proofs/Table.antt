@@ -1,16 +1,14 @@
 -- The code's answers of check 4 against the model's table of shapes.
--- In order: a row of the table; `fits` by the arms of a shape; a number that is no shape's.
+-- In order: a row of the table; `fits` by the row of a shape; a number that is no shape's.
 -- Assumes nothing.
 use Prim.Native.Nat.{ℕ, ◌<◌}
 use mathlib.Core.Path.{◌≡◌}
 use mathlib.Core.Bool.{Bool, true, false, ◌&&◌, and-true, and-false}
 use mathlib.Core.List.{List}
-use native.Mathlib.Omega.{arith}
 use lib.Dec.{leb}
 use lib.ListN.{get_or, get_or-eq_default}
 use Rattle.model.specs.Tree.{rec}
 use Rattle.model.specs.Shape.{Shape, shapes, no_shape, fits}
-use Rattle.shape.proofs.Missed.{Missed, missed, row, above}
 
 -- ---- a row of the table
 
@@ -25,7 +23,7 @@ inside t kids a = leb t.least kids && leb kids t.most && leb a t.aux
 abbrev pub Answers : Bool → ℕ → ℕ → ℕ → List ℕ → Type 0
 Answers b s kids a lit = (op : ℕ) → b ≡ fits (record { rec = rec s op a lit; kids = kids })
 
--- ---- `fits` by the arms of a shape
+-- ---- `fits` by the row of a shape
 
 -- the shape is k; w says whether children and aux are within its limits
 module _ (k : ℕ) {s : ℕ} (kids a : ℕ) (lit : List ℕ) {w : Bool} (e : s ≡ k) (i : w ≡ inside (shape_at k) kids a) where
@@ -47,12 +45,9 @@ module _ (k : ℕ) {s : ℕ} (kids a : ℕ) (lit : List ℕ) {w : Bool} (e : s �
 
 -- ---- a number that is no shape's
 
-no_shape_lem : (s : ℕ) → 26 < s → shape_at s ≡ no_shape
-unfolding shapes
-no_shape_lem s h = get_or-eq_default shapes no_shape h
+pub fits_none : (s kids a : ℕ) (lit : List ℕ) → 26 < s → Answers false s kids a lit
+unfolding fits shapes
+fits_none s kids a lit h op = rw (get_or-eq_default shapes no_shape h, and-false)
 
--- a number that is none of the table's
-pub fits_none : (s kids a : ℕ) (lit : List ℕ) → Missed s Unit (row 0 27) → Answers false s kids a lit
-unfolding fits
-fits_none s kids a lit m op =
-    rw (no_shape_lem s (above s 0 27 (omega arith) (missed s (row 0 27) m)), and-false)
+-- what each answer of the code comes under
+pub ruleset rows = (fits_in, fits_out, fits_any, fits_none)

@@ -1,3 +1,2 @@
--- What the contracts cite, in reading order. Assumes nothing.
-pub mod Part
+-- What the contracts cite. Assumes nothing.
 pub mod Args

@@ -5,27 +5,40 @@
 
 mod parts;
 
-ghost use Rattle.std.specs.Prelude.{◌≡◌, false, ◌&&◌, ℕ, ◌+◌, ◌<◌, ◌≤◌, List, map, leb, length, drop};
-ghost use Rattle.model.specs.Lists.{is_in};
+ghost use Rattle.std.specs.Prelude.{◌≡◌, ◌&&◌, ℕ, ◌+◌, ◌≤◌, List, leb, length, drop};
 ghost use Rattle.model.specs.Bytes.{u32};
 ghost use Rattle.model.specs.Tree.{rec};
-ghost use Rattle.model.specs.Shape.{a_arg, both_ways};
 ghost use Rattle.model.specs.Shape as model;
 ghost use Rattle.model.specs.Intern.{thunked};
 ghost use Rattle.shape.specs.Args.{ArgEnd};
 
 use parts::{
-    Part, all_bits, arg_part, args_part, byte_type_part, ends_at, id_part, method_part, opt_part,
+    all_bits, arg_part, args_part, byte_part, byte_type_part, id_part, is_whole, method_part,
     type_part,
 };
 
-// ---- the shapes and opcodes that code compares with (model's Opcodes has them too)
+// ---- shapes, by their numbers (a record's shape is its first byte: an enum would name these numbers once more, in
+// the arms of a `TryFrom<u8>`, and other crates would convert what they now compare)
 
 pub const CONST: u8 = 0;
 
 pub const UNPARSED: u8 = 1;
 
+const ZERO: u8 = 2;
+
+const ONE: u8 = 3;
+
+const TWO: u8 = 4;
+
+const THREE: u8 = 5;
+
+const FOUR: u8 = 6;
+
 pub const VAL_USE: u8 = 7;
+
+const CONST_PLACEHOLDER: u8 = 8;
+
+const TAGGED_VAR: u8 = 9;
 
 pub const VAL_DEF: u8 = 10;
 
@@ -33,9 +46,37 @@ pub const BLOCK_VALUE: u8 = 11;
 
 pub const FUNC_VALUE: u8 = 12;
 
+const METHOD_CALL: u8 = 13;
+
+const CONCRETE_COLLECTION: u8 = 14;
+
+const BOOL_COLLECTION: u8 = 15;
+
 pub const TUPLE: u8 = 16;
 
 pub const SELECT_FIELD: u8 = 17;
+
+const EXTRACT_REGISTER_AS: u8 = 18;
+
+const GET_VAR: u8 = 19;
+
+const DESERIALIZE_CONTEXT: u8 = 20;
+
+const DESERIALIZE_REGISTER: u8 = 21;
+
+const SIGMA_COLLECTION: u8 = 22;
+
+const NONE_VALUE: u8 = 23;
+
+const BY_INDEX: u8 = 24;
+
+const NUMERIC_CAST: u8 = 25;
+
+const FUNC_APPLY: u8 = 26;
+
+// ---- opcodes that code compares with, by their numbers (a record's opcode is any byte)
+
+const NO_OP: u8 = 0;
 
 pub const VAL_USE_OP: u8 = 0x72;
 
@@ -46,6 +87,8 @@ pub const BLOCK_VALUE_OP: u8 = 0xD8;
 pub const FUNC_VALUE_OP: u8 = 0xD9;
 
 pub const SELECT_FIELD_OP: u8 = 0x8C;
+
+const TUPLE_OP: u8 = 0x86;
 
 pub const IF_OP: u8 = 0x95;
 
@@ -69,148 +112,110 @@ pub const GLOBAL_OP: u8 = 0xDD;
 fn within(kids: usize, fewest: usize, most: usize, aux: u8, high: u8) -> bool
     ensures { result ≡ leb fewest kids && leb kids most && leb aux high }
 {
-    if kids < fewest {
-        return false;
-    }
-    if most < kids {
-        return false;
-    }
-    aux <= high
+    (fewest..=most).contains(&kids) && aux <= high
 }
 
 // Check 4: whether a record's children, aux and literal are those of its shape.
 // Rules out: true of a literal with bytes left over; true of three children for Two.
+#[tactic(auto, using(crate::proofs::Table::rows), unfolding(model::specs::Shape::shapes, model::specs::Shape::whole))]
 pub fn fits(shape: u8, kids: usize, aux: u8, lit: &[u8]) -> bool
     ensures { (op : ℕ) → result ≡ model.fits (record { rec = rec shape op aux lit.now; kids = kids }) }
 {
-    let n = lit.len();
     match shape {
-        0 => within(kids, 0, 0, aux, 251) && 1 <= n, // Const
-        1 => within(kids, 0, 0, aux, 0), // Unparsed
-        2 => within(kids, 0, 0, aux, 0) && n == 0, // Zero
-        3 => within(kids, 1, 1, aux, 0) && n == 0, // One
-        4 => within(kids, 2, 2, aux, 0) && n == 0, // Two
-        5 => within(kids, 3, 3, aux, 0) && n == 0, // Three
-        6 => within(kids, 4, 4, aux, 0) && n == 0, // Four
-        7 => within(kids, 0, 0, aux, 0) && ends_at(n, id_part(lit, 0)), // ValUse
-        8 => within(kids, 0, 0, aux, 0) && ends_at(n, id_part(lit, 0)), // ConstPlaceholder
-        9 => within(kids, 0, 0, aux, 0) && ends_at(n, arg_part(lit, 0)), // TaggedVar
-        10 => within(kids, 1, 1, aux, 0) && ends_at(n, arg_part(lit, 0)), // ValDef
-        11 => within(kids, 1, 65535, aux, 0) && n == 0, // BlockValue
-        12 => within(kids, 1, 1, aux, 15) && ends_at(n, args_part(lit, 0, aux as usize)), // FuncValue
-        13 => within(kids, 1, 65535, aux, 0) && ends_at(n, method_part(lit, 0)), // MethodCall
-        14 => within(kids, 0, 65535, aux, 0) && ends_at(n, type_part(lit, 0)), // ConcreteCollection
-        15 => within(kids, 0, 0, aux, 0) && all_bits(lit), // BoolCollection
-        16 => within(kids, 0, 65535, aux, 0) && n == 0, // Tuple
-        17 => within(kids, 1, 1, aux, 0) && n == 1, // SelectField
-        18 => within(kids, 1, 1, aux, 0) && ends_at(n, byte_type_part(lit, 0)), // ExtractRegisterAs
-        19 => within(kids, 0, 0, aux, 0) && ends_at(n, byte_type_part(lit, 0)), // GetVar
-        20 => within(kids, 0, 0, aux, 0) && ends_at(n, byte_type_part(lit, 0)), // DeserializeContext
-        21 => within(kids, 0, 1, aux, 0) && ends_at(n, byte_type_part(lit, 0)), // DeserializeRegister
-        22 => within(kids, 0, 65535, aux, 0) && n == 0, // SigmaCollection
-        23 => within(kids, 0, 0, aux, 0) && ends_at(n, type_part(lit, 0)), // NoneValue
-        24 => within(kids, 2, 3, aux, 0) && n == 0, // ByIndex
-        25 => within(kids, 1, 1, aux, 0) && ends_at(n, type_part(lit, 0)), // NumericCast
-        26 => within(kids, 1, 65535, aux, 0) && n == 0, // FuncApply
+        CONST => within(kids, 0, 0, aux, 251) && !lit.is_empty(),
+        UNPARSED => within(kids, 0, 0, aux, 0),
+        ZERO => within(kids, 0, 0, aux, 0) && lit.is_empty(),
+        ONE => within(kids, 1, 1, aux, 0) && lit.is_empty(),
+        TWO => within(kids, 2, 2, aux, 0) && lit.is_empty(),
+        THREE => within(kids, 3, 3, aux, 0) && lit.is_empty(),
+        FOUR => within(kids, 4, 4, aux, 0) && lit.is_empty(),
+        VAL_USE => within(kids, 0, 0, aux, 0) && is_whole(id_part(lit)),
+        CONST_PLACEHOLDER => within(kids, 0, 0, aux, 0) && is_whole(id_part(lit)),
+        TAGGED_VAR => within(kids, 0, 0, aux, 0) && is_whole(arg_part(lit)),
+        VAL_DEF => within(kids, 1, 1, aux, 0) && is_whole(arg_part(lit)),
+        BLOCK_VALUE => within(kids, 1, 65535, aux, 0) && lit.is_empty(),
+        FUNC_VALUE => within(kids, 1, 1, aux, 15) && is_whole(args_part(lit, aux)),
+        METHOD_CALL => within(kids, 1, 65535, aux, 0) && is_whole(method_part(lit)),
+        CONCRETE_COLLECTION => within(kids, 0, 65535, aux, 0) && is_whole(type_part(lit)),
+        BOOL_COLLECTION => within(kids, 0, 0, aux, 0) && all_bits(lit),
+        TUPLE => within(kids, 0, 65535, aux, 0) && lit.is_empty(),
+        SELECT_FIELD => within(kids, 1, 1, aux, 0) && is_whole(byte_part(lit)),
+        EXTRACT_REGISTER_AS => within(kids, 1, 1, aux, 0) && is_whole(byte_type_part(lit)),
+        GET_VAR => within(kids, 0, 0, aux, 0) && is_whole(byte_type_part(lit)),
+        DESERIALIZE_CONTEXT => within(kids, 0, 0, aux, 0) && is_whole(byte_type_part(lit)),
+        DESERIALIZE_REGISTER => within(kids, 0, 1, aux, 0) && is_whole(byte_type_part(lit)),
+        SIGMA_COLLECTION => within(kids, 0, 65535, aux, 0) && lit.is_empty(),
+        NONE_VALUE => within(kids, 0, 0, aux, 0) && is_whole(type_part(lit)),
+        BY_INDEX => within(kids, 2, 3, aux, 0) && lit.is_empty(),
+        NUMERIC_CAST => within(kids, 1, 1, aux, 0) && is_whole(type_part(lit)),
+        FUNC_APPLY => within(kids, 1, 65535, aux, 0) && lit.is_empty(),
         _ => false,
     }
 }
 
 // ---- opcodes
 
-// Check 5 of a shape with no opcode of its own. First the opcodes that are other shapes' own, then those that stand
-// with one shape only.
-fn free_agrees(shape: u8, opcode: u8) -> bool
-    requires { (1 < shape) × (is_in shape (map (λ p. p.1) both_ways) ≡ false) }
-    ensures { (aux : ℕ) (lit : List ℕ) → result ≡ model.agrees (rec shape opcode aux lit) }
-{
-    match opcode {
-        0 => false,
-        0x72 => false,
-        0xD6 => false,
-        0xD8 => false,
-        0xD9 => false,
-        0x8C => false,
-        0x86 => false,
-        0x95 => shape == 5,
-        0xED => shape == 4,
-        0xEC => shape == 4,
-        0xA3 => shape == 2,
-        0xA4 => shape == 2,
-        0xA5 => shape == 2,
-        0xA7 => shape == 2,
-        0xDD => shape == 2,
-        _ => true,
-    }
-}
-
-// Check 5: whether an opcode may stand with a shape.
+// Check 5: whether an opcode may stand with a shape. First the opcodes that have a shape of their own (00 has two),
+// then those that stand with one shape only, then all others. An arm for each: arms that are joined take more tests.
 // Rules out: true of opcode 95 with Four; true of opcode 00 with Zero.
+#[tactic(auto, unfolding(model::specs::Shape::agrees, model::specs::Shape::shape_of, model::specs::Shape::both_ways, model::specs::Shape::one_way, model::specs::Lists::is_in))]
 pub fn agrees(shape: u8, opcode: u8) -> bool
     ensures { (aux : ℕ) (lit : List ℕ) → result ≡ model.agrees (rec shape opcode aux lit) }
 {
-    match shape {
-        0 => opcode == 0, // Const
-        1 => opcode == 0, // Unparsed
-        7 => opcode == 0x72, // ValUse
-        10 => opcode == 0xD6, // ValDef
-        11 => opcode == 0xD8, // BlockValue
-        12 => opcode == 0xD9, // FuncValue
-        17 => opcode == 0x8C, // SelectField
-        16 => opcode == 0x86, // Tuple
-        _ => free_agrees(shape, opcode),
+    match opcode {
+        NO_OP => matches!(shape, CONST | UNPARSED),
+        VAL_USE_OP => shape == VAL_USE,
+        VAL_DEF_OP => shape == VAL_DEF,
+        BLOCK_VALUE_OP => shape == BLOCK_VALUE,
+        FUNC_VALUE_OP => shape == FUNC_VALUE,
+        SELECT_FIELD_OP => shape == SELECT_FIELD,
+        TUPLE_OP => shape == TUPLE,
+        IF_OP => shape == THREE,
+        AND_OP => shape == TWO,
+        OR_OP => shape == TWO,
+        HEIGHT_OP => shape == ZERO,
+        INPUTS_OP => shape == ZERO,
+        OUTPUTS_OP => shape == ZERO,
+        SELF_BOX_OP => shape == ZERO,
+        GLOBAL_OP => shape == ZERO,
+        _ => !matches!(
+            shape,
+            CONST | UNPARSED | VAL_USE | VAL_DEF | BLOCK_VALUE | FUNC_VALUE | SELECT_FIELD | TUPLE
+        ),
     }
 }
 
 // Whether operand j (from 0) opens a thunk: operands 1 and 2 of IF, operand 1 of && and of ||.
 // Rules out: the condition of an IF; an operand of another record.
+#[tactic(auto, unfolding(model::specs::Intern::thunked))]
 pub fn is_thunked(opcode: u8, j: usize) -> bool
     ensures { result ≡ thunked opcode j }
 {
-    if j == 0 {
-        return false;
+    match j {
+        1 => matches!(opcode, IF_OP | AND_OP | OR_OP),
+        2 => opcode == IF_OP,
+        _ => false,
     }
-    if opcode == IF_OP {
-        if j == 1 {
-            return true;
-        }
-        return j == 2;
-    }
-    if opcode == AND_OP {
-        return j == 1;
-    }
-    if opcode == OR_OP {
-        return j == 1;
-    }
-    false
 }
 
 // ---- ids and arguments
 
-fn byte(x: u8) -> u32
-    ensures { (result ≡ x) × (result < 256) }
-{
-    x as u32
-}
-
 // The id at `at`, little-endian.
 // Rules out: the bytes the other way round; the id at the literal's start whatever `at` is.
+#[tactic(auto, using(crate::proofs::Args::u32_at))]
 pub fn id_at(lit: &[u8], at: usize) -> u32
     requires { at + 4 ≤ length lit.now }
     ensures { result ≡ u32 (drop at lit.now) }
 {
-    let high = byte(lit[at + 2]) + 256 * byte(lit[at + 3]);
-    byte(lit[at]) + 256 * (byte(lit[at + 1]) + 256 * high)
+    u32::from_le_bytes([lit[at], lit[at + 1], lit[at + 2], lit[at + 3]])
 }
 
 // Where the argument at `at` ends, and the next begins.
 // Rules out: a place before the opt's type; a place past the literal's end.
 pub fn arg_end(lit: &[u8], at: usize) -> usize
-    requires { a_arg (drop at lit.now) ≡ None → ⊥ }
+    requires { model.a_arg (drop at lit.now) ≡ None → ⊥ }
     ensures { ArgEnd lit.now at result }
 {
-    match opt_part(lit, at + 4) {
-        Part::End(k) => k,
-        Part::Broken => at,
-    }
+    let rest = arg_part(&lit[at..]).unwrap();
+    lit.len() - rest.len()
 }

@@ -1,176 +1,108 @@
-// The parts of a literal: where each ends, if it stands at a place.
+// The parts of a literal, read from its front: each gives what is left after it, or None if it does not stand there.
 // In order: a byte, an id, a type, an opt; arguments; types; a byte and a type; a method call's parts; whether a part
 // is the whole literal; bits.
-ghost use Rattle.std.specs.Prelude.{◌≡◌, ◌<◌, ◌≤◌, length};
-ghost use Rattle.model.specs.Shape.{a_byte, a_id, a_type, a_opt, a_arg, times, a_counted, bits};
-ghost use Rattle.shape.specs.Part.{a_byte_type, a_method, Reads, ends_at};
-
-// Where a part of a literal ends, if it stands there.
-#[derive(Clone, Copy)]
-pub enum Part {
-    End(usize),
-    Broken,
-}
-
-fn wide(x: u8) -> usize
-    ensures { (result ≡ x) × (result < 256) }
-{
-    x as usize
-}
+ghost use Rattle.std.specs.Prelude.{◌≡◌, ℕ, List, option_copied};
+ghost use Rattle.model.specs.Shape.{Reader, whole, a_byte, a_id, a_type, a_opt, a_arg, ◌then◌, times, a_counted, bits};
 
 // A byte, whatever it is.
-fn byte_part(lit: &[u8], at: usize) -> Part
-    requires { at ≤ length lit.now }
-    ensures { Reads a_byte lit.now at result }
+#[tactic(auto, unfolding(model::specs::Shape::a_byte))]
+pub fn byte_part(lit: &[u8]) -> Option<&[u8]>
+    ensures { option_copied result ≡ a_byte lit.now }
 {
-    if lit.len() <= at {
-        return Part::Broken;
-    }
-    Part::End(at + 1)
+    lit.get(1..)
 }
 
-// An id: four bytes. Rules out: an end past the literal's; broken where just four bytes are left.
-pub fn id_part(lit: &[u8], at: usize) -> Part
-    requires { at ≤ length lit.now }
-    ensures { Reads a_id lit.now at result }
+// An id: four bytes. Rules out: None where just four bytes are left; what is left of a shorter literal.
+#[tactic(auto, unfolding(model::specs::Shape::a_id))]
+pub fn id_part(lit: &[u8]) -> Option<&[u8]>
+    ensures { option_copied result ≡ a_id lit.now }
 {
-    if lit.len() - at < 4 {
-        return Part::Broken;
-    }
-    Part::End(at + 4)
+    lit.get(4..)
 }
 
 // A type: a byte from 1 on, and so many bytes. Rules out: a type of no bytes; an end that leaves its first byte out.
-pub fn type_part(lit: &[u8], at: usize) -> Part
-    requires { at ≤ length lit.now }
-    ensures { Reads a_type lit.now at result }
+#[tactic(auto, unfolding(model::specs::Shape::a_type))]
+pub fn type_part(lit: &[u8]) -> Option<&[u8]>
+    ensures { option_copied result ≡ a_type lit.now }
 {
-    if lit.len() <= at {
-        return Part::Broken;
+    match lit {
+        [n @ 1.., rest @ ..] => rest.get(usize::from(*n)..),
+        _ => None,
     }
-    let n = wide(lit[at]);
-    if n == 0 {
-        return Part::Broken;
-    }
-    if lit.len() - at <= n {
-        return Part::Broken;
-    }
-    Part::End(at + 1 + n)
 }
 
 // An opt: 0, or 1 and a type. Rules out: 2 and a type; an end before the type.
-pub fn opt_part(lit: &[u8], at: usize) -> Part
-    requires { at ≤ length lit.now }
-    ensures { Reads a_opt lit.now at result }
+#[tactic(auto, unfolding(model::specs::Shape::a_opt))]
+pub fn opt_part(lit: &[u8]) -> Option<&[u8]>
+    ensures { option_copied result ≡ a_opt lit.now }
 {
-    if lit.len() <= at {
-        return Part::Broken;
+    match lit {
+        [0, rest @ ..] => Some(rest),
+        [1, rest @ ..] => type_part(rest),
+        _ => None,
     }
-    let b = lit[at];
-    if b == 0 {
-        return Part::End(at + 1);
-    }
-    if b == 1 {
-        return type_part(lit, at + 1);
-    }
-    Part::Broken
 }
 
 // An argument: an id and an opt. Rules out: an id alone; the opt first.
-pub fn arg_part(lit: &[u8], at: usize) -> Part
-    requires { at ≤ length lit.now }
-    ensures { Reads a_arg lit.now at result }
+#[tactic(auto, using(crate::proofs::Part::then_is))]
+pub fn arg_part(lit: &[u8]) -> Option<&[u8]>
+    ensures { option_copied result ≡ a_arg lit.now }
 {
-    match id_part(lit, at) {
-        Part::End(k) => opt_part(lit, k),
-        Part::Broken => Part::Broken,
-    }
+    opt_part(id_part(lit)?)
 }
 
 // `n` arguments. Rules out: one fewer; as many as stand there.
-pub fn args_part(lit: &[u8], at: usize, n: usize) -> Part
-    requires { at ≤ length lit.now }
-    ensures { Reads (times n a_arg) lit.now at result }
+#[tactic(auto, using(crate::proofs::Part::turns))]
+pub fn args_part(lit: &[u8], n: u8) -> Option<&[u8]>
+    ensures { option_copied result ≡ times n a_arg lit.now }
 {
-    let mut end = at;
-    let mut k = 0;
-    while k < n {
-        let Part::End(e) = arg_part(lit, end) else {
-            return Part::Broken;
-        };
-        end = e;
-        k += 1;
+    let mut rest = lit;
+    for _ in 0..n {
+        rest = arg_part(rest)?;
     }
-    Part::End(end)
+    Some(rest)
 }
 
 // A count byte, and so many types.
-fn types_part(lit: &[u8], at: usize) -> Part
-    requires { at ≤ length lit.now }
-    ensures { Reads (a_counted a_type) lit.now at result }
+#[tactic(auto, using(crate::proofs::Part::turns), unfolding(model::specs::Shape::a_counted))]
+fn types_part(lit: &[u8]) -> Option<&[u8]>
+    ensures { option_copied result ≡ a_counted a_type lit.now }
 {
-    if lit.len() <= at {
-        return Part::Broken;
+    let (n, mut rest) = lit.split_first()?;
+    for _ in 0..*n {
+        rest = type_part(rest)?;
     }
-    let n = wide(lit[at]);
-    let mut end = at + 1;
-    let mut k = 0;
-    while k < n {
-        let Part::End(e) = type_part(lit, end) else {
-            return Part::Broken;
-        };
-        end = e;
-        k += 1;
-    }
-    Part::End(end)
+    Some(rest)
 }
 
 // A byte and a type. Rules out: a type alone; a byte and an opt.
-pub fn byte_type_part(lit: &[u8], at: usize) -> Part
-    requires { at ≤ length lit.now }
-    ensures { Reads a_byte_type lit.now at result }
+#[tactic(auto, using(crate::proofs::Part::then_is))]
+pub fn byte_type_part(lit: &[u8]) -> Option<&[u8]>
+    ensures { option_copied result ≡ (a_byte then a_type) lit.now }
 {
-    match byte_part(lit, at) {
-        Part::End(k) => type_part(lit, k),
-        Part::Broken => Part::Broken,
-    }
+    type_part(byte_part(lit)?)
 }
 
 // What a method call's literal holds: two bytes, a count byte, types. Rules out: one type whatever the count; the count
 // before the two bytes.
-pub fn method_part(lit: &[u8], at: usize) -> Part
-    requires { at ≤ length lit.now }
-    ensures { Reads a_method lit.now at result }
+#[tactic(auto, using(crate::proofs::Part::then_is))]
+pub fn method_part(lit: &[u8]) -> Option<&[u8]>
+    ensures { option_copied result ≡ (a_byte then a_byte then a_counted a_type) lit.now }
 {
-    match byte_part(lit, at) {
-        Part::End(k) => match byte_part(lit, k) {
-            Part::End(m) => types_part(lit, m),
-            Part::Broken => Part::Broken,
-        },
-        Part::Broken => Part::Broken,
-    }
+    types_part(byte_part(byte_part(lit)?)?)
 }
 
-// Whether a part ends where the literal of `n` bytes does. Rules out: true with bytes left over; true of a broken part.
-pub fn ends_at(n: usize, p: Part) -> bool
-    ensures { result ≡ ends_at n p }
+// Whether a part is there, with nothing left after it. Rules out: true with bytes left over; true of no part.
+#[tactic(auto, unfolding(model::specs::Shape::whole))]
+pub fn is_whole(rest: Option<&[u8]>) -> bool
+    ensures { (f : Reader) (bs : List ℕ) → option_copied rest.entry ≡ f bs → result ≡ whole f bs }
 {
-    match p {
-        Part::End(k) => k == n,
-        Part::Broken => false,
-    }
+    matches!(rest, Some([]))
 }
 
 // Whether each byte is 0 or 1. Rules out: true of a literal with a 2; false of one with no bytes.
 pub fn all_bits(lit: &[u8]) -> bool
     ensures { result ≡ bits lit.now }
 {
-    let mut i = 0;
-    while i < lit.len() {
-        if 2 <= lit[i] {
-            return false;
-        }
-        i += 1;
-    }
-    true
+    lit.iter().all(|&b| b < 2)
 }

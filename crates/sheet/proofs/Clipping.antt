@@ -1,21 +1,25 @@
--- Texts put into a buffer as far as there is room. In order: nothing; all of a text; one text after
--- another; a text from a buffer of its own; spaces; bytes in hex.
+-- Texts put into a buffer as far as there is room. In order: nothing; one text after another; a text from a buffer of
+-- its own; spaces; bytes in hex.
 -- Assumes nothing.
-use Prim.Native.Nat.{ℕ, zero, suc, ◌+◌, ◌-◌, ◌<◌, ◌≤◌}
+use Prim.Native.Nat.{ℕ, ◌+◌, ◌-◌, ◌<◌, ◌≤◌}
 use mathlib.Core.Path.{◌≡◌, refl, sym, ap, ◌∙◌, subst}
 use mathlib.Core.Bool.{Bool, true, false}
 use mathlib.Core.List.{List, [], ◌∷◌, ◌++◌, append_assoc, append-nil}
 use native.Mathlib.Omega.{arith}
 use native.Mathlib.Numerals.{add-one}
 use lib.Dec.{ltb}
-use lib.ListN.{length, take, drop, get_or, replicate}
+use lib.ListN.{length, take, drop, get_or, replicate, length-replicate}
 use lib.Seq.{take_all, take-suc, take-nil, take_at, take-append-le, take-append-add, length-take-le}
 use borrow.Author.Tests.{ltb-true, ltb-false}
+use borrow.Rule.Slice.PartMut.{put_mid}
+use Rattle.std.proofs.Common.{min}
+use Rattle.std.proofs.lemmas.List.{take_min, take-replicate}
+use Rattle.std.proofs.lemmas.Slice.{put_mid-paste}
 use Rattle.model.specs.Lister.{hex_byte}
-use Rattle.output.proofs.Over.{over_front}
+use Rattle.output.proofs.Over.{over_front, paste_over}
 use Rattle.model.specs.Sheet.{hex_bytes}
-use Rattle.output.specs.Output.{Wrote}
-use Rattle.output.proofs.Wrote.{wrote_none, wrote_as, wrote_length, wrote_then}
+use Rattle.output.specs.Output.{over, Wrote}
+use Rattle.output.proofs.Wrote.{wrote_none, wrote_part, wrote_as, wrote_length, wrote_then}
 use Rattle.sheet.specs.Clip.{Clipped}
 
 pub clipped_none : (out : List ℕ) (at : ℕ) → at ≤ length out → Clipped out at [] out at
@@ -32,12 +36,6 @@ module _ {out : List ℕ} {at : ℕ} {s out' : List ℕ} {r : ℕ} (v : Clipped 
   -- the same text
   pub clipped_as : {t : List ℕ} → s ≡ t → Clipped out at t out' r
   clipped_as {t} e = subst (λ (z : List ℕ). Clipped out at z out' r) e v
-
--- ---- all of a text
-
-pub clipped_all : {out : List ℕ} {at : ℕ} {s out' : List ℕ} {r : ℕ} → length s ≤ length out - at →
-    Wrote out at s out' r → Clipped out at s out' r
-clipped_all {out} {at} {s} l w = record { is = wrote_as (sym (take_all (length out - at) s l)) w }
 
 -- ---- one text after another
 
@@ -72,14 +70,20 @@ scratch_text {buf} {s} {buf'} {n} w =
 
 -- ---- spaces
 
-more_of : (m x : ℕ) → replicate (suc m) x ≡ replicate m x ++ (x ∷ [])
-more_of zero x = refl
-more_of (suc m) x = ap (λ (z : List ℕ). x ∷ z) (more_of m x)
+-- of n, what has room
+some_of : (x n k room : ℕ) → k ≡ min n room → take room (replicate n x) ≡ replicate k x
+some_of x n k room e =
+    let f : min room (length (replicate n x)) ≡ k = omega (arith, length-replicate n x) in
+    sym (take_min room (replicate n x)) ∙ rw f (take-replicate k n x (omega arith))
 
-pub spaces_turn : (m : ℕ) {a b c : List ℕ} {i j k : ℕ} → Clipped a i (replicate m 32) b j → Clipped b j (32 ∷ []) c k →
-    Clipped a i (replicate (m + 1) 32) c k
-spaces_turn m v w =
-    clipped_as (clipped_then v w) (sym (ap (λ (n : ℕ). replicate n 32) (add-one m) ∙ more_of m 32))
+pub spaces_put : (out : List ℕ) (at n k : ℕ) (s : List ℕ) → at ≤ length out → k ≡ min n (length out - at) →
+    s ≡ replicate k 32 → Clipped out at (replicate n 32) (put_mid at (at + k - at) out s) (at + k)
+spaces_put out at n k s h e f =
+    let t : List ℕ = replicate k 32 in
+    let l : length t ≡ k = length-replicate k 32 in
+    let o : put_mid at (at + k - at) out s ≡ over out at t =
+    put_mid-paste at (at + k - at) out s t (length t) f (omega arith) refl ∙ paste_over out at t in
+    record { is = wrote_as (sym (some_of 32 n k (length out - at) e)) (wrote_part (omega arith) (omega arith) o) }
 
 -- ---- bytes in hex
 
@@ -101,7 +105,8 @@ pub hex_turn : (s : List ℕ) (m : ℕ) {a b c : List ℕ} {i j k : ℕ} → m <
     Clipped a i (hex_bytes (take m s)) b j → Clipped b j (hex_byte (get_or s m 0)) c k →
     Clipped a i (hex_bytes (take (m + 1) s)) c k
 hex_turn s m l v w =
-    let e : take (m + 1) s ≡ take m s ++ (get_or s m 0 ∷ []) = ap (λ (n : ℕ). take n s) (add-one m) ∙ take-suc s m 0 l in
+    let e : take (m + 1) s ≡ take m s ++ (get_or s m 0 ∷ []) =
+    ap (λ (n : ℕ). take n s) (add-one m) ∙ take-suc s m 0 l in
     let f : hex_bytes (take (m + 1) s) ≡ hex_bytes (take m s) ++ hex_byte (get_or s m 0) =
     ap hex_bytes e ∙ (hex_append (take m s) (get_or s m 0 ∷ [])
     ∙ ap (λ (z : List ℕ). hex_bytes (take m s) ++ z) (hex_one (get_or s m 0))) in

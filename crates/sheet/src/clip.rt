@@ -12,11 +12,8 @@ pub fn put_text(out: &mut [u8], at: usize, text: &[u8]) -> usize
     requires { at ≤ length out.old }
     ensures { Clipped out.old at text.now out.new result }
 {
-    let room = out.len() - at;
-    if room < text.len() {
-        return output::put_bytes(out, at, &text[..room]);
-    }
-    output::put_bytes(out, at, text)
+    let n = text.len().min(out.len() - at);
+    output::put_bytes(out, at, &text[..n])
 }
 
 // A byte at `at`; the answer is the place after it. Rules out: the byte one place on; the place that was given.
@@ -32,16 +29,13 @@ pub fn put_spaces(out: &mut [u8], at: usize, n: usize) -> usize
     requires { at ≤ length out.old }
     ensures { Clipped out.old at (replicate n 32) out.new result }
 {
-    let mut end = at;
-    let mut k = 0;
-    while k < n {
-        end = put(out, end, b' ');
-        k += 1;
-    }
+    let end = at + n.min(out.len() - at);
+    out[at..end].fill(b' ');
     end
 }
 
-// A number in decimal at `at`; the answer is the place after it. Rules out: its first digit cut off; zeros before it.
+// A number in decimal at `at`; the answer is the place after it. It is put into a buffer of its own first, since it may
+// be cut off. Rules out: its first digit cut off; zeros before it.
 pub fn put_number(out: &mut [u8], at: usize, n: u64) -> usize
     requires { at ≤ length out.old }
     ensures { Clipped out.old at (numeral n) out.new result }
@@ -69,10 +63,8 @@ pub fn put_hexes(out: &mut [u8], at: usize, bytes: &[u8]) -> usize
     ensures { Clipped out.old at (hex_bytes bytes.now) out.new result }
 {
     let mut end = at;
-    let mut k = 0;
-    while k < bytes.len() {
-        end = put_hex(out, end, bytes[k]);
-        k += 1;
+    for &b in bytes {
+        end = put_hex(out, end, b);
     }
     end
 }

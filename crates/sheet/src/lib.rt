@@ -1,5 +1,5 @@
-// A sheet of a forest: a line a record, as text, for a person to hold against the bytes. Model's `Sheet` says what it is;
-// a lambda's sheet:
+// A sheet of a forest: a line a record, as text, for a person to hold against the bytes. Model's `Sheet` says what it
+// is; a lambda's sheet:
 //
 //   0  FuncValue D9  args 7  literal 0700000000
 //   1    Two 9A PLUS
@@ -29,6 +29,7 @@ ghost use Rattle.sheet.specs.Shown.{Fits, Shown};
 
 use clip::{put, put_hexes, put_number, put_spaces, put_text};
 use names::{put_class, put_opcode, put_shape};
+use shape::{CONST, FUNC_VALUE, SELECT_FIELD, VAL_DEF, VAL_USE};
 
 // ---- a record's number and its depth
 
@@ -36,13 +37,11 @@ use names::{put_class, put_opcode, put_shape};
 fn pad(i: usize) -> usize
     ensures { result ≡ 3 - length (numeral i) }
 {
-    if i < 10 {
-        return 2;
+    match i {
+        0..=9 => 2,
+        10..=99 => 1,
+        _ => 0,
     }
-    if i < 100 {
-        return 1;
-    }
-    0
 }
 
 // Record i's number, and the spaces of its depth.
@@ -64,12 +63,14 @@ fn put_ids(out: &mut [u8], at: usize, lit: &[u8], from: usize, n: usize) -> usiz
     ensures { Clipped out.old at (id_texts (arg_ids_at n (drop from lit.now)))
         out.new result }
 {
-    if n == 0 {
-        return at;
+    let mut end = at;
+    let mut next = from;
+    for _ in 0..n {
+        let space = put(out, end, b' ');
+        end = put_number(out, space, u64::from(shape::id_at(lit, next)));
+        next = shape::arg_end(lit, next);
     }
-    let space = put(out, at, b' ');
-    let end = put_number(out, space, shape::id_at(lit, from) as u64);
-    put_ids(out, end, lit, shape::arg_end(lit, from), n - 1)
+    end
 }
 
 // The ids of a lambda's n arguments, if it has any.
@@ -92,7 +93,7 @@ fn put_id(out: &mut [u8], at: usize, lit: &[u8]) -> usize
         out.new result }
 {
     let end = put_text(out, at, b"  id ");
-    put_number(out, end, shape::id_at(lit, 0) as u64)
+    put_number(out, end, u64::from(shape::id_at(lit, 0)))
 }
 
 // The field that a selection selects.
@@ -102,7 +103,7 @@ fn put_field(out: &mut [u8], at: usize, lit: &[u8]) -> usize
         out.new result }
 {
     let end = put_text(out, at, b"  field ");
-    put_number(out, end, record::wide(lit[0]) as u64)
+    put_number(out, end, u64::from(lit[0]))
 }
 
 // A mark, if it is not 0.
@@ -114,7 +115,7 @@ fn put_mark(out: &mut [u8], at: usize, mark: u8) -> usize
         return at;
     }
     let end = put_text(out, at, b" mark ");
-    put_number(out, end, record::wide(mark) as u64)
+    put_number(out, end, u64::from(mark))
 }
 
 // The class and the mark of a constant.
@@ -134,11 +135,10 @@ fn put_own(out: &mut [u8], at: usize, shape: u8, aux: u8, lit: &[u8]) -> usize
         out.new result }
 {
     match shape {
-        0 => put_const(out, at, aux),
-        7 => put_id(out, at, lit),
-        10 => put_id(out, at, lit),
-        12 => put_args(out, at, lit, record::wide(aux)),
-        17 => put_field(out, at, lit),
+        CONST => put_const(out, at, aux),
+        VAL_USE | VAL_DEF => put_id(out, at, lit),
+        FUNC_VALUE => put_args(out, at, lit, usize::from(aux)),
+        SELECT_FIELD => put_field(out, at, lit),
         _ => at,
     }
 }
@@ -148,7 +148,7 @@ fn put_literal(out: &mut [u8], at: usize, lit: &[u8]) -> usize
     requires { at ≤ length out.old }
     ensures { Clipped out.old at (literal_text lit.now) out.new result }
 {
-    if lit.len() == 0 {
+    if lit.is_empty() {
         return at;
     }
     let end = put_text(out, at, b"  literal ");
@@ -186,22 +186,21 @@ pub struct Progress {
 }
 
 // The lines of `count` trees, from the next record on: a record is followed by its children's subtrees, in order.
-fn put_trees(forest: &[u8], out: &mut [u8], at: Progress, count: usize, depth: usize) -> Progress
+fn put_trees(forest: &[u8], out: &mut [u8], start: Progress, count: usize, depth: usize) -> Progress
     requires well_formed { WellFormed forest.now }
-    requires count_bound { (count ≤ many (trees_from forest.now at.record)) × (at.end ≤ length out.old)
-        × (depth ≤ at.record + 1) }
-    ensures { Shown forest.now at.record depth count out.old at.end
+    requires count_bound { (count ≤ many (trees_from forest.now start.record)) × (start.end ≤ length out.old)
+        × (depth ≤ start.record + 1) }
+    ensures { Shown forest.now start.record depth count out.old start.end
         out.new result }
 {
-    if count == 0 {
-        return at;
+    let mut at = start;
+    for _ in 0..count {
+        let i = at.record;
+        let end = put_line(out, at.end, forest, i, depth);
+        let inside = Progress { record: i + 1, end };
+        at = put_trees(forest, out, inside, record::kids(forest, i), depth + 1);
     }
-    let i = at.record;
-    let end = put_line(out, at.end, forest, i, depth);
-    let kids = record::kids(forest, i);
-    let inside = Progress { record: i + 1, end };
-    let below = put_trees(forest, out, inside, kids, depth + 1);
-    put_trees(forest, out, below, count - 1, depth)
+    at
 }
 
 // ---- the sheet
@@ -223,6 +222,6 @@ pub fn write_refusal(number: u32, place: usize, out: &mut [u8]) -> usize
     ensures { Clipped out.old 0 (refusal number place) out.new result }
 {
     let mut line = [0u8; text::LINE];
-    let k = text::put_refusal(&mut line, number as u64, place as u64);
+    let k = text::put_refusal(&mut line, u64::from(number), place as u64);
     put_text(out, 0, &line[..k])
 }

@@ -1,66 +1,107 @@
-// Names, as model's `Sheet` has them, each table of names in one text: of each entry its number, what is put for it,
-// and a comma. A function that puts a text gives the place after it, at most the buffer's end; the rest of the buffer is
-// as it was. In order: an entry's start and end; an entry; shapes, classes and opcodes.
-ghost use Rattle.std.specs.Prelude.{◌≡◌, true, ◌&&◌, [], ◌-◌, ◌≤◌, eqb, length, take, drop};
+// Names, as model's `Sheet` has them, each behind what sets it off. A function that puts a text gives the place after
+// it, at most the buffer's end; the rest of the buffer is as it was.
+// In order: the names of shapes, classes and opcodes; each put.
+ghost use Rattle.std.specs.Prelude.{◌≡◌, [], ◌≤◌, length};
 ghost use Rattle.model.specs.Text.{text};
 ghost use Rattle.model.specs.Sheet.{named, shape_names, class_names, opcode_names, opcode_text};
 ghost use Rattle.sheet.specs.Clip.{Clipped};
-ghost use Rattle.sheet.specs.Table.{up_to, entry};
 
 use crate::clip::{put, put_hex, put_text};
 
-// Whether the entry of a number starts with byte b.
-fn opens(fresh: bool, b: u8, number: u8) -> bool
-    ensures { result ≡ fresh && eqb b number }
+#[tactic(auto, unfolding(model::specs::Text::text, model::specs::Sheet::named, model::specs::Sheet::shape_names))]
+fn shape_name(shape: u8) -> &'static [u8]
+    ensures { result.now ≡ named [] shape_names shape }
 {
-    if fresh {
-        return b == number;
+    match shape {
+        0 => b"Const",
+        1 => b"Unparsed",
+        2 => b"Zero",
+        3 => b"One",
+        4 => b"Two",
+        5 => b"Three",
+        6 => b"Four",
+        7 => b"ValUse",
+        8 => b"ConstPlaceholder",
+        9 => b"TaggedVar",
+        10 => b"ValDef",
+        11 => b"BlockValue",
+        12 => b"FuncValue",
+        13 => b"MethodCall",
+        14 => b"ConcreteCollection",
+        15 => b"BoolCollection",
+        16 => b"Tuple",
+        17 => b"SelectField",
+        18 => b"ExtractRegisterAs",
+        19 => b"GetVar",
+        20 => b"DeserializeContext",
+        21 => b"DeserializeRegister",
+        22 => b"SigmaCollection",
+        23 => b"NoneValue",
+        24 => b"ByIndex",
+        25 => b"NumericCast",
+        26 => b"FuncApply",
+        _ => b"",
     }
-    false
 }
 
-// Where that starts which is put for a number, or the table's end.
-fn entry_start(table: &[u8], number: u8) -> usize
-    ensures { (result ≤ length table.now)
-        × (up_to (drop result table.now) ≡ entry number true table.now) }
+#[tactic(auto, unfolding(model::specs::Text::text, model::specs::Sheet::named, model::specs::Sheet::class_names))]
+fn class_name(class: u8) -> &'static [u8]
+    ensures { result.now ≡ named (text "  ") class_names class }
 {
-    let mut fresh = true;
-    let mut i = 0;
-    while i < table.len() {
-        let b = table[i];
-        if opens(fresh, b, number) {
-            return i + 1;
-        }
-        fresh = b == b',';
-        i += 1;
+    match class {
+        0 => b"  SBoolean",
+        1 => b"  SByte",
+        2 => b"  SShort",
+        3 => b"  SInt",
+        4 => b"  SLong",
+        5 => b"  SString",
+        6 => b"  other",
+        _ => b"",
     }
-    i
 }
 
-// Where it ends: at the next comma.
-fn entry_end(table: &[u8], from: usize) -> usize
-    requires { from ≤ length table.now }
-    ensures { (from ≤ result) × (result ≤ length table.now)
-        × (take (result - from) (drop from table.now) ≡ up_to (drop from table.now)) }
+#[tactic(auto, unfolding(model::specs::Text::text, model::specs::Sheet::named, model::specs::Sheet::opcode_names))]
+fn opcode_name(opcode: u8) -> &'static [u8]
+    ensures { result.now ≡ named (text " ") opcode_names opcode }
 {
-    let mut k = from;
-    while k < table.len() {
-        if table[k] == b',' {
-            return k;
-        }
-        k += 1;
+    match opcode {
+        0x7E => b" Upcast",
+        0x7F => b" True",
+        0x80 => b" False",
+        0x82 => b" GroupGenerator",
+        0x8F => b" LT",
+        0x90 => b" LE",
+        0x91 => b" GT",
+        0x92 => b" GE",
+        0x93 => b" EQ",
+        0x94 => b" NEQ",
+        0x95 => b" IF",
+        0x96 => b" AND",
+        0x97 => b" OR",
+        0x99 => b" MINUS",
+        0x9A => b" PLUS",
+        0x9C => b" MULTIPLY",
+        0x9D => b" DIVISION",
+        0x9E => b" MODULO",
+        0xA1 => b" MIN",
+        0xA2 => b" MAX",
+        0xA3 => b" HEIGHT",
+        0xA4 => b" INPUTS",
+        0xA5 => b" OUTPUTS",
+        0xA6 => b" LastBlockUtxoRootHash",
+        0xA7 => b" SELF_BOX",
+        0xAC => b" MinerPubkey",
+        0xB1 => b" SIZE_OF",
+        0xDD => b" GLOBAL",
+        0xE5 => b" OptionGetOrElse",
+        0xEC => b" BIN_OR",
+        0xED => b" BIN_AND",
+        0xEF => b" LOGICAL_NOT",
+        0xF0 => b" NEGATION",
+        0xF4 => b" BIN_XOR",
+        0xFE => b" Context",
+        _ => b"",
     }
-    k
-}
-
-// What a table has for a number, if it has it.
-fn put_entry(out: &mut [u8], at: usize, table: &[u8], number: u8) -> usize
-    requires { at ≤ length out.old }
-    ensures { Clipped out.old at (entry number true table.now) out.new result }
-{
-    let from = entry_start(table, number);
-    let end = entry_end(table, from);
-    put_text(out, at, &table[from..end])
 }
 
 // A shape's name at `at`; the answer is the place after it. Rules out: another shape's; a name for a shape over 26.
@@ -68,15 +109,7 @@ pub fn put_shape(out: &mut [u8], at: usize, shape: u8) -> usize
     requires { at ≤ length out.old }
     ensures { Clipped out.old at (named [] shape_names shape) out.new result }
 {
-    put_entry(
-        out,
-        at,
-        b"\x00Const,\x01Unparsed,\x02Zero,\x03One,\x04Two,\x05Three,\x06Four,\x07ValUse,\x08ConstPlaceholder,\
-          \x09TaggedVar,\x0AValDef,\x0BBlockValue,\x0CFuncValue,\x0DMethodCall,\x0EConcreteCollection,\x0FBoolCollection,\
-          \x10Tuple,\x11SelectField,\x12ExtractRegisterAs,\x13GetVar,\x14DeserializeContext,\x15DeserializeRegister,\
-          \x16SigmaCollection,\x17NoneValue,\x18ByIndex,\x19NumericCast,\x1AFuncApply,",
-        shape,
-    )
+    put_text(out, at, shape_name(shape))
 }
 
 // A constant's class at `at`; the answer is the place after it. Rules out: another class; a name for a class over 6.
@@ -84,12 +117,7 @@ pub fn put_class(out: &mut [u8], at: usize, class: u8) -> usize
     requires { at ≤ length out.old }
     ensures { Clipped out.old at (named (text "  ") class_names class) out.new result }
 {
-    put_entry(
-        out,
-        at,
-        b"\x00  SBoolean,\x01  SByte,\x02  SShort,\x03  SInt,\x04  SLong,\x05  SString,\x06  other,",
-        class,
-    )
+    put_text(out, at, class_name(class))
 }
 
 // An opcode in hex, and its name, at `at`; the answer is the place after them. Rules out: another opcode's name; the
@@ -100,21 +128,5 @@ pub fn put_opcode(out: &mut [u8], at: usize, opcode: u8) -> usize
 {
     let space = put(out, at, b' ');
     let end = put_hex(out, space, opcode);
-    put_operation(out, end, opcode)
-}
-
-// The name of an opcode, after a space.
-fn put_operation(out: &mut [u8], at: usize, opcode: u8) -> usize
-    requires { at ≤ length out.old }
-    ensures { Clipped out.old at (named (text " ") opcode_names opcode) out.new result }
-{
-    put_entry(
-        out,
-        at,
-        b"\x7E Upcast,\x7F True,\x80 False,\x82 GroupGenerator,\x8F LT,\x90 LE,\x91 GT,\x92 GE,\x93 EQ,\x94 NEQ,\
-          \x95 IF,\x96 AND,\x97 OR,\x99 MINUS,\x9A PLUS,\x9C MULTIPLY,\x9D DIVISION,\x9E MODULO,\xA1 MIN,\xA2 MAX,\
-          \xA3 HEIGHT,\xA4 INPUTS,\xA5 OUTPUTS,\xA6 LastBlockUtxoRootHash,\xA7 SELF_BOX,\xAC MinerPubkey,\xB1 SIZE_OF,\
-          \xDD GLOBAL,\xE5 OptionGetOrElse,\xEC BIN_OR,\xED BIN_AND,\xEF LOGICAL_NOT,\xF0 NEGATION,\xF4 BIN_XOR,\xFE Context,",
-        opcode,
-    )
+    put_text(out, end, opcode_name(opcode))
 }

@@ -8,11 +8,11 @@ ghost use Rattle.std.specs.Io.KnownBytes.{Appends};
 ghost use Rattle.model.specs.Sheet as model;
 ghost use Rattle.sheet.specs.Clip.{Clipped};
 
-use codec::Verdict;
 use std::io;
 use std::io::{Read, Write};
 
-// More than any sheet takes: 131,070 hex digits of literals, and 256 lines with less than 400 bytes beside.
+// More than any sheet takes: 131,070 hex digits of literals, and 256 lines with less than 400 bytes beside. It is made
+// here, since a proof that sees so many zeros counts them one by one.
 fn room() -> [u8; 262144]
     ensures { 262144 ≡ length result }
 {
@@ -20,12 +20,13 @@ fn room() -> [u8; 262144]
 }
 
 // What is shown for a forest, put at the start of text, as far as there is room; gives its length.
+#[tactic(auto, unfolding(model::specs::Sheet::sheet, model::specs::Sheet::sheet_of))]
 fn shown(forest: &[u8], work: &mut [u32; 3840], text: &mut [u8]) -> usize
     ensures { Clipped text.old 0 (model.sheet forest.now) text.new result }
 {
     match codec::check(forest, work) {
-        Verdict::Accepted => sheet::write(forest, text),
-        Verdict::Refused(number, place) => sheet::write_refusal(number, place, text),
+        Ok(()) => sheet::write(forest, text),
+        Err(refused) => sheet::write_refusal(refused.check.number(), refused.place as usize, text),
     }
 }
 

@@ -13,7 +13,7 @@ use lib.Seq.{sets, length-sets, get_or_at}
 use Rattle.model.specs.Forest.{record_count}
 use Rattle.model.specs.Intern.{Sym, no_sym, sym_at}
 use Rattle.key.specs.declared.Symbol.{Symbol}
-use Rattle.key.specs.Key.{parts_of, symbol_at, store_symbol}
+use Rattle.key.specs.Key.{parts_of, symbol_at}
 use Rattle.laws.specs.Frame.{Agree}
 use Rattle.laws.proofs.Runs.{sets_before, sets_after}
 use Rattle.regions.specs.Regions.{SLOTS, PENDING}
@@ -107,12 +107,6 @@ sounds_more le sound i lt =
     let s = sound i lt in record { from = s.from; slots = omega (arith, s.slots); lower = s.lower }
 
 -- ---- what one more symbol changes
-
--- how `make` makes it
-pub made_by : (ws ws₁ ws₂ : List ℕ) (n held : ℕ) (y : Symbol) →
-    ws₁ ≡ sets ws (SLOTS.first + y.kids) (pending_from ws held y.count) → ws₂ ≡ store_symbol ws₁ n y → ws₂ ≡ made ws n held y
-unfolding made
-made_by ws ws₁ ws₂ n held y e f = rw (f, e)
 
 module _ (ws : List ℕ) (n held : ℕ) (y : Symbol) where
   abbrev slotted : List ℕ

@@ -1,7 +1,7 @@
--- Laws of the comparisons `same` (lists) and `same_rec` (records), and of records as keys have them. In order: `same`;
--- `key_rec`; what `same_literal` and `same_rec` read.
+-- Laws of the comparison `same` of lists, and of records as keys have them, `key_rec`;
+-- and the sets of them that this crate's functions are proved by.
 -- Assumes nothing.
-use Prim.Native.Nat.{ℕ, ◌<◌}
+use Prim.Native.Nat.{ℕ}
 use mathlib.Core.Path.{◌≡◌, refl, sym, ap, ◌∙◌}
 use mathlib.Core.Bool.{Bool, true, false, ◌&&◌, and-true}
 use mathlib.Core.List.{List, [], ◌∷◌}
@@ -9,9 +9,9 @@ use native.Mathlib.Omega.{arith}
 use borrow.Author.Tests.{eq-eqb, ne_eqb}
 use lib.Dec.{eqb}
 use lib.ListN.{length, get_or}
-use lib.Seq.{ext_get_or}
+use lib.Pointwise.{pointwise}
 use Rattle.model.specs.Lists.{same}
-use Rattle.model.specs.Tree.{Rec, rec, same_rec}
+use Rattle.model.specs.Tree.{Rec, rec}
 use Rattle.laws.proofs.Apart.{true_false}
 use Rattle.laws.proofs.Members.{same_refl, same_true}
 use Rattle.record.specs.Record.{row_at}
@@ -19,23 +19,30 @@ use Rattle.symbols.specs.Symbols.{key_rec}
 
 -- ---- lists
 
--- lists that agree everywhere, and lists that differ
-pub same_all : (a b : List ℕ) → length a ≡ length b → ((k : ℕ) → k < length a → get_or a k 0 ≡ get_or b k 0) →
-    true ≡ same a b
-same_all a b l h = let e : a ≡ b = ext_get_or 0 a b l h in rw e (sym (same_refl b))
+-- what `==` says of slices
+pub slices_same : (a b : List ℕ) → pointwise eqb a b ≡ same a b
+unfolding same
+slices_same [] [] = refl
+slices_same [] (y ∷ b) = refl
+slices_same (x ∷ a) [] = refl
+slices_same (x ∷ a) (y ∷ b) = ap (λ (t : Bool). eqb x y && t) (slices_same a b)
 
-pub same_differ : (a b : List ℕ) → (a ≡ b → ⊥) → false ≡ same a b
+same_differ : (a b : List ℕ) → (a ≡ b → ⊥) → false ≡ same a b
 same_differ a b h = go (same a b) refl
   where
     go : (t : Bool) → same a b ≡ t → false ≡ t
     go true e = absurd (h (same_true a b e))
     go false e = refl
 
-pub same-one : (a : List ℕ) (b : ℕ) → length a ≡ 1 → same a (b ∷ []) ≡ eqb (get_or a 0 0) b
+-- a list beside one of one number
+pub same_one : (a : List ℕ) (b : ℕ) → length a ≡ 1 → same a (b ∷ []) ≡ eqb (get_or a 0 0) b
 unfolding same
-same-one [] b e = absurd (omega arith)
-same-one (x ∷ []) b e = and-true (eqb x b)
-same-one (x ∷ y ∷ a) b e = absurd (omega arith)
+same_one [] b e = absurd (omega arith)
+same_one (x ∷ []) b e = and-true (eqb x b)
+same_one (x ∷ y ∷ a) b e = absurd (omega arith)
+
+pub same_not_one : (a : List ℕ) (b : ℕ) → (length a ≡ 1 → ⊥) → same a (b ∷ []) ≡ false
+same_not_one a b h = sym (same_differ a (b ∷ []) (λ e. h (ap length e)))
 
 pub same_sym : (a b : List ℕ) → same a b ≡ same b a
 same_sym a b = go (same a b) refl
@@ -77,38 +84,8 @@ module _ (bs : List ℕ) (i : ℕ) where
   unfolding key_rec
   key_field field h = ap (λ (t : Bool). chosen t field) (ne_eqb field 0 h)
 
-  pub lit_plain : (field : ℕ) → field ≡ 0 → own.lit ≡ (key_rec bs i field).lit
-  lit_plain field e = ap (λ (r : Rec). r.lit) (sym (key_plain field e))
+-- ---- what the comparisons of two records are proved by
 
-  pub lit_field : (field : ℕ) → (field ≡ 0 → ⊥) → field ∷ [] ≡ (key_rec bs i field).lit
-  lit_field field h = ap (λ (r : Rec). r.lit) (sym (key_field field h))
+pub ruleset literals = (slices_same, same_one, same_sym)
 
-pub same_of : (t : Bool) (a b a' b' : List ℕ) → t ≡ same a b → a ≡ a' → b ≡ b' → t ≡ same a' b'
-same_of t a b a' b' e p q = cc
-
--- ---- what `same_rec` says of two records as keys, by what it reads of them
-
-module _ (bs : List ℕ) (i f j g : ℕ) {s t : ℕ} (p : s ≡ (row_at bs i).rec.shape) (q : t ≡ (row_at bs j).rec.shape) where
-  abbrev answer : Bool
-  answer = same_rec (key_rec bs i f) (key_rec bs j g)
-
-  pub shapes_differ : (s ≡ t → ⊥) → false ≡ answer
-  unfolding same_rec
-  shapes_differ n = rw (key_shape bs i f, key_shape bs j g, ← p, ← q, ne_eqb s t n)
-
-  module _ {o u : ℕ} (d : s ≡ t) (po : o ≡ (row_at bs i).rec.opcode) (qo : u ≡ (row_at bs j).rec.opcode) where
-    heads_decide : answer
-        ≡ (eqb o u && eqb (key_rec bs i f).aux (key_rec bs j g).aux && same (key_rec bs i f).lit (key_rec bs j g).lit)
-    unfolding same_rec
-    heads_decide =
-        rw (key_shape bs i f, key_shape bs j g, ← p, ← q, eq-eqb s t d, key_opcode bs i f, key_opcode bs j g, ← po, ← qo)
-
-    pub opcodes_differ : (o ≡ u → ⊥) → false ≡ answer
-    opcodes_differ n = sym (heads_decide ∙ rw (ne_eqb o u n))
-
-    module _ {a b : ℕ} (e : o ≡ u) (pa : a ≡ (key_rec bs i f).aux) (qa : b ≡ (key_rec bs j g).aux) where
-      pub auxes_differ : (a ≡ b → ⊥) → false ≡ answer
-      auxes_differ n = sym (heads_decide ∙ rw (eq-eqb o u e, ← pa, ← qa, ne_eqb a b n))
-
-      pub literals_decide : {r : Bool} → a ≡ b → r ≡ same (key_rec bs i f).lit (key_rec bs j g).lit → r ≡ answer
-      literals_decide x h = h ∙ sym (heads_decide ∙ rw (eq-eqb o u e, ← pa, ← qa, eq-eqb a b x))
+pub ruleset heads = (key_shape, key_opcode)

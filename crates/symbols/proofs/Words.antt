@@ -1,17 +1,29 @@
--- Laws of `words_from`: its length, its elements, a bound of them, one word more, the words that it hangs on, a stored run; a copy.
+-- Laws of `words_from`: as a slice, its length, its elements, a bound of them, one word more, the words that it hangs on,
+-- a stored run; a copy.
 -- Assumes nothing.
-use Prim.Native.Nat.{ℕ, zero, suc, ◌+◌, ◌<◌, ◌≤◌}
+use Prim.Native.Nat.{ℕ, zero, suc, ◌+◌, ◌-◌, ◌<◌, ◌≤◌}
 use mathlib.Core.Path.{◌≡◌, refl, ap, ◌∙◌}
 use mathlib.Core.Logic.{inl, inr}
 use mathlib.Core.List.{List, [], ◌∷◌, ◌++◌}
 use native.Mathlib.Omega.{arith}
-use native.Mathlib.Numerals.{add-one}
-use lib.ListN.{length, get_or, set}
-use lib.Seq.{sets, ext_get_or}
+use lib.ListN.{length, get_or, take, drop}
+use lib.Seq.{sets, sets-eq, ext_get_or, drop-cons}
+use Rattle.std.specs.List.{slice_range, copy_within}
 use Rattle.laws.specs.Frame.{Agree}
 use Rattle.laws.specs.Members.{Under}
-use Rattle.laws.proofs.Runs.{sets_run, sets_after, sets_more}
+use Rattle.laws.proofs.Runs.{sets_run}
 use Rattle.symbols.specs.Words.{words_from}
+
+-- a slice of the words, as code has it
+pub words_slice : (ws : List ℕ) (at n : ℕ) → at + n ≤ length ws → slice_range ws at (at + n) ≡ words_from ws at n
+unfolding words_from
+words_slice ws at zero le = let e : at + 0 - at ≡ 0 = omega arith in rw e
+words_slice ws at (suc n) le =
+    let e : at + suc n - at ≡ suc n = omega arith in
+    let f : suc at + n - suc at ≡ n = omega arith in
+    let lt : at < length ws = omega arith in
+    rw (e, drop-cons ws at 0 lt)
+    (ap (λ (l : List ℕ). get_or ws at 0 ∷ l) (rw f at (words_slice ws (suc at) n (omega arith))))
 
 pub words_length : (ws : List ℕ) (at n : ℕ) → length (words_from ws at n) ≡ n
 unfolding words_from
@@ -60,11 +72,11 @@ words_stored ws at vs h =
     (λ i lt. let l : i < length vs = omega (arith, words_length (sets ws at vs) at (length vs)) in
     words_at (sets ws at vs) at (length vs) i l ∙ sets_run vs ws at i l h)
 
--- one word more of a copy to lower places
-pub copy_more : (ws ws' : List ℕ) (to at k : ℕ) → ws' ≡ sets ws to (words_from ws at k) → to + k ≤ at →
-    set ws' (to + k) (get_or ws' (at + k) 0) ≡ sets ws to (words_from ws at (k + 1))
-copy_more ws ws' to at k e h =
-    let l : length (words_from ws at k) ≡ k = words_length ws at k in
-    let r : get_or (sets ws to (words_from ws at k)) (at + k) 0 ≡ get_or ws (at + k) 0 =
-    sets_after (words_from ws at k) ws to (at + k) (omega arith) in
-    rw (e, r, add-one k, words_more ws at k, sets_more (words_from ws at k) ws to (get_or ws (at + k) 0), l)
+-- a copy of words to another place
+pub words_copied : (ws : List ℕ) (at n to : ℕ) → at + n ≤ length ws → to + n ≤ length ws →
+    copy_within ws at (at + n) to ≡ sets ws to (words_from ws at n)
+words_copied ws at n to l r =
+    let e : at + n - at ≡ n = omega arith in
+    let run : take n (drop at ws) ≡ words_from ws at n = rw e at (words_slice ws at n l) in
+    let long : length (words_from ws at n) ≡ n = words_length ws at n in
+    rw (e, run, sets-eq (words_from ws at n) ws to (omega (arith, long)), long)

@@ -1,11 +1,10 @@
--- Comparing the key of a symbol with one that is sought. In order: children; keys; hints; `is_key` of model.
+-- Comparing the key of a symbol with one that is sought. In order: keys; hints; `is_key` of model.
 -- Assumes nothing.
 use Prim.Native.Nat.{ℕ, zero, suc, ◌+◌, ◌*◌, ◌<◌, ◌≤◌}
 use mathlib.Core.Path.{◌≡◌, refl, sym, ap, ◌∙◌}
 use mathlib.Core.Bool.{Bool, true, false, and-true, and-false}
 use mathlib.Core.List.{List}
-use native.Mathlib.Omega.{arith}
-use lib.ListN.{length, get_or}
+use lib.ListN.{get_or}
 use Rattle.model.specs.Lists.{same}
 use Rattle.model.specs.Tree.{Rec, same_rec}
 use Rattle.model.specs.Intern.{is_key}
@@ -16,31 +15,9 @@ use Rattle.key.specs.declared.Symbol.{Symbol}
 use Rattle.key.specs.Key.{parts_of, symbol_at}
 use Rattle.symbols.specs.Words.{words_from, slots_from, pending_from}
 use Rattle.symbols.specs.Symbols.{key_rec, rec_of, syms_of, kids_at, Sound}
-use Rattle.symbols.proofs.Same.{same_all, same_differ, key_opcode}
-use Rattle.symbols.proofs.Words.{words_length, words_at}
+use Rattle.symbols.proofs.Same.{key_opcode}
 use Rattle.symbols.proofs.Laws.{rec_at_lem, kids_at_lem}
 use Rattle.tables.specs.Tables.{hint, hint_of, same_key}
-
--- ---- children: runs of words, compared
-
-module _ (ws : List ℕ) (a b m n : ℕ) where
-  pub runs_length : (m ≡ n → ⊥) → false ≡ same (words_from ws a m) (words_from ws b n)
-  runs_length h =
-      same_differ (words_from ws a m) (words_from ws b n)
-      (λ e. h (sym (words_length ws a m) ∙ (ap length e ∙ words_length ws b n)))
-
-  pub runs_differ : m ≡ n → (k : ℕ) → k < m → (get_or ws (a + k) 0 ≡ get_or ws (b + k) 0 → ⊥) →
-      false ≡ same (words_from ws a m) (words_from ws b n)
-  runs_differ e k lt h =
-      same_differ (words_from ws a m) (words_from ws b n)
-      (λ f. h (sym (words_at ws a m k lt) ∙ (ap (λ (l : List ℕ). get_or l k 0) f ∙ words_at ws b n k (omega arith))))
-
-  pub runs_agree : m ≡ n → ((k : ℕ) → k < m → get_or ws (a + k) 0 ≡ get_or ws (b + k) 0) →
-      true ≡ same (words_from ws a m) (words_from ws b n)
-  runs_agree e h =
-      same_all (words_from ws a m) (words_from ws b n) (words_length ws a m ∙ (e ∙ sym (words_length ws b n)))
-      (λ k lt. let l : k < m = omega (arith, words_length ws a m) in
-      words_at ws a m k l ∙ (h k l ∙ sym (words_at ws b n k (omega arith))))
 
 -- ---- keys: what `same_key` loads, and what it says by it
 
@@ -70,20 +47,15 @@ module _ (bs ws : List ℕ) (s : ℕ) {y : Symbol} (loads : y ≡ symbol_at ws s
 
 -- what `hint_of` says, where there are no children and where there are
 module _ (ws : List ℕ) (held : ℕ) where
-  pub hint_none : (opcode count : ℕ) → count ≡ 0 → opcode ≡ hint opcode (pending_from ws held count)
+  pub hint_none : (opcode count : ℕ) → count ≡ 0 → hint opcode (pending_from ws held count) ≡ opcode
   unfolding hint words_from
   hint_none opcode count e = rw e
 
-  pub hint-first : (opcode count : ℕ) → (count ≡ 0 → ⊥) →
-      opcode + 256 * get_or ws (PENDING.first + held) 0 ≡ hint opcode (pending_from ws held count)
+  pub hint_first : (opcode count : ℕ) → (count ≡ 0 → ⊥) →
+      hint opcode (pending_from ws held count) ≡ opcode + 256 * get_or ws (PENDING.first + held) 0
   unfolding hint words_from
-  hint-first opcode zero h = absurd (h refl)
-  hint-first opcode (suc n) h = refl
-
-  pub first_pending : (count : ℕ) → ((k : ℕ) → k < count → get_or ws (PENDING.first + held + k) 0 < 512) → (count ≡ 0 → ⊥) →
-      get_or ws (PENDING.first + held) 0 < 512
-  first_pending count low h =
-      let e : PENDING.first + held + 0 ≡ PENDING.first + held = omega arith in rw e at (low 0 (omega arith))
+  hint_first opcode zero h = absurd (h refl)
+  hint_first opcode (suc n) h = refl
 
 -- equal keys have equal hints
 module _ (bs ws : List ℕ) (i field held count s : ℕ) where

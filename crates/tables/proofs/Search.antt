@@ -72,26 +72,29 @@ module _ (ss : List Sym) (r : Rec) (ks : List ℕ) where
     module _ (base : List ℕ) where
       -- ---- tables from the newest down: the d oldest, which end at entry `end`
 
-      abbrev top : ℕ → ℕ → List ℕ
-      top d end = entries ws (get_or base (d - 1) 0) (end - get_or base (d - 1) 0)
-
-      abbrev older : ℕ → List (List ℕ)
-      older d = tables ws base (d - 1) (get_or base (d - 1) 0)
-
-      tables_newest : (d end : ℕ) → 0 < d → tables ws base d end ≡ top d end ∷ older d
-      unfolding tables
-      tables_newest zero end lt = absurd (omega arith)
-      tables_newest (suc d) end lt = let e : suc d - 1 ≡ d = omega arith in rw e
-
       pub tables_end : (d end : ℕ) → d ≤ 0 → lookup ss r ks (tables ws base d end) ≡ None
       unfolding tables lookup
       tables_end d end le = let e : d ≡ 0 = omega arith in rw e
 
-      pub tables_hit : (d end s : ℕ) → 0 < d → lookup_in ss r ks (top d end) ≡ Some s →
-          lookup ss r ks (tables ws base d end) ≡ Some s
-      tables_hit d end s lt e =
-          ap (lookup ss r ks) (tables_newest d end lt) ∙ table_hit (top d end) (older d) s e
+      module _ (d end start : ℕ) (newest : start ≡ get_or base (d - 1) 0) (some : 0 < d) where
+        tables_newest : tables ws base d end ≡ entries ws start (end - start) ∷ tables ws base (d - 1) start
+        unfolding tables
+        tables_newest = rw newest (go d some)
+          where
+            go : (k : ℕ) → 0 < k → tables ws base k end ≡
+                entries ws (get_or base (k - 1) 0) (end - get_or base (k - 1) 0)
+                ∷ tables ws base (k - 1) (get_or base (k - 1) 0)
+            go zero lt = absurd (omega arith)
+            go (suc k) lt = let e : suc k - 1 ≡ k = omega arith in rw e
 
-      pub tables_miss : (d end : ℕ) → 0 < d → lookup_in ss r ks (top d end) ≡ None →
-          lookup ss r ks (tables ws base d end) ≡ lookup ss r ks (older d)
-      tables_miss d end lt e = ap (lookup ss r ks) (tables_newest d end lt) ∙ table_miss (top d end) (older d) e
+        pub tables_hit : (s : ℕ) → lookup_in ss r ks (entries ws start (end - start)) ≡ Some s →
+            lookup ss r ks (tables ws base d end) ≡ Some s
+        tables_hit s e =
+            ap (lookup ss r ks) tables_newest
+            ∙ table_hit (entries ws start (end - start)) (tables ws base (d - 1) start) s e
+
+        pub tables_miss : lookup_in ss r ks (entries ws start (end - start)) ≡ None →
+            lookup ss r ks (tables ws base d end) ≡ lookup ss r ks (tables ws base (d - 1) start)
+        tables_miss e =
+            ap (lookup ss r ks) tables_newest
+            ∙ table_miss (entries ws start (end - start)) (tables ws base (d - 1) start) e

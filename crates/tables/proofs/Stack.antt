@@ -1,5 +1,5 @@
--- What callers cite of the open tables. In order: the words that they hang on; the words that hints hang on; the first
--- table; opening one and dropping it; one entry more; entries that are sound.
+-- What callers cite of the open tables. In order: the words that they hang on; the words that hints hang on; an array's
+-- starts; the first table; opening one and dropping it; one entry more; entries that are sound.
 -- Assumes nothing.
 use Prim.Native.Nat.{ℕ, zero, suc, ◌+◌, ◌*◌, ◌-◌, ◌<◌, ◌≤◌}
 use mathlib.Core.Path.{◌≡◌, refl, sym, ◌∙◌}
@@ -7,8 +7,9 @@ use mathlib.Core.List.{List, [], ◌∷◌}
 use native.Mathlib.Omega.{arith}
 use native.Mathlib.Numerals.{add-one}
 use borrow.Author.Count.{below_more}
-use lib.ListN.{length, get_or, set, length-set}
-use lib.Seq.{get_or-set_same, get_or-set_other}
+use lib.ListN.{length, get_or, set, take, get_or-append}
+use lib.Seq.{get_or-set_same, get_or-append_seam}
+use Rattle.std.proofs.lemmas.List.{length-append, length-take-le, get_or-take}
 use Rattle.model.specs.Intern.{enter, drop_first}
 use Rattle.key.specs.Key.{symbol_at}
 use Rattle.laws.specs.Frame.{Agree}
@@ -20,6 +21,7 @@ use Rattle.key.proofs.Laws.{symbol_agree}
 use Rattle.symbols.specs.Symbols.{AllSound}
 use Rattle.symbols.proofs.Laws.{kids_agree, sounds_more}
 use Rattle.tables.specs.declared.Tables.{Tables}
+use Rattle.tables.specs.Starts.{Starts}
 use Rattle.tables.specs.Tables.{entry_symbol, entry_hint, hint_of, entries, tables, tables_of, new_tables, opened}
 use Rattle.tables.specs.Tables.{Open, Entries, EntriesBelow, Hinted}
 
@@ -48,7 +50,7 @@ runs_agree ws ws' base base' top (suc d) end h hb starts le =
 pub tables_agree : (ws ws' : List ℕ) (t : Tables) (top : ℕ) → Open t top → Agree ws ws' ENTRIES.first (ENTRIES.first + top) →
     tables_of ws' t top ≡ tables_of ws t top
 tables_agree ws ws' t top open' h =
-    runs_agree ws ws' t.base t.base top t.depth top h (λ e l r. refl) open'.starts (omega arith)
+    runs_agree ws ws' t t top (length t) top h (λ e l r. refl) open'.starts (omega arith)
 
 -- ---- the words that hints hang on: the entries, their symbols, and the slots in use
 
@@ -66,13 +68,21 @@ module _ (bs ws ws' : List ℕ) (used n : ℕ) where
       rw (entries (ENTRIES.first + k) (omega arith) (omega arith))
       (hinted k lt ∙ sym (hint_agree sound own slots (entry_symbol ws k) (below k lt)))
 
+-- ---- the starts that an array holds are those of the list
+
+module _ {starts : List ℕ} {depth : ℕ} {t : Tables} (is : Starts starts depth) (seen : take depth starts ≡ t) where
+  pub depth_of : length t ≡ depth
+  depth_of = rw (← seen) (length-take-le depth starts (omega (arith, is.long, is.few)))
+
+  pub start_of : (d : ℕ) → d < depth → get_or starts d 0 ≡ get_or t d 0
+  start_of d lt = rw (← seen) (sym (get_or-take depth starts d 0 lt))
+
 -- ---- the first table
 
 pub first_open : Open new_tables 0
 first_open = record {
   some = omega arith;
   few = omega arith;
-  long = refl;
   sorted = λ d e le lt. let p : d ≡ 0 = omega arith in let q : e ≡ 0 = omega arith in rw (p, q) (omega arith);
   starts = λ d lt. let p : d ≡ 0 = omega arith in rw p (omega arith);
 }
@@ -89,53 +99,56 @@ module _ (t : Tables) (top : ℕ) (is : Open t top) where
   open_later more le = record {
     some = is.some;
     few = is.few;
-    long = is.long;
     sorted = is.sorted;
-    starts = λ d lt. let s : get_or t.base d 0 ≤ top = is.starts d lt in omega arith;
+    starts = λ d lt. let s : get_or t d 0 ≤ top = is.starts d lt in omega arith;
   }
 
-  older_start : (d : ℕ) → d < t.depth → get_or (opened t top).base d 0 ≡ get_or t.base d 0
-  older_start d lt = get_or-set_other t.base t.depth d top 0 (λ e. omega arith)
+  older_start : (d : ℕ) → d < length t → get_or (opened t top) d 0 ≡ get_or t d 0
+  older_start d lt = get_or-append t (top ∷ []) 0 d lt
 
-  module _ (room : t.depth < 64) where
-    new_start : get_or (opened t top).base t.depth 0 ≡ top
-    new_start = get_or-set_same t.base t.depth top 0 (omega (arith, is.long))
+  module _ (room : length t < 64) where
+    new_start : get_or (opened t top) (length t) 0 ≡ top
+    new_start = get_or-append_seam t top [] 0
+
+    one_more : length (opened t top) ≡ length t + 1
+    one_more = length-append t (top ∷ [])
 
     pub opened_open : Open (opened t top) top
     opened_open = record {
-      some = omega arith;
-      few = omega arith;
-      long = length-set t.base t.depth top ∙ is.long;
+      some = omega (arith, one_more);
+      few = omega (arith, one_more);
       sorted = λ d e le lt.
-          below_more (λ e. d ≤ e → get_or (opened t top).base d 0 ≤ get_or (opened t top).base e 0) t.depth
+          below_more (λ e. d ≤ e → get_or (opened t top) d 0 ≤ get_or (opened t top) e 0) (length t)
           (λ e l le. rw (older_start d (omega arith), older_start e l) (is.sorted d e le l))
-          (λ le. omega (arith, new_start, starts d (omega arith))) e lt le;
-      starts = starts;
+          (λ le. omega (arith, new_start, starts d (omega arith))) e (rw one_more at lt) le;
+      starts = λ d lt. starts d (rw one_more at lt);
     }
       where
-        starts : (d : ℕ) → d < t.depth + 1 → get_or (opened t top).base d 0 ≤ top
+        starts : (d : ℕ) → d < length t + 1 → get_or (opened t top) d 0 ≤ top
         starts =
-            below_more (λ d. get_or (opened t top).base d 0 ≤ top) t.depth
+            below_more (λ d. get_or (opened t top) d 0 ≤ top) (length t)
             (λ d l. rw (older_start d l) (is.starts d l)) (omega (arith, new_start))
 
-    older_tables : (ws : List ℕ) → tables ws (opened t top).base t.depth top ≡ tables_of ws t top
+    older_tables : (ws : List ℕ) → tables ws (opened t top) (length t) top ≡ tables_of ws t top
     older_tables ws =
-        runs_agree ws ws t.base (opened t top).base top t.depth top (λ k l r. refl) (λ d l r. older_start d r)
+        runs_agree ws ws t (opened t top) top (length t) top (λ k l r. refl) (λ d l r. older_start d r)
         is.starts (omega arith)
 
     -- the tables of model's `open_thunk`
     pub opened-tables : (ws : List ℕ) → tables_of ws (opened t top) top ≡ [] ∷ tables_of ws t top
     unfolding tables entries stack_of
-    opened-tables ws = let z : top - top ≡ 0 = omega arith in rw (add-one t.depth, new_start, z, older_tables ws)
+    opened-tables ws =
+        let z : top - top ≡ 0 = omega arith in
+        rw (one_more, add-one (length t), new_start, z, older_tables ws)
 
     -- dropping it, with what was entered: the tables of model's `close_thunk`
     pub dropped_tables : (ws : List ℕ) (end : ℕ) → drop_first (tables_of ws (opened t top) end) ≡ tables_of ws t top
     unfolding tables
-    dropped_tables ws end = rw (add-one t.depth, new_start, older_tables ws)
+    dropped_tables ws end = rw (one_more, add-one (length t), new_start, older_tables ws)
 
     -- what is entered in it stands at `top` or later
     pub dropped_start : (end : ℕ) → Open (opened t top) end → top ≤ end
-    dropped_start end open' = omega (arith, new_start, open'.starts t.depth (omega arith))
+    dropped_start end open' = omega (arith, new_start, open'.starts (length t) (omega (arith, one_more)))
 
   -- ---- one entry more, in the newest table
 
@@ -158,13 +171,13 @@ module _ (t : Tables) (top : ℕ) (is : Open t top) where
     -- the tables of model's `push`
     pub entered-tables : tables_of entered t (top + 1) ≡ enter s (tables_of ws t top)
     unfolding tables entries stack_of
-    entered-tables = go t.depth is.some is.starts
+    entered-tables = go (length t) is.some is.starts
       where
-        go : (d : ℕ) → 0 < d → ((e : ℕ) → e < d → get_or t.base e 0 ≤ top) →
-            tables entered t.base d (top + 1) ≡ enter s (tables ws t.base d top)
+        go : (d : ℕ) → 0 < d → ((e : ℕ) → e < d → get_or t e 0 ≤ top) →
+            tables entered t d (top + 1) ≡ enter s (tables ws t d top)
         go zero lt starts = absurd (omega arith)
         go (suc d) lt starts =
-            let b = get_or t.base d 0 in
+            let b = get_or t d 0 in
             let h : b ≤ top = starts d (omega arith) in
             let e : top + 1 - b ≡ suc (top - b) = omega arith in
             let f : b + (top - b) ≡ top = omega arith in
@@ -173,7 +186,7 @@ module _ (t : Tables) (top : ℕ) (is : Open t top) where
               f,
               new_symbol_lem,
               entries_agree ws entered top b (top - b) others_kept (omega arith),
-              runs_agree ws entered t.base t.base top d b others_kept (λ k l r. refl)
+              runs_agree ws entered t t top d b others_kept (λ k l r. refl)
                   (λ k l. starts k (omega arith)) h,
             )
 

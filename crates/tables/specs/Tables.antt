@@ -1,7 +1,7 @@
 -- The open tables that work words hold, as model has them: the newest table first, in a table the newest entry first.
--- In order: answers; an entry; entries and tables; the first table, and one more; what holds of them; keys.
+-- In order: an entry; entries and tables; the first table, and one more; what holds of them; keys.
 -- Assumes nothing.
-use Rattle.std.specs.Prelude.{ℕ, zero, suc, ◌+◌, ◌*◌, ◌-◌, ◌/◌, ◌%◌, ◌<◌, ◌≤◌, ◌≡◌, Bool, ◌&&◌, List, [], ◌∷◌, length, get_or, set, replicate, Option, None, Some}
+use Rattle.std.specs.Prelude.{ℕ, zero, suc, ◌+◌, ◌*◌, ◌-◌, ◌/◌, ◌%◌, ◌<◌, ◌≤◌, ◌≡◌, Bool, ◌&&◌, List, [], ◌∷◌, ◌++◌, length, get_or}
 use Rattle.model.specs.Lists.{same}
 use Rattle.model.specs.Tree.{same_rec}
 use Rattle.laws.specs.Stack.{stack_of}
@@ -10,14 +10,6 @@ use Rattle.key.specs.Key.{symbol_at}
 use Rattle.symbols.specs.Words.{pending_from}
 use Rattle.symbols.specs.Symbols.{key_rec, rec_of, kids_at, Sound}
 use Rattle.tables.specs.declared.Tables.{Tables}
-use Rattle.tables.specs.declared.Found.{Found}
-use Rattle.tables.specs.declared.Found.TheVariants.{At, Nothing}
-
--- ---- answers
-
-abbrev pub found_of : Found → Option ℕ
-found_of (At s) = Some s
-found_of Nothing = None
 
 -- ---- an entry: a symbol, and above it the hint of its key
 
@@ -49,25 +41,24 @@ tables ws base (suc d) end = entries ws (get_or base d 0) (end - get_or base d 0
 
 -- the open tables, where there are `top` entries
 abbrev pub tables_of : List ℕ → Tables → ℕ → List (List ℕ)
-tables_of ws t top = tables ws t.base t.depth top
+tables_of ws t top = tables ws t (length t) top
 
 -- ---- the first table, and one more
 
 abbrev pub new_tables : Tables
-new_tables = record { base = replicate 64 0; depth = 1 }
+new_tables = 0 ∷ []
 
 abbrev pub opened : Tables → ℕ → Tables
-opened t top = record { base = set t.base t.depth top; depth = t.depth + 1 }
+opened t top = t ++ top ∷ []
 
 -- ---- what holds of them
 
 -- one table or more, at most 64, each of which starts where an older one does or later, and at or before entry `top`
 pub record Open (t : Tables) (top : ℕ) : Type 0 where
-  pub some : 0 < t.depth
-  pub few : t.depth ≤ 64
-  pub long : length t.base ≡ 64
-  pub sorted : (d e : ℕ) → d ≤ e → e < t.depth → get_or t.base d 0 ≤ get_or t.base e 0
-  pub starts : (d : ℕ) → d < t.depth → get_or t.base d 0 ≤ top
+  pub some : 0 < length t
+  pub few : length t ≤ 64
+  pub sorted : (d e : ℕ) → d ≤ e → e < length t → get_or t d 0 ≤ get_or t e 0
+  pub starts : (d : ℕ) → d < length t → get_or t d 0 ≤ top
 
 -- the entries are symbols below n
 abbrev pub EntriesBelow : List ℕ → ℕ → ℕ → Type 0

@@ -11,20 +11,39 @@ ghost use Rattle.record.specs.Record.{Laid, row_at};
 ghost use Rattle.regions.specs.Regions.{WORDS, SLOTS, ENTRIES, PENDING};
 ghost use Rattle.symbols.specs.Words.{slots_from, pending_from};
 ghost use Rattle.symbols.specs.Symbols.{key_rec, syms_of, Sound};
-ghost use Rattle.tables.specs.Tables.{found_of, tables_of, new_tables, opened};
+ghost use Rattle.tables.specs.Tables.{tables_of, new_tables, opened};
 ghost use Rattle.tables.specs.Tables.{hint, Open, Entries, EntriesBelow, same_key};
 
-// Where each open table's entries start, the oldest first; the newest table ends where the entries do.
+use std::marker::Model;
+
+// Where each open table's entries start, the oldest first; the newest table ends where the entries do. In contracts it
+// is the list of these starts. It is handed down by value, and is `Copy`, which `ArrayVec` is not; so the starts that are
+// not in use are 0, and the list says what the array holds.
 #[derive(Clone, Copy)]
 pub struct Tables {
-    pub base: [u16; 64],
-    pub depth: usize,
+    starts: [u16; 64],
+    depth: usize,
 }
 
-#[derive(Clone, Copy)]
-pub enum Found {
-    At(u32),
-    Nothing,
+impl Model for Tables {
+    ghost use Rattle.std.specs.Prelude.{ℕ, ◌-◌, ◌≤◌, ◌++◌, List, length, take, replicate};
+    ghost use Rattle.std.proofs.Common.{sym, ap, subst, ◌∙◌, take-append-drop, length-take-le};
+    ghost use Rattle.tables.specs.Starts.{Starts};
+
+    ghost Value = { List ℕ };
+
+    ghost view = { λ t. take t.depth t.starts };
+
+    ghost invariant = { λ t. Starts t.starts t.depth };
+
+    ghost inverse = { λ ts. record { starts = ts ++ replicate (64 - length ts) 0; depth = length ts } };
+
+    ghost inverse_ok = { λ t h.
+        let depth_is = length-take-le t.depth t.starts (subst (λ (n : ℕ). t.depth ≤ n) (sym h.long) h.few) in
+        let starts_are =
+        ap (λ (n : ℕ). take t.depth t.starts ++ replicate (64 - n) 0) depth_is
+        ∙ (ap (λ (ts : List ℕ). take t.depth t.starts ++ ts) (sym h.free) ∙ take-append-drop t.depth t.starts) in
+        λ i. record { starts = starts_are i; depth = depth_is i } };
 }
 
 impl Tables {
@@ -33,24 +52,20 @@ impl Tables {
         ensures { result ≡ new_tables }
     {
         Tables {
-            base: [0u16; 64],
+            starts: [0; 64],
             depth: 1,
         }
     }
 
     // A new table, which starts at entry `top`. Rules out: one that takes over the entries of the newest; one that is
     // older than the others.
-    pub fn push(self, top: usize) -> Tables
-        requires { (self.depth < 64) × (top ≤ 512) }
+    pub fn push(mut self, top: usize) -> Tables
+        requires { (length self < 64) × (top ≤ 512) }
         ensures { result ≡ opened self top }
     {
-        let at = self.depth;
-        let mut base = self.base;
-        base[at] = top as u16;
-        Tables {
-            base,
-            depth: at + 1,
-        }
+        self.starts[self.depth] = top as u16;
+        self.depth += 1;
+        self
     }
 }
 
@@ -64,6 +79,7 @@ pub fn enter(work: &mut [u32], top: usize, symbol: u32, hint: u32)
 
 // The hint of the key of record i, or of a projection that it makes, over the pending children from `held` on.
 // Rules out: the opcode alone where there are children; a hint by the last child.
+#[tactic(auto, using(crate::proofs::Keys::hint_none, crate::proofs::Keys::hint_first))]
 pub fn hint_of(forest: &[u8], work: &[u32], i: usize, held: usize, count: usize) -> u32
     requires laid { Laid forest.now }
     requires i_bound { i < record_count forest.now }
@@ -72,7 +88,7 @@ pub fn hint_of(forest: &[u8], work: &[u32], i: usize, held: usize, count: usize)
     ensures { (result ≡ hint (row_at forest.now i).rec.opcode (pending_from work.now held count))
         × (result < 131072) }
 {
-    let opcode = symbols::wide(record::opcode(forest, i));
+    let opcode = u32::from(record::opcode(forest, i));
     if count == 0 {
         return opcode;
     }
@@ -83,17 +99,9 @@ fn same_kids(work: &[u32], kids: usize, n: usize, held: usize, count: usize) -> 
     requires { (kids + n ≤ SLOTS.size) × (held + count ≤ 256) × (WORDS ≤ length work.now) }
     ensures { result ≡ same (slots_from work.now kids n) (pending_from work.now held count) }
 {
-    if n != count {
-        return false;
-    }
-    let mut k = 0;
-    while k < n {
-        if work[regions::SLOTS + kids + k] != work[regions::PENDING + held + k] {
-            return false;
-        }
-        k += 1;
-    }
-    true
+    let kids = regions::SLOTS + kids;
+    let held = regions::PENDING + held;
+    work[kids..kids + n] == work[held..held + count]
 }
 
 // Whether symbol s has the key of record i, or of its projection to `field`, over the pending children from `held` on.
@@ -113,12 +121,8 @@ fn same_key(
     ensures { result ≡ same_key forest.now work.now i field held count s }
 {
     let y = key::load(work, s);
-    let kids = y.kids as usize;
-    let n = y.count as usize;
-    if same_kids(work, kids, n, held, count) {
-        return symbols::same_rec(forest, key::source(work, s), key::field(work, s), i, field);
-    }
-    false
+    same_kids(work, y.kids as usize, y.count as usize, held, count)
+        && symbols::same_rec(forest, key::source(work, s), key::field(work, s), i, field)
 }
 
 // The symbol of a key, "sought in the newest open table first": of record i, or of its projection to `field`, over the
@@ -133,7 +137,7 @@ pub fn find(
     field: u32,
     held: usize,
     count: usize,
-) -> Found
+) -> Option<u32>
     requires laid { Laid forest.now }
     requires i_bound { i < record_count forest.now }
     requires fact { Open t top }
@@ -141,32 +145,26 @@ pub fn find(
     requires count_bound { (held + count ≤ 256) × (WORDS ≤ length work.now) }
     requires by_index { (k : ℕ) → k < count → get_or work.now (PENDING.first + held + k) 0 < 512 }
     ensures { (n : ℕ) → EntriesBelow work.now top n →
-        found_of result ≡ lookup (syms_of forest.now work.now n)
+        result ≡ lookup (syms_of forest.now work.now n)
         (key_rec forest.now i field) (pending_from work.now held count)
         (tables_of work.now t top) }
 {
     let hint = hint_of(forest, work, i, held, count);
     // the starts alone: they are copied without a call
-    let base = t.base;
-    let mut found = Found::Nothing;
+    let starts = t.starts;
     let mut end = top;
-    let mut d = t.depth;
-    'tables: while 0 < d {
-        d -= 1;
-        let start = base[d] as usize;
-        let mut k = end;
-        while start < k {
-            k -= 1;
+    for d in (0..t.depth).rev() {
+        let start = usize::from(starts[d]);
+        for k in (start..end).rev() {
             let e = work[regions::ENTRIES + k];
             if e / 512 == hint {
                 let s = e % 512;
                 if same_key(forest, work, s as usize, i, field, held, count) {
-                    found = Found::At(s);
-                    break 'tables;
+                    return Some(s);
                 }
             }
         }
         end = start;
     }
-    found
+    None
 }

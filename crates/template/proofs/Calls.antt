@@ -1,10 +1,10 @@
 -- A forest's line, from what the call tells, lent 65,535 bytes and 16,384 words. In order: the line of an answer; a
 -- refusal; a tree that is written.
 -- Assumes nothing.
-use Prim.Native.Nat.{ℕ, ◌≤◌}
+use Prim.Native.Nat.{ℕ}
 use mathlib.Core.Path.{◌≡◌, refl, sym, ap, ap₂, ◌∙◌, subst}
 use mathlib.Core.List.{List, append-nil}
-use native.Mathlib.Omega.{arith}
+use Rattle.std.specs.Prelude.{Ok, Err}
 use lib.ListN.{length, take, drop}
 use lib.Seq.{take_at}
 use Rattle.model.specs.Answer.{refused, good}
@@ -21,8 +21,9 @@ use Rattle.model.specs.TemplateLine.{two_values, verdict, line_of, template_line
 use Rattle.laws.proofs.Rows.{closed_trees}
 use Rattle.record.specs.Record.{Laid}
 use Rattle.codec.proofs.Accepting.{accept-passed}
-use Rattle.cse.specs.declared.Answer.{Answer}
-use Rattle.cse.specs.declared.Answer.TheVariants.{Written, Refused}
+use Rattle.refusal.specs.declared.Refusal.{Refusal}
+use Rattle.refusal.specs.Refusal.{number_of}
+use Rattle.cse.specs.declared.Written.{Written}
 use Rattle.cse.specs.Call.{numbers_in}
 use Rattle.cse.proofs.Told.{told_refused, told_written}
 
@@ -56,34 +57,30 @@ module _ (bs out ws : List ℕ) (room : length out ≡ 65535) (words : length ws
       let ask = ap₂ (λ (r w : ℕ). run (record { forest = bs; room = r; words = w })) room words in
       ap (line_of bs) (sym ask ∙ e)
 
-  module _ (r : Answer) (is : numbers_in r ≡ numbers lent) where
-    -- ---- a refusal
+  -- ---- a refusal
 
-    pub refused_line : (n p : ℕ) → r ≡ Refused n p → refusal n p ≡ template_line bs
-    unfolding line_of
-    refused_line n p e = sym (line_of_lem (refused n p) (told_refused lent r is out refl n p e))
+  pub refused_line : (d : Refusal) → numbers_in (Err d) ≡ numbers lent →
+      refusal (number_of d.check) d.place ≡ template_line bs
+  unfolding line_of
+  refused_line d is = sym (line_of_lem (refused (number_of d.check) d.place) (told_refused lent (Err d) is out refl d refl))
 
-    -- ---- a tree
+  -- ---- a tree
 
-    module _ (out' : List ℕ) (left : out' ≡ out_after lent out) (len symbols readings : ℕ)
-        (e : r ≡ Written len symbols readings) where
-      pub read-written : Read bs (take len out') × (len ≤ length out)
-      unfolding numbers numbers_of out_after out_with written_of line_of
-      read-written =
-          let m = told_written lent r is len symbols readings e in
-          let o = m.out in
-          let again = rows_again o m.rereads in
-          let long : len ≡ length (bytes_of o) = ap (λ (z : Numbers). z.len)
-          (ap numbers_in (sym e) ∙ is ∙ ap numbers_of m.runs) in
-          let bytes : take len out' ≡ bytes_of o =
-          ap (take len) (left ∙ ap (λ (a : answer.Answer call.Written). out_with a out) m.runs) ∙
-          take_at (bytes_of o) (drop (length (bytes_of o)) out) len (sym long) in (
-            record {
-              forest_laid = (accept-passed bs _ m.accepts).shaped.sound.laid;
-              tree_laid = subst Laid (sym bytes) again.0;
-              written = written_of o;
-              tree_rows = ap rows_in bytes ∙ again.1;
-              line = line_of_lem (good (written_of o)) m.runs;
-            },
-            omega (arith, m.fits),
-          )
+  pub read-written : (w : Written) (out' : List ℕ) → numbers_in (Ok w) ≡ numbers lent → out' ≡ out_after lent out →
+      Read bs (take w.length out')
+  unfolding numbers numbers_of out_after out_with written_of line_of
+  read-written w out' is left =
+      let m = told_written lent (Ok w) is w refl in
+      let o = m.out in
+      let again = rows_again o m.rereads in
+      let long : w.length ≡ length (bytes_of o) = ap (λ (z : Numbers). z.len) (is ∙ ap numbers_of m.runs) in
+      let bytes : take w.length out' ≡ bytes_of o =
+      ap (take w.length) (left ∙ ap (λ (a : answer.Answer call.Written). out_with a out) m.runs) ∙
+      take_at (bytes_of o) (drop (length (bytes_of o)) out) w.length (sym long) in
+      record {
+        forest_laid = (accept-passed bs _ m.accepts).shaped.sound.laid;
+        tree_laid = subst Laid (sym bytes) again.0;
+        written = written_of o;
+        tree_rows = ap rows_in bytes ∙ again.1;
+        line = line_of_lem (good (written_of o)) m.runs;
+      }

@@ -1,3 +1,2 @@
--- Laws that the functions' proofs cite: lines by their numbers; a forest's line, from what the call tells. Assumes nothing.
-pub mod Lines
+-- What the functions' proofs cite: a forest's line, from what the call tells. Assumes nothing.
 pub mod Calls

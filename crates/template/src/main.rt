@@ -14,13 +14,12 @@ ghost use Rattle.model.specs.TemplateLine.{two_values, verdict, template_line, L
 ghost use Rattle.record.specs.Record.{Laid};
 ghost use Rattle.output.specs.Output.{Wrote};
 
-use cse::Answer;
 use std::io;
 use std::io::{Read, Write};
-use walk::Place;
 
 // The line of a record whose parameter had another value earlier: its mark, and its place.
 // Rules out: the aux for the mark; the place before the mark.
+#[tactic(auto, unfolding(model::specs::TemplateLine::verdict, model::specs::Text::text, record::specs::Record::row_at))]
 fn put_two_values(forest: &[u8], p: usize, line: &mut [u8]) -> usize
     requires laid { Laid forest.now }
     requires p_bound { (p < record_count forest.now) × (80 ≤ length line.old) }
@@ -31,7 +30,7 @@ fn put_two_values(forest: &[u8], p: usize, line: &mut [u8]) -> usize
     text::put_line(
         line,
         b"two values of mark ",
-        mark as u64,
+        u64::from(mark),
         b" at ",
         p as u64,
         b"\n",
@@ -40,6 +39,7 @@ fn put_two_values(forest: &[u8], p: usize, line: &mut [u8]) -> usize
 
 // The line of a template, once its tree is written.
 // Rules out: the forest's own definitions; the parameters before the definitions.
+#[tactic(auto, unfolding(model::specs::TemplateLine::verdict, model::specs::Text::text))]
 fn put_template(forest: &[u8], tree: &[u8], line: &mut [u8]) -> usize
     requires laid { Laid forest.now }
     requires laid_2 { Laid tree.now }
@@ -69,8 +69,8 @@ fn put_verdict(forest: &[u8], tree: &[u8], line: &mut [u8]) -> usize
         (verdict forest.now w (two_values forest.now)) line.new result }
 {
     match parameters::two_values(forest) {
-        Place::At(p) => put_two_values(forest, p, line),
-        Place::Nowhere => put_template(forest, tree, line),
+        Some(p) => put_two_values(forest, p, line),
+        None => put_template(forest, tree, line),
     }
 }
 
@@ -78,6 +78,7 @@ fn put_verdict(forest: &[u8], tree: &[u8], line: &mut [u8]) -> usize
 // words are as the call leaves them. Where the line says that the forest is a template, the clause holds of every
 // filling.
 // Rules out: two values where the call refuses; definitions of the forest instead of the written tree's.
+#[tactic(auto, using(theory::proofs::Templates::Line::line_says))]
 fn judged(forest: &[u8], out: &mut [u8], work: &mut [u32], line: &mut [u8]) -> usize
     requires { (length out.old ≡ 65535) × (length work.old ≡ 16384) × (80 ≤ length line.old) }
     ensures wrote { Wrote line.old 0 (template_line forest.now) line.new result }
@@ -86,11 +87,12 @@ fn judged(forest: &[u8], out: &mut [u8], work: &mut [u32], line: &mut [u8]) -> u
     ensures line_says { LineSays forest.now }
 {
     match cse::cse(forest, out, work) {
-        Answer::Written(len, _, _) => {
-            let end = len as usize;
-            put_verdict(forest, &out[..end], line)
-        }
-        Answer::Refused(number, place) => text::put_refusal(line, number as u64, place as u64),
+        Ok(written) => put_verdict(forest, &out[..written.length as usize], line),
+        Err(refused) => text::put_refusal(
+            line,
+            u64::from(refused.check.number()),
+            u64::from(refused.place),
+        ),
     }
 }
 

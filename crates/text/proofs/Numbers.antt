@@ -1,6 +1,6 @@
--- Numbers as text. In order: the digits of a number; how many; one digit more; hexadecimal digits.
+-- Numbers as text. In order: the digits of a number; how many; one digit more.
 -- Assumes nothing.
-use Prim.Native.Nat.{ℕ, zero, suc, ◌+◌, ◌-◌, ◌*◌, ◌/◌, ◌%◌, ◌<◌, ◌≤◌}
+use Prim.Native.Nat.{ℕ, zero, suc, ◌+◌, ◌*◌, ◌/◌, ◌%◌, ◌<◌, ◌≤◌}
 use mathlib.Core.Path.{◌≡◌, refl, sym, ap, ◌∙◌}
 use mathlib.Core.Bool.{Bool, true, false}
 use mathlib.Core.List.{List, [], ◌∷◌, ◌++◌}
@@ -9,7 +9,7 @@ use native.Mathlib.Omega.{arith}
 use lib.Dec.{ltb}
 use lib.ListN.{length, length-append}
 use borrow.Author.Tests.{lt-ltb, le-ltb, ltb-true, ltb-false}
-use Rattle.model.specs.Lister.{digits, numeral, hex_digit}
+use Rattle.model.specs.Lister.{digits, numeral}
 
 -- ---- the digits of a number
 
@@ -93,13 +93,3 @@ pub numeral_before : (n : ℕ) → 10 ≤ n → n < 18446744073709551616 → len
 numeral_before n l h =
     let e = numeral-more n (48 + n % 10) l h refl in
     omega (arith, ap length e, length-append (numeral (n / 10)) ((48 + n % 10) ∷ []))
-
--- ---- hexadecimal digits
-
-pub hex_number : (n : ℕ) → n < 10 → 48 + n ≡ hex_digit n
-unfolding hex_digit
-hex_number n l = rw (lt-ltb n 10 l, hex_digit)
-
-pub hex_letter : (n : ℕ) → 10 ≤ n → 65 + (n - 10) ≡ hex_digit n
-unfolding hex_digit
-hex_letter n l = rw (le-ltb n 10 l, hex_digit) (omega arith)

@@ -22,10 +22,11 @@ fn digit(n: u64) -> u8
     requires { n < 10 }
     ensures { result ≡ 48 + n }
 {
-    (48 + n) as u8
+    b'0' + n as u8
 }
 
-// n in decimal at `at`, without leading zeros; the answer is the place after it.
+// n in decimal at `at`, without leading zeros; the answer is the place after it. The digits before the last come first,
+// so it calls itself for them: a loop would need a buffer of digits, put the other way round.
 // Rules out: the lowest digit first; a number of one digit with a 0 before it.
 pub fn put_decimal(out: &mut [u8], at: usize, n: u64) -> usize
     requires { at + length (numeral n) ≤ length out.old }
@@ -40,18 +41,17 @@ pub fn put_decimal(out: &mut [u8], at: usize, n: u64) -> usize
 
 // ---- a byte in hexadecimal
 
+#[tactic(auto, unfolding(model::specs::Lister::hex_digit))]
 fn hex_digit(n: u8) -> u8
     requires { n < 16 }
     ensures { result ≡ hex_digit n }
 {
-    if n < 10 {
-        return b'0' + n;
-    }
-    b'A' + (n - 10)
+    if n < 10 { b'0' + n } else { b'A' + (n - 10) }
 }
 
 // A byte as two hexadecimal digits at `at`; the answer is the place after them.
 // Rules out: small letters; one digit for a byte below 16.
+#[tactic(auto, unfolding(model::specs::Lister::hex_byte))]
 pub fn put_hex(out: &mut [u8], at: usize, b: u8) -> usize
     requires { at + 2 ≤ length out.old }
     ensures { Wrote out.old at (hex_byte b) out.new result }
@@ -87,8 +87,9 @@ pub const LINE: usize = 53;
 
 // The line of a refusal, over the output's start; the answer is its length.
 // Rules out: the place before the number; the newline left out.
+#[tactic(auto, unfolding(model::specs::Lister::refusal, model::specs::Text::text))]
 pub fn put_refusal(out: &mut [u8], number: u64, place: u64) -> usize
-    requires { 53 ≤ length out.old }
+    requires { LINE ≤ length out.old }
     ensures { Wrote out.old 0 (refusal number place) out.new result }
 {
     put_line(out, b"refused ", number, b" at ", place, b"\n")

@@ -1,25 +1,15 @@
 // Reads a forest from standard input and writes the bytes of its tree to standard output. A refusal is a line on
 // standard error, and nothing is written. Of a forest over 65,535 bytes 65,536 are read: it is refused for its length.
 // A read or a write that fails ends the program with its error.
-// In order: the line of a refusal; what is written for a forest; the program, over any input and outputs.
+// In order: what is written for a forest; the program, over any input and outputs.
 #![tactic(auto)]
 
 ghost use Rattle.std.specs.Prelude.{take, OnOk, IfSome};
 ghost use Rattle.std.specs.Io.KnownBytes.{Appends};
-ghost use Rattle.model.specs.Lister.{refusal};
 ghost use Rattle.tree.specs.Written as written;
 
-use cse::Answer;
 use std::io;
 use std::io::{Read, Write};
-
-fn print_refusal<W: Write>(errors: &mut W, number: u32, place: u32) -> io::Result<()>
-    ensures { OnOk result (Appends (W.contents errors.old) (W.contents errors.new) (refusal number place)) }
-{
-    let mut line = [0u8; text::LINE];
-    let n = text::put_refusal(&mut line, number as u64, place as u64);
-    errors.write_all(&line[..n])
-}
 
 // What is written for a forest.
 // Rules out: the root's own bytes; a byte past the tree's; bytes of a forest that is refused.
@@ -30,11 +20,11 @@ fn answer<O: Write, E: Write>(forest: &[u8], output: &mut O, errors: &mut E) -> 
     let mut out = [0u8; 65535];
     let mut work = [0u32; 16384];
     match cse::cse(forest, &mut out, &mut work) {
-        Answer::Written(length, _, _) => {
-            let k = length as usize;
-            output.write_all(&out[..k])
+        Ok(w) => {
+            let length = w.length as usize;
+            output.write_all(&out[..length])
         }
-        Answer::Refused(number, place) => print_refusal(errors, number, place),
+        Err(r) => streams::write_refusal(errors, r),
     }
 }
 

@@ -1,19 +1,20 @@
 -- One walk for all four checks: where it finds nothing, no check finds anything.
 -- In order: a test that another implies; the tests of a record; the walks.
 -- Assumes nothing.
-use Prim.Native.Nat.{ℕ}
-use mathlib.Core.Path.{◌≡◌, refl}
-use mathlib.Core.Bool.{Bool, true, false, ◌||◌}
+use mathlib.Core.Path.{◌≡◌}
+use mathlib.Core.Bool.{Bool, false, ◌||◌}
 use Rattle.std.specs.Prelude.{None}
-use lib.Dec.{eqb, ltb}
+use lib.Dec.{ltb}
 use Rattle.model.specs.Lists.{first}
 use Rattle.model.specs.Tree.{Rec, Tree, Trees, node, nil, cons}
 use Rattle.model.specs.Faults.{Check, faults, faults_in}
 use Rattle.model.specs.Binding.{misplaced_at, rebound_at, unbound_at}
-use Rattle.laws.proofs.Apart.{true_false}
+use Rattle.laws.proofs.Members.{or_neither}
 use Rattle.laws.specs.Clear.{Clear}
 use Rattle.laws.proofs.Clear.{clear_head, clear_tail, clear_cons, first_clear, clear_first}
-use Rattle.walk.specs.Faults.{Ctx, start, testing, any_at, test, check_by}
+use Rattle.walk.specs.declared.Test.{Test}
+use Rattle.walk.specs.declared.Test.TheVariants.{Any, Depth, Definitions, Bindings, Uses}
+use Rattle.walk.specs.Faults.{Ctx, start, testing, any_at, test_at, check_by}
 
 -- ---- where q is false wherever p is, a walk that p leaves clear is clear for q
 
@@ -38,37 +39,23 @@ module _ (p q : Ctx → Rec → Bool) (covers : (c : Ctx) (r : Rec) → p c r �
 
 -- ---- the tests of a record
 
--- where none of the four offends, no number's test does
-any_covers : (n : ℕ) (c : Ctx) (r : Rec) → test 0 c r ≡ false → test n c r ≡ false
-unfolding test any_at
-any_covers n c r =
-    go (eqb n 0) (eqb n 7) (eqb n 8) (eqb n 9) (ltb 64 c.depth) (misplaced_at c.def r)
-    (rebound_at c.ids r) (unbound_at c.ids r)
-  where
-    test_by : Bool → Bool → Bool → Bool → Bool → Bool → Bool → Bool → Bool
-    test_by a b d e p q s t =
-        elim a [
-          | true ↦ p || q || s || t
-          | false ↦ elim b [
-            | true ↦ p
-            | false ↦ elim d [ true ↦ q | false ↦ elim e [ true ↦ s | false ↦ t ] ]
-          ]
-        ]
-
-    go : (a b d e p q s t : Bool) → (p || q || s || t) ≡ false → test_by a b d e p q s t ≡ false
-    go a b d e true q s t h = true_false h
-    go a b d e false true s t h = true_false h
-    go a b d e false false true t h = true_false h
-    go a b d e false false false true h = true_false h
-    go true b d e false false false false h = refl
-    go false true d e false false false false h = refl
-    go false false true e false false false false h = refl
-    go false false false true false false false false h = refl
-    go false false false false false false false false h = refl
+-- where none of the four offends, no single test does
+any_covers : (t : Test) (c : Ctx) (r : Rec) → any_at c r ≡ false → test_at t c r ≡ false
+unfolding any_at
+any_covers t c r h =
+    let uses = or_neither (ltb 64 c.depth || misplaced_at c.def r || rebound_at c.ids r) (unbound_at c.ids r) h in
+    let bindings = or_neither (ltb 64 c.depth || misplaced_at c.def r) (rebound_at c.ids r) uses.0 in
+    let two = or_neither (ltb 64 c.depth) (misplaced_at c.def r) bindings.0 in
+    elim t as (λ z. test_at z c r ≡ false) [
+      | Any ↦ h
+      | Depth ↦ two.0
+      | Definitions ↦ two.1
+      | Bindings ↦ bindings.1
+      | Uses ↦ uses.1
+    ]
 
 -- ---- the walks
 
-pub any_none : (n : ℕ) (ts : Trees) → first (faults_in (check_by 0) ts start) ≡ None →
-    first (faults_in (check_by n) ts start) ≡ None
-any_none n ts e =
-    clear_first _ (clear_trees (test 0) (test n) (any_covers n) ts start (first_clear _ e))
+pub any_none : (t : Test) (ts : Trees) → first (faults_in (check_by Any) ts start) ≡ None →
+    first (faults_in (check_by t) ts start) ≡ None
+any_none t ts e = clear_first _ (clear_trees any_at (test_at t) (any_covers t) ts start (first_clear _ e))

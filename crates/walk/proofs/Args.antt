@@ -1,6 +1,6 @@
 -- A lambda's arguments, put on top one by one: what is left gives the whole.
 -- Assumes nothing.
-use Prim.Native.Nat.{ℕ, suc, ◌+◌, ◌-◌, ◌<◌, ◌≤◌}
+use Prim.Native.Nat.{ℕ, ◌+◌, ◌-◌, ◌<◌, ◌≤◌}
 use mathlib.Core.Path.{◌≡◌, sym, ap, ◌∙◌}
 use mathlib.Core.List.{List, ◌∷◌, ◌++◌, map, append-nil, []}
 use native.Mathlib.Omega.{arith}
@@ -9,11 +9,11 @@ use Rattle.model.specs.Bytes.{u32}
 use Rattle.laws.specs.Stack.{stack_of}
 use Rattle.laws.specs.Frame.{Frame}
 use Rattle.laws.proofs.Frame.{frame_none, frame_then, frame_store}
-use Rattle.shape.specs.Args.{Left, next_arg}
-use Rattle.shape.proofs.Args.{args_none, down_next, down_args}
+use Rattle.shape.specs.Args.{Left, ArgEnd}
+use Rattle.shape.proofs.Args.{args_none, down_id, down_stands, down_next, down_args}
 use Rattle.regions.specs.Regions.{IDS, end}
 use Rattle.walk.specs.Words.{ids_in, arg_ids_at, Bound}
-use Rattle.walk.proofs.Words.{push-one, pushed}
+use Rattle.walk.proofs.Words.{push_one, pushed}
 
 -- of n arguments the last k are still to be put, from `at` on
 pub record Pushing (lit : List ℕ) (n top : ℕ) (ws₀ ws : List ℕ) (at k : ℕ) : Type 0 where
@@ -23,9 +23,9 @@ pub record Pushing (lit : List ℕ) (n top : ℕ) (ws₀ ws : List ℕ) (at k : 
   pub kept : Frame top (end IDS) ws₀ ws
 
 module _ (lit : List ℕ) (n top : ℕ) (ws₀ : List ℕ) where
-  pub push-start : Left n lit 0 → Pushing lit n top ws₀ ws₀ 0 n
+  pub push_start : Left n lit 0 → Pushing lit n top ws₀ ws₀ 0 n
   unfolding ids_in stack_of
-  push-start l = record {
+  push_start l = record {
     count = omega arith;
     left = l;
     ids = let e : n - n ≡ 0 = omega arith in rw e;
@@ -34,13 +34,13 @@ module _ (lit : List ℕ) (n top : ℕ) (ws₀ : List ℕ) where
 
   module _ (ws : List ℕ) (at k : ℕ) (h : Pushing lit n top ws₀ ws at k) where
     pub push_turn : (id next : ℕ) → 0 < k → top + n ≤ IDS.size → end IDS ≤ length ws₀ → id ≡ u32 (drop at lit) →
-        next ≡ next_arg lit at →
+        ArgEnd lit at next →
         Pushing lit n top ws₀ (set ws (top + (k - 1)) id) next (k - 1)
     push_turn id next lt few room v e = record {
       count = omega (arith, h.count);
-      left = down_next lt h.left e;
+      left = down_next lt h.left e.is;
       ids =
-          push-one ws top n k id lt h.count (omega (arith, h.kept.long)) (arg_ids_at (k - 1) (drop next lit))
+          push_one ws top n k id lt h.count (omega (arith, h.kept.long)) (arg_ids_at (k - 1) (drop next lit))
           (arg_ids_at n lit)
           (ap (λ (z : List ℕ). ids_in ws (top + k) (n - k) ++ z) (sym step) ∙ h.ids);
       kept =
@@ -49,10 +49,10 @@ module _ (lit : List ℕ) (n top : ℕ) (ws₀ : List ℕ) where
     }
       where
         step : arg_ids_at k (drop at lit) ≡ id ∷ arg_ids_at (k - 1) (drop next lit)
-        step = ap (map (λ (a : ℕ × List ℕ). a.0)) (down_args lt h.left e) ∙ rw v
+        step = ap (map (λ (a : ℕ × List ℕ). a.0)) (down_args lt h.left e.is) ∙ rw v
 
-    pub push-end : k ≤ 0 → n ≤ 15 → Bound ws₀ top (arg_ids_at n lit) ws (top + n)
-    push-end le few = record {
+    pub push_end : k ≤ 0 → n ≤ 15 → Bound ws₀ top (arg_ids_at n lit) ws (top + n)
+    push_end le few = record {
       ids = pushed ws₀ ws top n (arg_ids_at n lit) all h.kept;
       least = omega arith;
       most = omega arith;
@@ -71,3 +71,5 @@ module _ (lit : List ℕ) (n top : ℕ) (ws₀ : List ℕ) where
             let f : n - k ≡ n = omega arith in
             sym (append-nil (ids_in ws top n))
             ∙ (rw (e, f) at (ap (λ (l : List ℕ). ids_in ws (top + k) (n - k) ++ l) (sym none_left) ∙ h.ids))
+
+pub ruleset pushing = (down_id, down_stands, push_start, push_end)

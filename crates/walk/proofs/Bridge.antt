@@ -124,6 +124,9 @@ module _ (bs : List ℕ) (i : ℕ) (h : WellFormed bs) (l : i < record_count bs)
   pub def_literal : (row_at bs i).rec.shape ≡ 10 → 4 ≤ length (row_at bs i).rec.lit
   def_literal e = (fits_def (row_at bs i) (row_fits bs i h.fit l) e).1
 
+  pub func_few : (row_at bs i).rec.shape ≡ 12 → (row_at bs i).rec.aux ≤ 15
+  func_few e = (fits_func (row_at bs i) (row_fits bs i h.fit l) e).1
+
   pub func_literal : (n : ℕ) (lit : List ℕ) → n ≡ (row_at bs i).rec.aux → lit ≡ (row_at bs i).rec.lit →
       (row_at bs i).rec.shape ≡ 12 → (n ≤ 15) × Left n lit 0
   func_literal n lit e f g =

@@ -9,7 +9,8 @@ use Rattle.model.specs.Tree.{Rec, Tree, Trees, node, nil, cons}
 use Rattle.model.specs.Faults.{Check, faults, faults_in}
 use Rattle.model.specs.Forest.{trees_of, depth_check, check7}
 use Rattle.model.specs.Binding.{place_check, ids_check, rebound_at, unbound_at, check8, check9, check10}
-use Rattle.walk.specs.Faults.{start, test, check_by}
+use Rattle.walk.specs.declared.Test.TheVariants.{Depth, Definitions, Bindings, Uses}
+use Rattle.walk.specs.Faults.{start, check_by}
 
 -- what k knows has a part that goes the way of what l knows, and k looks at that part as l does
 module _ {C D : Type 0} (k : Check C) (l : Check D) (part : C → D)
@@ -33,26 +34,26 @@ module _ {C D : Type 0} (k : Check C) (l : Check D) (part : C → D)
         let b = walks_are ts (k.later t c) ∙ ap (faults_in l ts) (later t c) in
         cc
 
-pub check_7 : (bs : List ℕ) → first (faults_in (check_by 7) (trees_of bs) start) ≡ check7 bs
-unfolding check7 test
+pub check_7 : (bs : List ℕ) → first (faults_in (check_by Depth) (trees_of bs) start) ≡ check7 bs
+unfolding check7
 check_7 bs =
-    ap first (walks_are (check_by 7) depth_check (λ c. c.depth) (λ c r. refl) (λ r c. refl) (λ c ts. refl) (λ t c. refl)
+    ap first (walks_are (check_by Depth) depth_check (λ c. c.depth) (λ c r. refl) (λ r c. refl) (λ c ts. refl) (λ t c. refl)
     (trees_of bs) start)
 
-pub check_8 : (ts : Trees) → first (faults_in (check_by 8) ts start) ≡ check8 ts
-unfolding check8 test
+pub check_8 : (ts : Trees) → first (faults_in (check_by Definitions) ts start) ≡ check8 ts
+unfolding check8
 check_8 ts =
-    ap first (walks_are (check_by 8) place_check (λ c. c.def) (λ c r. refl) (λ r c. refl) (λ c ts. refl) (λ t c. refl)
+    ap first (walks_are (check_by Definitions) place_check (λ c. c.def) (λ c r. refl) (λ r c. refl) (λ c ts. refl) (λ t c. refl)
     ts start)
 
-pub check_9 : (ts : Trees) → first (faults_in (check_by 9) ts start) ≡ check9 ts
-unfolding check9 test
+pub check_9 : (ts : Trees) → first (faults_in (check_by Bindings) ts start) ≡ check9 ts
+unfolding check9
 check_9 ts =
-    ap first (walks_are (check_by 9) (ids_check rebound_at) (λ c. c.ids) (λ c r. refl) (λ r c. refl) (λ c ts. refl)
+    ap first (walks_are (check_by Bindings) (ids_check rebound_at) (λ c. c.ids) (λ c r. refl) (λ r c. refl) (λ c ts. refl)
     (λ t c. refl) ts start)
 
-pub check_10 : (ts : Trees) → first (faults_in (check_by 10) ts start) ≡ check10 ts
-unfolding check10 test
+pub check_10 : (ts : Trees) → first (faults_in (check_by Uses) ts start) ≡ check10 ts
+unfolding check10
 check_10 ts =
-    ap first (walks_are (check_by 10) (ids_check unbound_at) (λ c. c.ids) (λ c r. refl) (λ r c. refl) (λ c ts. refl)
+    ap first (walks_are (check_by Uses) (ids_check unbound_at) (λ c. c.ids) (λ c r. refl) (λ r c. refl) (λ c ts. refl)
     (λ t c. refl) ts start)

@@ -4,7 +4,7 @@
 use Prim.Native.Nat.{ℕ, zero, suc, ◌+◌, ◌-◌, ◌<◌, ◌≤◌}
 use mathlib.Core.Path.{◌≡◌, refl, sym, ap, ◌∙◌}
 use mathlib.Core.Bool.{Bool, true, false, not, ◌&&◌}
-use Rattle.std.specs.Prelude.{Option, None, Some}
+use Rattle.std.specs.Prelude.{Option, None, Some, Ok}
 use mathlib.Core.List.{List, ◌∷◌, ◌++◌, []}
 use native.Mathlib.Omega.{arith}
 use borrow.Author.Tests.{lt-ltb, le-ltb}
@@ -16,7 +16,6 @@ use Rattle.model.specs.Faults.{Check, faults, faults_in}
 use Rattle.model.specs.Forest.{record_count}
 use Rattle.laws.proofs.Apart.{some_none}
 use Rattle.laws.proofs.Clear.{faults_length}
-use Rattle.walk.specs.declared.Walk.TheVariants.{Next}
 use Rattle.walk.specs.Faults.{Ctx, testing}
 use Rattle.walk.specs.Walk.{trees_from, rest_at, tree_at, shift, Comes}
 use Rattle.walk.proofs.Bridge.{trees_at}
@@ -149,7 +148,7 @@ module _ (bs : List ℕ) (p : Ctx → Rec → Bool) (i count : ℕ) (c : Ctx) wh
   module _ (j left : ℕ) (d : Ctx) (h : Remains bs p i count c j left d) where
     pub remains_end : left ≤ 0 →
         (None ≡ shift i (first (faults_in (testing p) (take_t count (trees_from bs i)) c))) × Comes bs i
-        (sizes (take_t count (trees_from bs i))) (drop_t count (trees_from bs i)) (Next j)
+        (sizes (take_t count (trees_from bs i))) (drop_t count (trees_from bs i)) (Ok j)
     unfolding take_t drop_t faults size first
     remains_end l =
         let e : left ≡ 0 = omega arith in (

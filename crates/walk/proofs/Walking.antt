@@ -5,6 +5,8 @@ use Prim.Native.Nat.{ℕ, suc, ◌+◌, ◌-◌, ◌*◌, ◌<◌, ◌≤◌}
 use mathlib.Core.Path.{◌≡◌, refl, sym, ap, ◌∙◌, subst}
 use mathlib.Core.Bool.{Bool, true, false}
 use mathlib.Core.List.{List, ◌++◌}
+use Rattle.std.specs.Prelude.{Option, Result, Ok, Err, IfSome}
+use Rattle.std.specs.Result.{result_err}
 use native.Mathlib.Omega.{arith}
 use lib.Dec.{eqb}
 use Rattle.model.specs.Lists.{first}
@@ -12,6 +14,7 @@ use Rattle.model.specs.Tree.{Trees, nil, cons, many, take_t, drop_t, size, sizes
 use Rattle.model.specs.Faults.{faults_in}
 use Rattle.model.specs.Forest.{record_count, tree_count, trees_of}
 use Rattle.model.specs.Binding.{inside, after}
+use Rattle.laws.proofs.Header.{header_of}
 use Rattle.laws.proofs.Trees.{size_some}
 use Rattle.laws.specs.Stack.{stack_of}
 use Rattle.laws.specs.Frame.{Frame}
@@ -19,15 +22,13 @@ use Rattle.laws.proofs.Frame.{frame_none, frame_inside}
 use Rattle.record.specs.Record.{row_at}
 use Rattle.regions.specs.Regions.{IDS, end}
 use Rattle.walk.specs.declared.Context.{Context}
-use Rattle.walk.specs.declared.Place.TheVariants.{At, Nowhere}
-use Rattle.walk.specs.declared.Walk.{Walk}
-use Rattle.walk.specs.declared.Walk.TheVariants.{Next, Fault}
-use Rattle.walk.specs.Faults.{Ctx, start, test, check_by}
+use Rattle.walk.specs.declared.Test.{Test}
+use Rattle.walk.specs.Faults.{Ctx, start, test_at, check_by}
 use Rattle.walk.specs.Words.{ids_of, Bound, ctx_of, child_of}
-use Rattle.walk.specs.Walk.{trees_from, kid_trees_at, rest_at, tree_at, WellFormed, CanStand, fault_of, shift, Comes}
+use Rattle.walk.specs.Walk.{trees_from, kid_trees_at, rest_at, tree_at, WellFormed, CanStand, shift, Comes}
 use Rattle.walk.specs.Walk.{Walked, WalkedIn, Checked}
-use Rattle.walk.proofs.Words.{ids_kept}
-use Rattle.walk.proofs.Bridge.{trees_left, trees_all, tree_count_lem}
+use Rattle.walk.proofs.Words.{ids_kept, bound_own}
+use Rattle.walk.proofs.Bridge.{trees_left, trees_all, tree_count_lem, kids_there, records_few, ids_room}
 use Rattle.walk.proofs.Steps.{shift_zero, node_offends, node_passes, Remains, remains_start, remains_end}
 use Rattle.walk.proofs.Steps.{remains_offends}
 use Rattle.walk.proofs.Steps.{remains_turn}
@@ -45,7 +46,7 @@ within : (top top' : ℕ) (a b c : List ℕ) → top ≤ top' → Frame top (end
     Frame top (end IDS) a c
 within top top' a b c l p q = frame_inside top (end IDS) top' (end IDS) a b c p q l (omega arith)
 
-walked_none : (bs : List ℕ) (n i : ℕ) (at : Context) (ws : List ℕ) → WalkedIn bs n i 0 at ws ws (Next i)
+walked_none : (bs : List ℕ) (n : Test) (i : ℕ) (at : Context) (ws : List ℕ) → WalkedIn bs n i 0 at ws ws (Ok i)
 unfolding take_t drop_t sizes faults_in first
 walked_none bs n i at ws = record {
   fault = refl;
@@ -53,14 +54,14 @@ walked_none bs n i at ws = record {
   kept = frame_none at.top (end IDS) ws;
 }
 
-module _ (bs : List ℕ) (n i : ℕ) (at : Context) (ws : List ℕ) where
-  pub subtree_offends : (ws' : List ℕ) (b : Bool) → b ≡ test n (ctx_of ws' at) (row_at bs i).rec → b ≡ true →
-      Frame at.top (end IDS) ws ws' → Walked bs n i at ws ws' (Fault i)
-  subtree_offends ws' b e t h = record {
+module _ (bs : List ℕ) (n : Test) (i : ℕ) (at : Context) (ws : List ℕ) where
+  pub subtree_offends : (ws' : List ℕ) (b : Bool) → i < record_count bs → b ≡ test_at n (ctx_of ws' at) (row_at bs i).rec → b ≡ true →
+      Frame at.top (end IDS) ws ws' → Walked bs n i at ws ws' (Err i)
+  subtree_offends ws' b l e t h = record {
     fault =
         node_offends (check_by n) i (row_at bs i).rec (kid_trees_at bs i) (ctx_of ws at)
-        (ap (λ (z : Ctx). test n z (row_at bs i).rec) (sym (stands_kept ws ws' at h)) ∙ sym e ∙ t);
-    comes = tt;
+        (ap (λ (z : Ctx). test_at n z (row_at bs i).rec) (sym (stands_kept ws ws' at h)) ∙ sym e ∙ t);
+    comes = l;
     kept = h;
   }
 
@@ -73,8 +74,8 @@ module _ (bs : List ℕ) (n i : ℕ) (at : Context) (ws : List ℕ) where
       ctx_of ws' (below (eqb s 11) end) ≡ (check_by n).inner (row_at bs i).rec (ctx_of ws at)
   below_is ws' s end e f = let z : at.depth + 1 ≡ suc at.depth = omega arith in rw (e, f, z)
 
-  pub subtree_passes : (ws₁ ws₂ : List ℕ) (b : Bool) (s kids end : ℕ) (r : Walk) →
-      Bound ws at.top (inside (row_at bs i).rec) ws₁ end → b ≡ test n (ctx_of ws₁ at) (row_at bs i).rec → b ≡ false →
+  pub subtree_passes : (ws₁ ws₂ : List ℕ) (b : Bool) (s kids end : ℕ) (r : Result ℕ ℕ) →
+      Bound ws at.top (inside (row_at bs i).rec) ws₁ end → b ≡ test_at n (ctx_of ws₁ at) (row_at bs i).rec → b ≡ false →
       s ≡ (row_at bs i).rec.shape → kids ≡ (row_at bs i).kids →
       WalkedIn bs n (i + 1) kids (below (eqb s 11) end) ws₁ ws₂ r → Walked bs n i at ws ws₂ r
   unfolding kid_trees_at rest_at size
@@ -85,7 +86,7 @@ module _ (bs : List ℕ) (n i : ℕ) (at : Context) (ws : List ℕ) where
         (below_is ws₁ s end g bound.ids)
         ∙ ap (λ (z : ℕ). shift (i + 1) (first (faults_in (check_by n) (take_t z (trees_from bs (i + 1))) under))) h
         ∙ node_passes (check_by n) i (row_at bs i).rec (kid_trees_at bs i) (ctx_of ws at)
-        (ap (λ (z : Ctx). test n z (row_at bs i).rec) (sym (stands_kept ws ws₁ at bound.kept)) ∙ sym e ∙ f);
+        (ap (λ (z : Ctx). test_at n z (row_at bs i).rec) (sym (stands_kept ws ws₁ at bound.kept)) ∙ sym e ∙ f);
     comes = came r w.comes;
     kept = within at.top end ws ws₁ ws₂ bound.least bound.kept w.kept;
   }
@@ -93,19 +94,19 @@ module _ (bs : List ℕ) (n i : ℕ) (at : Context) (ws : List ℕ) where
       under : Ctx
       under = (check_by n).inner (row_at bs i).rec (ctx_of ws at)
 
-      came : (r : Walk) →
+      came : (r : Result ℕ ℕ) →
           Comes bs (i + 1) (sizes (take_t kids (trees_from bs (i + 1)))) (drop_t kids (trees_from bs (i + 1))) r →
           Comes bs i (size (tree_at bs i)) (rest_at bs i) r
-      came (Next j) c = (
+      came (Ok j) c = (
         omega (arith, c.0, ap (λ (z : ℕ). sizes (take_t z (trees_from bs (i + 1)))) h),
         c.1 ∙ ap (λ (z : ℕ). drop_t z (trees_from bs (i + 1))) h,
       )
-      came (Fault p) c = tt
+      came (Err p) c = c
 
   -- a record with no children
   pub subtree_leaf : (ws₁ : List ℕ) (b : Bool) (kids end : ℕ) →
-      Bound ws at.top (inside (row_at bs i).rec) ws₁ end → b ≡ test n (ctx_of ws₁ at) (row_at bs i).rec → b ≡ false →
-      kids ≡ (row_at bs i).kids → kids ≡ 0 → Walked bs n i at ws ws₁ (Next (i + 1))
+      Bound ws at.top (inside (row_at bs i).rec) ws₁ end → b ≡ test_at n (ctx_of ws₁ at) (row_at bs i).rec → b ≡ false →
+      kids ≡ (row_at bs i).kids → kids ≡ 0 → Walked bs n i at ws ws₁ (Ok (i + 1))
   subtree_leaf ws₁ b kids end bound e f h z =
       subtree_passes ws₁ ws₁ b _ 0 end _ bound e f refl (sym z ∙ h) (walked_none bs n (i + 1) _ ws₁)
 
@@ -116,18 +117,18 @@ below_stands i at d end h l = record { shallow = omega (arith, h.shallow); few =
 -- ---- subtrees in a row
 
 -- the walk of `count` trees from record i on has come to record j, with `left` trees left
-pub record Walking (bs : List ℕ) (n i count : ℕ) (at : Context) (ws₀ ws : List ℕ) (j left top : ℕ) : Type 0 where
-  pub trees : Remains bs (test n) i count (ctx_of ws₀ at) j left
+pub record Walking (bs : List ℕ) (n : Test) (i count : ℕ) (at : Context) (ws₀ ws : List ℕ) (j left top : ℕ) : Type 0 where
+  pub trees : Remains bs (test_at n) i count (ctx_of ws₀ at) j left
       (record { depth = at.depth; def = at.def; ids = ids_of ws top })
   pub onward : i ≤ j
   pub more : at.top ≤ top
   pub few : top ≤ 15 * j
   pub kept : Frame at.top (end IDS) ws₀ ws
 
-module _ (bs : List ℕ) (n i count : ℕ) (at : Context) (ws₀ : List ℕ) where
+module _ (bs : List ℕ) (n : Test) (i count : ℕ) (at : Context) (ws₀ : List ℕ) where
   pub walking_start : count ≤ many (trees_from bs i) → CanStand i at → Walking bs n i count at ws₀ ws₀ i count at.top
   walking_start l h = record {
-    trees = remains_start bs (test n) i count (ctx_of ws₀ at) l;
+    trees = remains_start bs (test_at n) i count (ctx_of ws₀ at) l;
     onward = omega arith;
     more = omega arith;
     few = h.few;
@@ -138,9 +139,9 @@ module _ (bs : List ℕ) (n i count : ℕ) (at : Context) (ws₀ : List ℕ) whe
     abbrev d : Ctx
     d = record { depth = at.depth; def = at.def; ids = ids_of ws top }
 
-    pub walking_end : left ≤ 0 → WalkedIn bs n i count at ws₀ ws (Next j)
+    pub walking_end : left ≤ 0 → WalkedIn bs n i count at ws₀ ws (Ok j)
     walking_end l =
-        let e = remains_end bs (test n) i count (ctx_of ws₀ at) j left d h.trees l in
+        let e = remains_end bs (test_at n) i count (ctx_of ws₀ at) j left d h.trees l in
         record { fault = e.0; comes = e.1; kept = h.kept }
 
     module _ (l : 0 < left) where
@@ -153,27 +154,29 @@ module _ (bs : List ℕ) (n i count : ℕ) (at : Context) (ws₀ : List ℕ) whe
           subst (λ (z : Context). CanStand j z) (sym e)
           (record { shallow = omega (arith, s.shallow, h.onward); few = h.few })
 
-      pub walking_offends : (ws₁ : List ℕ) (c : Context) (r : Walk) (p : ℕ) → c ≡ child_of at (left - 1) top →
-          r ≡ Fault p →
-          Walked bs n j c ws ws₁ r → WalkedIn bs n i count at ws₀ ws₁ (Fault p)
+      pub walking_offends : (ws₁ : List ℕ) (c : Context) (r : Result ℕ ℕ) (p : ℕ) → c ≡ child_of at (left - 1) top →
+          r ≡ Err p →
+          Walked bs n j c ws ws₁ r → WalkedIn bs n i count at ws₀ ws₁ (Err p)
       walking_offends ws₁ c r p f e v = record {
         fault =
-            remains_offends bs (test n) i count (ctx_of ws₀ at) j left d h.trees l walking_there p
-            (ap fault_of (sym e) ∙ w.fault);
-        comes = tt;
+            remains_offends bs (test_at n) i count (ctx_of ws₀ at) j left d h.trees l walking_there p
+            (ap result_err (sym e) ∙ w.fault);
+        comes =
+            let there : Comes bs j (size (tree_at bs j)) (rest_at bs j) (Err p) =
+            subst (λ (z : Result ℕ ℕ). Comes bs j (size (tree_at bs j)) (rest_at bs j) z) e w.comes in there;
         kept = within at.top top ws₀ ws ws₁ h.more h.kept w.kept;
       }
         where
           w : Walked bs n j (child_of at (left - 1) top) ws ws₁ r
           w = subst (λ (z : Context). Walked bs n j z ws ws₁ r) f v
 
-      pub walking_turn : (ws₁ ws₂ : List ℕ) (c : Context) (r : Walk) (next top' : ℕ) → c ≡ child_of at (left - 1) top →
-          r ≡ Next next → Walked bs n j c ws ws₁ r → Bound ws₁ top (after (tree_at bs j)) ws₂ top' →
+      pub walking_turn : (ws₁ ws₂ : List ℕ) (c : Context) (r : Result ℕ ℕ) (next top' : ℕ) → c ≡ child_of at (left - 1) top →
+          r ≡ Ok next → Walked bs n j c ws ws₁ r → Bound ws₁ top (after (tree_at bs j)) ws₂ top' →
           Walking bs n i count at ws₀ ws₂ next (left - 1) top'
       walking_turn ws₁ ws₂ c r next top' f e v b = record {
         trees =
-            remains_turn bs (test n) i count (ctx_of ws₀ at) j left d h.trees l walking_there next
-            (record { depth = at.depth; def = at.def; ids = ids_of ws₂ top' }) (ap fault_of (sym e) ∙ w.fault)
+            remains_turn bs (test_at n) i count (ctx_of ws₀ at) j left d h.trees l walking_there next
+            (record { depth = at.depth; def = at.def; ids = ids_of ws₂ top' }) (ap result_err (sym e) ∙ w.fault)
             came.0 came.1
             (ap (λ (z : List ℕ). record { depth = at.depth; def = at.def; ids = z })
             (b.ids ∙ ap (λ (z : List ℕ). after (tree_at bs j) ++ z) (ids_kept top (end IDS) ws ws₁ w.kept)));
@@ -188,8 +191,8 @@ module _ (bs : List ℕ) (n i count : ℕ) (at : Context) (ws₀ : List ℕ) whe
           w : Walked bs n j (child_of at (left - 1) top) ws ws₁ r
           w = subst (λ (z : Context). Walked bs n j z ws ws₁ r) f v
 
-          came : Comes bs j (size (tree_at bs j)) (rest_at bs j) (Next next)
-          came = subst (λ (z : Walk). Comes bs j (size (tree_at bs j)) (rest_at bs j) z) e w.comes
+          came : Comes bs j (size (tree_at bs j)) (rest_at bs j) (Ok next)
+          came = subst (λ (z : Result ℕ ℕ). Comes bs j (size (tree_at bs j)) (rest_at bs j) z) e w.comes
 
           forward : j + 1 ≤ next
           forward = omega (arith, came.0, size_some (tree_at bs j))
@@ -213,16 +216,41 @@ module _ (bs : List ℕ) (count : ℕ) (sound : WellFormed bs) (e : count ≡ tr
       let c : count ≡ many (trees_of bs) = e ∙ sym (tree_count_lem bs sound.closed) in
       rw (c, trees_all bs) (take_all (trees_of bs))
 
-  module _ (n : ℕ) (ws ws' : List ℕ) (r : Walk) where
-    forest_place : WalkedIn bs n 0 count origin ws ws' r → fault_of r ≡ first (faults_in (check_by n) (trees_of bs) start)
+  module _ (n : Test) (ws ws' : List ℕ) (r : Result ℕ ℕ) (w : WalkedIn bs n 0 count origin ws ws' r) where
+    forest_place : result_err r ≡ first (faults_in (check_by n) (trees_of bs) start)
     unfolding ids_of stack_of
-    forest_place w =
+    forest_place =
         w.fault
         ∙ ap (λ (z : Trees). shift 0 (first (faults_in (check_by n) z (ctx_of ws origin)))) trees-whole
         ∙ shift_zero (first (faults_in (check_by n) (trees_of bs) start))
 
-    pub forest_clear : (j : ℕ) → r ≡ Next j → WalkedIn bs n 0 count origin ws ws' r → Checked bs n ws ws' Nowhere
-    forest_clear j f w = record { place = ap fault_of (sym f) ∙ forest_place w; kept = w.kept }
+    forest_low : (r : Result ℕ ℕ) → Comes bs 0 (sizes (take_t count (trees_from bs 0))) (drop_t count (trees_from bs 0)) r →
+        IfSome (result_err r) (λ p. p < record_count bs)
+    forest_low (Ok j) c = tt
+    forest_low (Err p) c = c
 
-    pub forest_fails : (p : ℕ) → r ≡ Fault p → WalkedIn bs n 0 count origin ws ws' r → Checked bs n ws ws' (At p)
-    forest_fails p f w = record { place = ap fault_of (sym f) ∙ forest_place w; kept = w.kept }
+    pub forest_checked : (o : Option ℕ) → o ≡ result_err r → Checked bs n ws ws' o
+    forest_checked o e = record {
+      place = e ∙ forest_place;
+      low = subst (λ (z : Option ℕ). IfSome z (λ p. p < record_count bs)) (sym e) (forest_low r w.comes);
+      kept = w.kept;
+    }
+
+pub ruleset walking = (
+  bound_own,
+  kids_there,
+  records_few,
+  ids_room,
+  below_stands,
+  subtree_offends,
+  subtree_passes,
+  subtree_leaf,
+  walking_start,
+  walking_there,
+  walking_stands,
+  walking_offends,
+  walking_turn,
+  walking_end,
+  header_of,
+  trees_there,
+)

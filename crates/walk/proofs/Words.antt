@@ -1,67 +1,57 @@
 -- Laws of ids in work words. In order: a search for an id; a search for a clash; the words that they hang on; ids that
 -- were put on top.
 -- Assumes nothing.
-use Prim.Native.Nat.{ℕ, suc, ◌+◌, ◌-◌, ◌<◌, ◌≤◌}
-use mathlib.Core.Path.{◌≡◌, sym, ap, ◌∙◌}
-use mathlib.Core.Bool.{true, false, ◌||◌}
+use Prim.Native.Nat.{ℕ, zero, suc, ◌+◌, ◌-◌, ◌<◌, ◌≤◌}
+use mathlib.Core.Path.{◌≡◌, refl, sym, ap, ap₂, ◌∙◌}
+use mathlib.Core.Bool.{false, ◌||◌}
 use mathlib.Core.List.{List, ◌∷◌, ◌++◌, append_assoc, []}
 use native.Mathlib.Omega.{arith}
-use borrow.Author.Tests.{eq-eqb, ne_eqb}
-use lib.ListN.{length, get_or, set}
+use Rattle.std.specs.List.{list_any}
+use Rattle.std.proofs.lemmas.Bool.Decides.{nat_tests}
+use Rattle.std.proofs.lemmas.List.Folds.{list_any_more}
+use Rattle.std.proofs.Math.Bool.{or_comm}
+use lib.Dec.{eqb}
+use lib.ListN.{length, get_or, set, take}
 use lib.Seq.{get_or-set_same, get_or-set_other}
 use Rattle.model.specs.Lists.{is_in}
 use Rattle.laws.specs.Stack.{stack_of}
 use Rattle.laws.specs.Frame.{Frame}
-use Rattle.laws.proofs.Stack.{stack_kept, stack_split, search_none, search_hit, search_miss}
+use Rattle.laws.proofs.Stack.{stack_kept, stack_split}
 use Rattle.laws.proofs.Frame.{frame_none, frame_store}
 use Rattle.regions.specs.Regions.{IDS, end}
 use Rattle.walk.specs.Words.{ids_of, ids_in, clash, Bound}
 
--- ---- a search for an id, from the newest down
+-- ---- a search for an id
 
-module _ (id : ℕ) where
-  here : (x : ℕ) (xs : List ℕ) → x ≡ id → true ≡ is_in id (x ∷ xs)
-  unfolding is_in
-  here x xs e = rw (eq-eqb id x (sym e))
+turned : (a b : ℕ) → eqb a b ≡ eqb b a
+turned a b = grind (arith, nat_tests)
 
-  there : (x : ℕ) (xs : List ℕ) → (x ≡ id → ⊥) → is_in id xs ≡ is_in id (x ∷ xs)
-  unfolding is_in
-  there x xs n = rw (ne_eqb id x (λ e. n (sym e)))
-
-  module _ (ws : List ℕ) (k : ℕ) where
-    pub ids_end : k ≤ 0 → false ≡ is_in id (ids_of ws k)
-    unfolding ids_of is_in
-    ids_end = search_none (λ j. get_or ws j 0) (is_in id) (λ x. x ≡ id) (λ x. true) here there k
-
-    pub ids_hit : 0 < k → get_or ws (k - 1) 0 ≡ id → true ≡ is_in id (ids_of ws k)
-    unfolding ids_of
-    ids_hit = search_hit (λ j. get_or ws j 0) (is_in id) (λ x. x ≡ id) (λ x. true) here there k
-
-    pub ids_miss : 0 < k → (get_or ws (k - 1) 0 ≡ id → ⊥) → is_in id (ids_of ws (k - 1)) ≡ is_in id (ids_of ws k)
-    unfolding ids_of
-    ids_miss = search_miss (λ j. get_or ws j 0) (is_in id) (λ x. x ≡ id) (λ x. true) here there k
+pub ids_found : (id : ℕ) (ws : List ℕ) (k : ℕ) → k ≤ length ws →
+    list_any (λ y. eqb y id) (take k ws) ≡ is_in id (ids_of ws k)
+unfolding ids_of stack_of is_in
+ids_found id ws zero l = refl
+ids_found id ws (suc k) l =
+    let e : suc k ≡ k + 1 = omega arith in
+    ap (λ (n : ℕ). list_any (λ y. eqb y id) (take n ws)) e
+    ∙ list_any_more (λ y. eqb y id) ws k 0 (omega arith)
+    ∙ or_comm (list_any (λ y. eqb y id) (take k ws)) (eqb (get_or ws k 0) id)
+    ∙ ap₂ ◌||◌ (turned (get_or ws k 0) id) (ids_found id ws k (omega arith))
 
 -- ---- a search for a clash, from the newest down
 
-module _ (ws : List ℕ) (top : ℕ) where
-  pub clash-end : (k : ℕ) → k ≤ top → clash ws top (k - top) ≡ false
-  unfolding clash
-  clash-end k le = let e : k - top ≡ 0 = omega arith in rw e
+pub clash_none : (ws : List ℕ) (top k : ℕ) → k ≤ top → clash ws top (k - top) ≡ false
+unfolding clash
+clash_none ws top k l = let e : k - top ≡ 0 = omega arith in rw e
 
-  clash-one : (k : ℕ) → top < k →
-      clash ws top (k - top) ≡ (is_in (get_or ws (k - 1) 0) (ids_of ws (k - 1)) || clash ws top (k - 1 - top))
-  unfolding clash
-  clash-one k lt =
-      let e : k - top ≡ suc (k - 1 - top) = omega arith in
-      let f : top + (k - 1 - top) ≡ k - 1 = omega arith in
-      rw (e, f)
+pub clash_turn : (ws : List ℕ) (top k : ℕ) → top < k →
+    clash ws top (k - top) ≡ (is_in (get_or ws (k - 1) 0) (ids_of ws (k - 1)) || clash ws top (k - 1 - top))
+unfolding clash
+clash_turn ws top k l =
+    let e : k - top ≡ suc (k - 1 - top) = omega arith in
+    let f : top + (k - 1 - top) ≡ k - 1 = omega arith in
+    rw (e, f)
 
-  pub clash_hit : (k : ℕ) → top < k → true ≡ is_in (get_or ws (k - 1) 0) (ids_of ws (k - 1)) → clash ws top (k - top) ≡ true
-  clash_hit k lt h = rw (clash-one k lt, ← h)
-
-  pub clash_miss : (k : ℕ) → top < k → false ≡ is_in (get_or ws (k - 1) 0) (ids_of ws (k - 1)) →
-      clash ws top (k - top) ≡ clash ws top (k - 1 - top)
-  clash_miss k lt h = rw (clash-one k lt, ← h)
+pub ruleset clashing = (clash_none, clash_turn)
 
 -- ---- the words that they hang on
 
@@ -88,9 +78,9 @@ ids_one ws at v m room =
     rw f (get_or-set_other ws at (at + 1 + j) v 0 (λ e. omega arith)))))
 
 module _ (ws : List ℕ) (top n k v : ℕ) (some_left : 0 < k) (few : k ≤ n) (room : top + n ≤ length ws) where
-  pub push-one : (rest all : List ℕ) → ids_in ws (top + k) (n - k) ++ (v ∷ rest) ≡ all →
+  pub push_one : (rest all : List ℕ) → ids_in ws (top + k) (n - k) ++ (v ∷ rest) ≡ all →
       ids_in (set ws (top + (k - 1)) v) (top + (k - 1)) (n - (k - 1)) ++ rest ≡ all
-  push-one rest all h =
+  push_one rest all h =
       let e : n - (k - 1) ≡ suc (n - k) = omega arith in
       let f : top + (k - 1) + 1 ≡ top + k = omega arith in
       rw (e, ids_one ws (top + (k - 1)) v (n - k) (omega arith), f, append_assoc) h
@@ -111,10 +101,10 @@ bound_none ws top more e = record {
   kept = frame_none top (end IDS) ws;
 }
 
-pub bound-one : (ws : List ℕ) (top id : ℕ) (more : List ℕ) → more ≡ id ∷ [] → top < IDS.size → end IDS ≤ length ws →
+pub bound_one : (ws : List ℕ) (top id : ℕ) (more : List ℕ) → more ≡ id ∷ [] → top < IDS.size → end IDS ≤ length ws →
     Bound ws top more (set ws top id) (top + 1)
 unfolding ids_of stack_of
-bound-one ws top id more e l m = record {
+bound_one ws top id more e l m = record {
   ids =
       let z : top + 1 ≡ suc top = omega arith in
       rw (e, z, get_or-set_same ws top id 0 (omega arith), ids_kept top (end IDS) ws (set ws top id) kept);
@@ -127,6 +117,6 @@ bound-one ws top id more e l m = record {
     kept = frame_store top (end IDS) top id ws (omega arith) l
 
 -- what was put on top stands before what was there
-pub bound-own : (ws : List ℕ) (top : ℕ) (more ws' : List ℕ) (r : ℕ) → Bound ws top more ws' r →
+pub bound_own : (ws : List ℕ) (top : ℕ) (more ws' : List ℕ) (r : ℕ) → Bound ws top more ws' r →
     ids_of ws' r ≡ more ++ ids_of ws' top
-bound-own ws top more ws' r h = h.ids ∙ ap (λ (z : List ℕ). more ++ z) (sym (ids_kept top (end IDS) ws ws' h.kept))
+bound_own ws top more ws' r h = h.ids ∙ ap (λ (z : List ℕ). more ++ z) (sym (ids_kept top (end IDS) ws ws' h.kept))

@@ -1,9 +1,11 @@
 -- Checks 7 to 10 as tests of one walk, which knows of a record all that they have to know; and a test for all four.
 -- In order: where a record stands; the tests.
 -- Assumes nothing.
-use Rattle.std.specs.Prelude.{ℕ, suc, Bool, true, false, not, ◌&&◌, ◌||◌, List, ◌++◌, [], eqb, ltb}
+use Rattle.std.specs.Prelude.{ℕ, suc, Bool, false, not, ◌&&◌, ◌||◌, List, ◌++◌, [], ltb}
 use Rattle.model.specs.Tree.{Rec, is_nil}
 use Rattle.model.specs.Faults.{Check}
+use Rattle.walk.specs.declared.Test.{Test}
+use Rattle.walk.specs.declared.Test.TheVariants.{Any, Depth, Definitions, Bindings, Uses}
 use Rattle.model.specs.Binding.{is_block, inside, after, misplaced_at, rebound_at, unbound_at}
 
 -- ---- where a record stands
@@ -34,23 +36,14 @@ testing test = record {
 unfoldable pub any_at : Ctx → Rec → Bool
 any_at c r = ltb 64 c.depth || misplaced_at c.def r || rebound_at c.ids r || unbound_at c.ids r
 
--- by a check's number: 7, 8, 9 and, for any other, 10; 0: any of them
-unfoldable pub test : ℕ → Ctx → Rec → Bool
-test n c r =
-    elim (eqb n 0) [
-      | true ↦ any_at c r
-      | false ↦ elim (eqb n 7) [
-        | true ↦ ltb 64 c.depth
-        | false ↦ elim (eqb n 8) [
-          | true ↦ misplaced_at c.def r
-          | false ↦ elim (eqb n 9) [
-            | true ↦ rebound_at c.ids r
-            | false ↦ unbound_at c.ids r
-          ]
-        ]
-      ]
-    ]
+-- each of them
+abbrev pub test_at : Test → Ctx → Rec → Bool
+test_at Any c r = any_at c r
+test_at Depth c r = ltb 64 c.depth
+test_at Definitions c r = misplaced_at c.def r
+test_at Bindings c r = rebound_at c.ids r
+test_at Uses c r = unbound_at c.ids r
 
--- the check of a number
-abbrev pub check_by : ℕ → Check Ctx
-check_by n = testing (test n)
+-- the check of a test
+abbrev pub check_by : Test → Check Ctx
+check_by t = testing (test_at t)

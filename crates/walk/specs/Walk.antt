@@ -1,19 +1,17 @@
 -- The walk by record number: the trees from a record on, and what walking one of them, or several, gives.
 -- In order: trees by record number; what a walk requires; places; what a walk ensures.
 -- Assumes nothing.
-use Rattle.std.specs.Prelude.{ℕ, ◌+◌, ◌*◌, ◌≤◌, ◌≡◌, List, drop, Option, None, Some}
+use Rattle.std.specs.Prelude.{ℕ, ◌+◌, ◌*◌, ◌<◌, ◌≤◌, ◌≡◌, List, drop, Option, None, Some, IfSome, Result, Ok, Err}
+use Rattle.std.specs.Result.{result_err}
 use Rattle.model.specs.Lists.{first}
 use Rattle.model.specs.Tree.{Rec, Tree, Trees, node, take_t, drop_t, size, sizes, grow}
 use Rattle.model.specs.Faults.{faults, faults_in}
-use Rattle.model.specs.Forest.{rows_in, trees_of, check4, check6}
+use Rattle.model.specs.Forest.{record_count, rows_in, trees_of, check4, check6}
 use Rattle.laws.specs.Frame.{Frame}
 use Rattle.record.specs.Record.{Laid, row_at}
 use Rattle.regions.specs.Regions.{IDS, end}
 use Rattle.walk.specs.declared.Context.{Context}
-use Rattle.walk.specs.declared.Place.{Place}
-use Rattle.walk.specs.declared.Place.TheVariants.{At, Nowhere}
-use Rattle.walk.specs.declared.Walk.{Walk}
-use Rattle.walk.specs.declared.Walk.TheVariants.{Next, Fault}
+use Rattle.walk.specs.declared.Test.{Test}
 use Rattle.walk.specs.Faults.{start, check_by}
 use Rattle.walk.specs.Words.{ctx_of}
 
@@ -52,14 +50,6 @@ pub record CanStand (i : ℕ) (c : Context) : Type 0 where
 
 -- ---- places
 
-abbrev pub place_of : Place → Option ℕ
-place_of (At p) = Some p
-place_of Nowhere = None
-
-abbrev pub fault_of : Walk → Option ℕ
-fault_of (Next j) = None
-fault_of (Fault p) = Some p
-
 -- a place counted from i on
 abbrev pub shift : ℕ → Option ℕ → Option ℕ
 shift i None = None
@@ -67,24 +57,25 @@ shift i (Some p) = Some (i + p)
 
 -- ---- what a walk ensures
 
--- the walk of so many records from i on comes to the record where `rest` starts
-abbrev pub Comes : List ℕ → ℕ → ℕ → Trees → Walk → Type 0
-Comes bs i n rest (Next j) = (j ≡ i + n) × (trees_from bs j ≡ rest)
-Comes bs i n rest (Fault p) = Unit {0}
+-- the walk of so many records from i on comes to the record where `rest` starts, or to one of the forest that offends
+abbrev pub Comes : List ℕ → ℕ → ℕ → Trees → Result ℕ ℕ → Type 0
+Comes bs i n rest (Ok j) = (j ≡ i + n) × (trees_from bs j ≡ rest)
+Comes bs i n rest (Err p) = p < record_count bs
 
 -- the walk of record i's subtree
-pub record Walked (bs : List ℕ) (n i : ℕ) (c : Context) (ws ws' : List ℕ) (r : Walk) : Type 0 where
-  pub fault : fault_of r ≡ shift i (first (faults (check_by n) (tree_at bs i) (ctx_of ws c)))
+pub record Walked (bs : List ℕ) (t : Test) (i : ℕ) (c : Context) (ws ws' : List ℕ) (r : Result ℕ ℕ) : Type 0 where
+  pub fault : result_err r ≡ shift i (first (faults (check_by t) (tree_at bs i) (ctx_of ws c)))
   pub comes : Comes bs i (size (tree_at bs i)) (rest_at bs i) r
   pub kept : Frame c.top (end IDS) ws ws'
 
 -- the walk of `count` trees from record i on
-pub record WalkedIn (bs : List ℕ) (n i count : ℕ) (c : Context) (ws ws' : List ℕ) (r : Walk) : Type 0 where
-  pub fault : fault_of r ≡ shift i (first (faults_in (check_by n) (take_t count (trees_from bs i)) (ctx_of ws c)))
+pub record WalkedIn (bs : List ℕ) (t : Test) (i count : ℕ) (c : Context) (ws ws' : List ℕ) (r : Result ℕ ℕ) : Type 0 where
+  pub fault : result_err r ≡ shift i (first (faults_in (check_by t) (take_t count (trees_from bs i)) (ctx_of ws c)))
   pub comes : Comes bs i (sizes (take_t count (trees_from bs i))) (drop_t count (trees_from bs i)) r
   pub kept : Frame c.top (end IDS) ws ws'
 
--- the walk of a forest's trees
-pub record Checked (bs : List ℕ) (n : ℕ) (ws ws' : List ℕ) (r : Place) : Type 0 where
-  pub place : place_of r ≡ first (faults_in (check_by n) (trees_of bs) start)
+-- the walk of a forest's trees: a place is a record's number
+pub record Checked (bs : List ℕ) (t : Test) (ws ws' : List ℕ) (r : Option ℕ) : Type 0 where
+  pub place : r ≡ first (faults_in (check_by t) (trees_of bs) start)
+  pub low : IfSome r (λ p. p < record_count bs)
   pub kept : Frame IDS.first (end IDS) ws ws'

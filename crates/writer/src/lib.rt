@@ -23,10 +23,8 @@ pub fn put_fixed(out: &mut [u8], at: usize, shape: u8, opcode: u8, kids: usize, 
     requires kids_bound { kids < 65536 }
     ensures { Wrote out.old at (fixed shape opcode kids aux) out.new result }
 {
-    let b = output::put_byte(out, at, shape);
-    let c = output::put_byte(out, b, opcode);
-    let d = output::put_16(out, c, kids);
-    output::put_byte(out, d, aux)
+    let [low, high] = (kids as u16).to_le_bytes();
+    output::put_bytes(out, at, &[shape, opcode, low, high, aux])
 }
 
 // The forest's record i at `at`, as it stands; the answer is the place after it.
@@ -37,18 +35,23 @@ pub fn put_copy(forest: &[u8], out: &mut [u8], at: usize, i: u32) -> usize
     requires i_in_bounds { at + row_len (row_for forest.now (Copy i)) ≤ length out.old }
     ensures { Wrote out.old at (row_bytes (row_for forest.now (Copy i))) out.new result }
 {
-    // the fixed bytes one by one: most records have no more, and a loop costs more than it copies
     let j = i as usize;
     let shape = record::shape(forest, j);
     let opcode = record::opcode(forest, j);
     let kids = record::kids(forest, j);
     let aux = record::aux(forest, j);
     let next = put_fixed(out, at, shape, opcode, kids, aux);
-    output::put_bytes(out, next, record::literal(forest, j))
+    let literal = record::literal(forest, j);
+    // most records have none, and to copy nothing is a call too
+    if literal.is_empty() {
+        return next;
+    }
+    output::put_bytes(out, next, literal)
 }
 
 // A SelectField of this field at `at`; the answer is the place after it.
 // Rules out: the field as aux; the record without a child.
+#[tactic(auto, unfolding(crate::specs::Writer::fixed, model::specs::Bytes::put16))]
 pub fn put_field(out: &mut [u8], at: usize, field: u8) -> usize
     requires { at + 6 ≤ length out.old }
     ensures { Wrote out.old at (row_bytes (row_for [] (Field field))) out.new result }
@@ -58,6 +61,7 @@ pub fn put_field(out: &mut [u8], at: usize, field: u8) -> usize
 }
 
 // A use of this id at `at`; the answer is the place after it. Rules out: a definition's shape; the id in two bytes.
+#[tactic(auto, unfolding(crate::specs::Writer::fixed, model::specs::Bytes::put16))]
 pub fn put_val_use(out: &mut [u8], at: usize, id: u32) -> usize
     requires { at + 9 ≤ length out.old }
     ensures { Wrote out.old at (row_bytes (row_for [] (ValUse id))) out.new result }
@@ -68,6 +72,7 @@ pub fn put_val_use(out: &mut [u8], at: usize, id: u32) -> usize
 
 // A definition of this id at `at`, without type; the answer is the place after it.
 // Rules out: a use's shape; the byte of the absent type left out.
+#[tactic(auto, unfolding(crate::specs::Writer::fixed, model::specs::Bytes::put16, model::specs::Bytes::put32))]
 pub fn put_val_def(out: &mut [u8], at: usize, id: u32) -> usize
     requires { at + 10 ≤ length out.old }
     ensures { Wrote out.old at (row_bytes (row_for [] (ValDef id))) out.new result }

@@ -6,6 +6,4 @@ use Rattle.codec.proofs.agrees.Goals as goal
 pub returns : goal.returns
 returns c =
     let a = c.args in
-    agrees-made (row_at a.forest.now a.i).rec _ _ c.shape-shape.ensures
-    c.opcode-opcode.ensures
-    c.agrees.result c.agrees.ensures
+    agrees-made (row_at a.forest.now a.i).rec _ _ c.shape.ensures c.opcode.ensures c.agrees.result c.agrees.ensures

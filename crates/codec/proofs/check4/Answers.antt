@@ -1,31 +1,19 @@
 -- `codec::check4` meets its contract. Assumes nothing.
-use mathlib.Core.Path.{sym, ap, ◌∙◌}
-use mathlib.Core.Bool.{not}
-use native.Mathlib.Omega.{arith}
-use Rattle.laws.proofs.Header.{header_of}
-use Rattle.codec.proofs.Rows.{start_4, rows_hit, rows_miss, rows_none}
+use mathlib.Core.Path.{◌≡◌}
+use mathlib.Core.Bool.{true, false, not}
+use Rattle.std.proofs.Common.{rules, tests}
+use Rattle.std.proofs.lemmas.Iterator.{first_from_Range}
+use Rattle.model.specs.Shape.{fits}
+use Rattle.model.specs.Forest.{check4}
+use Rattle.record.specs.Record.{row_at}
+use Rattle.codec.proofs.Rows.{first_row}
 use Rattle.codec.proofs.check4.Goals as goal
 
-pub returns-then-not-fits : goal.returns-then-not-fits
-returns-then-not-fits c =
-    rows_hit c.loop-i.invariant c.loop-i-test.true (ap not (sym c.fits.ensures ∙ c.if-not-fits.true))
-
-pub loop-i-preserved : goal.loop-i-preserved
-loop-i-preserved c =
-    rows_miss c.loop-i.invariant c.loop-i-test.true (ap not (sym c.fits.ensures ∙ c.if-not-fits.false))
-
-pub record_count-n-requires : goal.record_count-n-requires
-record_count-n-requires c =
-    (header_of _ c.requires.header).least
-
-pub loop-i-init : goal.loop-i-init
-loop-i-init c =
-    start_4 _ _ c.requires c.record_count-n.ensures.0
-
-pub fits-requires : goal.fits-requires
-fits-requires c =
-    record { laid = c.loop-i.invariant.laid; i_bound = omega arith }
-
-pub returns : goal.returns
-returns c =
-    rows_none c.loop-i.invariant c.loop-i-test.false
+pub returns-clause-value : goal.returns-clause-value
+unfolding check4
+returns-clause-value c =
+    let bs = c.args.forest.now in
+    let h =
+    first_from_Range _ _ _ c.find.result (λ i. not (fits (row_at bs i)) ≡ true) (λ i. not (fits (row_at bs i)) ≡ false)
+    c.find.ensures.ran (λ x q k. search (rules, tests)) (λ x q k. search (rules, tests)) in
+    first_row (λ r. not (fits r)) bs _ (rw c.record_count.ensures.0 at h)

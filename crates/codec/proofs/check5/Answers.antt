@@ -1,31 +1,19 @@
 -- `codec::check5` meets its contract. Assumes nothing.
-use mathlib.Core.Path.{sym, ap, ◌∙◌}
-use mathlib.Core.Bool.{not}
-use native.Mathlib.Omega.{arith}
-use Rattle.laws.proofs.Header.{header_of}
-use Rattle.codec.proofs.Rows.{start_5, rows_hit, rows_miss, rows_none}
+use mathlib.Core.Path.{◌≡◌}
+use mathlib.Core.Bool.{true, false, not}
+use Rattle.std.proofs.Common.{rules, tests}
+use Rattle.std.proofs.lemmas.Iterator.{first_from_Range}
+use Rattle.model.specs.Shape.{agrees}
+use Rattle.model.specs.Forest.{check5}
+use Rattle.record.specs.Record.{row_at}
+use Rattle.codec.proofs.Rows.{first_row}
 use Rattle.codec.proofs.check5.Goals as goal
 
-pub returns-then-not-agrees : goal.returns-then-not-agrees
-returns-then-not-agrees c =
-    rows_hit c.loop-i.invariant c.loop-i-test.true (ap not (sym c.agrees.ensures ∙ c.if-not-agrees.true))
-
-pub loop-i-preserved : goal.loop-i-preserved
-loop-i-preserved c =
-    rows_miss c.loop-i.invariant c.loop-i-test.true (ap not (sym c.agrees.ensures ∙ c.if-not-agrees.false))
-
-pub record_count-n-requires : goal.record_count-n-requires
-record_count-n-requires c =
-    (header_of _ c.requires.header).least
-
-pub loop-i-init : goal.loop-i-init
-loop-i-init c =
-    start_5 _ _ c.requires c.record_count-n.ensures.0
-
-pub agrees-requires : goal.agrees-requires
-agrees-requires c =
-    record { laid = c.loop-i.invariant.laid; i_bound = omega arith }
-
-pub returns : goal.returns
-returns c =
-    rows_none c.loop-i.invariant c.loop-i-test.false
+pub returns-clause-value : goal.returns-clause-value
+unfolding check5
+returns-clause-value c =
+    let bs = c.args.forest.now in
+    let h =
+    first_from_Range _ _ _ c.find.result (λ i. not (agrees (row_at bs i).rec) ≡ true) (λ i. not (agrees (row_at bs i).rec) ≡ false)
+    c.find.ensures.ran (λ x q k. search (rules, tests)) (λ x q k. search (rules, tests)) in
+    first_row (λ r. not (agrees r.rec)) bs _ (rw c.record_count.ensures.0 at h)

@@ -6,7 +6,5 @@ use Rattle.codec.proofs.fits.Goals as goal
 pub returns : goal.returns
 returns c =
     let a = c.args in
-    let r = row_at a.forest.now a.i in
-    fits-made r _ _ _ _ c.shape-shape.ensures
-    c.kids-kids.ensures.0 c.aux-aux.ensures
-    c.literal-lit.ensures c.fits.result c.fits.ensures
+    fits-made (row_at a.forest.now a.i) _ _ _ _ c.shape.ensures c.kids.ensures.0 c.aux.ensures c.literal.ensures
+    c.fits.result c.fits.ensures

@@ -1,7 +1,7 @@
 -- `concluding::field` meets its contract. Assumes nothing.
 use native.Mathlib.Omega.{arith}
 use Rattle.walk.proofs.Bridge.{records_few}
-use Rattle.concluding.proofs.Selecting.{selects_projects, no_branches, pair_answers, other_answers}
+use Rattle.concluding.proofs.Selecting.{selects_projects, pair_answers, other_answers}
 use Rattle.concluding.proofs.field.Goals as goal
 
 pub overflow_cast-i : goal.overflow_cast-i
@@ -22,7 +22,7 @@ returns-then-of_pair c env kids =
 
 pub general-requires : goal.general-requires
 general-requires c =
-    let p = c.requires in record { well_formed = p.well_formed; rep = p.rep; fact = p.fact; concludes = p.selects.concludes; branched = no_branches }
+    let p = c.requires in record { well_formed = p.well_formed; rep = p.rep; fact = p.fact; concludes = p.selects.concludes; branched = tt }
 
 pub returns : goal.returns
 returns c env kids =

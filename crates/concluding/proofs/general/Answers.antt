@@ -5,7 +5,7 @@ use Rattle.concluding.proofs.general.Goals as goal
 pub finish-requires : goal.finish-requires
 finish-requires c =
     let p = c.requires in
-    let q = c.requires in record { laid = p.well_formed.laid; rep = p.rep; fact = p.fact; ready = general_ready c.node_for-node.ensures p.well_formed q.concludes q.branched }
+    let q = c.requires in record { laid = p.well_formed.laid; rep = p.rep; fact = p.fact; ready = general_ready c.args.b c.node_for-node.ensures p.well_formed q.concludes q.branched }
 
 pub returns : goal.returns
 returns c =

@@ -1,4 +1,5 @@
 -- `concluding::reads_again` meets its contract. Assumes nothing.
+use mathlib.Core.Path.{◌∙◌}
 use Rattle.concluding.proofs.Selecting.{again_pair, again_other}
 use Rattle.concluding.proofs.reads_again.Goals as goal
 
@@ -8,8 +9,8 @@ returns-then-of_pair c n lt =
     again_pair a.forest.now a.work.now n a.i a.held c.field_of.ensures c.of_pair.ensures
     c.if-of_pair.true (c.is_tuple.ensures n lt)
 
-pub returns : goal.returns
-returns c n lt =
+pub returns-else-of_pair : goal.returns-else-of_pair
+returns-else-of_pair c n lt =
     let a = c.args in
-    again_other a.forest.now a.work.now n a.i a.held c.field_of.ensures c.of_pair.ensures
     c.if-of_pair.false
+    ∙ again_other a.forest.now a.work.now n a.i a.held c.field_of.ensures c.of_pair.ensures c.if-of_pair.false

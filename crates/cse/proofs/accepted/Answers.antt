@@ -1,62 +1,60 @@
 -- `cse::accepted` meets its contract. Assumes nothing.
-use native.Mathlib.Omega.{arith}
-use mathlib.Core.Path.{refl, subst, sym}
 use Prim.Native.Nat.{ℕ}
+use Rattle.std.specs.Prelude.{Err}
+use Rattle.std.proofs.lemmas.Result.{err_from_is_err_and}
+use mathlib.Core.Path.{refl, subst, sym}
 use Rattle.model.specs.Answer as answer
 use Rattle.model.specs.Forest.{trees_of}
 use Rattle.model.specs.Intern.{State}
 use Rattle.model.specs.Call.{Written, call_of}
-use Rattle.laws.proofs.Frame.{frame_then, frame_wider}
 use Rattle.codec.proofs.Accepting.{accept-passed}
 use Rattle.symbols.proofs.Laws.{syms_length}
 use Rattle.tables.specs.Tables.{new_tables}
 use Rattle.interner.specs.State.{abs_of}
 use Rattle.cse.specs.Call.{Tells}
-use Rattle.cse.proofs.Telling.{tells_refused, intern_refused, intern_good, written-measured}
-use Rattle.cse.proofs.Planning.{held_by}
+use Rattle.cse.proofs.Telling.{no_room, intern_tells, intern_good, written-measured, tells_many}
 use Rattle.cse.proofs.accepted.Goals as goal
 
--- In each answer `b` is the start, `f` the place after the forest is interned, and `p` after its tree is planned.
+pub returns-in_err-root-clause-tells : goal.returns-in_err-root-clause-tells
+returns-in_err-root-clause-tells c =
+    let call = call_of c.args.forest.now c.args.out.now c.args.work.now in
+    let step = c.forest-step in
+    let p = err_from_is_err_and c.from_residual.result c.from_residual.ensures.1 in
+    rw (p.1, p.2)
+    (intern_tells call step.new.work step.result step.ensures.is c.args.out.now c.in_err-root.field-0.0
+    c.in_err-root.was)
 
-pub returns-then-step-ne0 : goal.returns-then-step-ne0
-returns-then-step-ne0 c =
+pub planned-requires-clause-forest_value_2 : goal.planned-requires-clause-forest_value_2
+planned-requires-clause-forest_value_2 c =
+    let call = call_of c.args.forest.now c.args.out.now c.args.work.now in
+    let step = c.forest-step in
+    intern_good call step.new.work step.result step.ensures.is c.in_ok-root.root c.in_ok-root.was
+
+pub write-requires-clause-laid : goal.write-requires-clause-laid
+write-requires-clause-laid c =
+    let bs = c.args.forest.now in (accept-passed bs (trees_of bs) c.requires.forest_value).shaped.sound.laid
+
+pub returns-in-Some-clause-tells : goal.returns-in-Some-clause-tells
+returns-in-Some-clause-tells c =
     let bs = c.args.forest.now in
     let out = c.args.out.now in
-    let r = c.forest-step.result in record {
-      tells = tells_refused _ out r.number r.place
-          (intern_refused (call_of bs out c.args.work.now) c.forest-step.new.work r c.forest-step.ensures.is
-          c.if-step-ne0.true);
-      lent_only = frame_wider _ _ _ _ _ _ c.forest-step.ensures.frame (omega arith) (omega arith);
-      held_after = tt;
-    }
+    let step = c.forest-step in
+    let call = call_of bs out c.args.work.now in
+    let o : ℕ × State = (c.in_ok-root.root, abs_of bs step.new.work new_tables step.result.st) in
+    let is = written-measured call o
+    (intern_good call step.new.work step.result step.ensures.is c.in_ok-root.root c.in_ok-root.was) in
+    subst (λ (a : answer.Answer Written). Tells a out c.write.result c.write.new.out) (sym is)
+    (c.write.ensures.by_index o c.in-Some.ensures.planned.tree
+    (syms_length bs step.new.work step.result.st.symbols) refl)
 
-pub planned-p-requires : goal.planned-p-requires
-planned-p-requires c =
-    record {
-      forest_value = c.requires.forest_value;
-      rep = c.forest-step.ensures.rep;
-      forest_value_2 = intern_good c.args.forest.now c.forest-step.new.work c.forest-step.result c.forest-step.ensures.is
-          c.if-step-ne0.false;
-    }
-
-pub write-requires : goal.write-requires
-write-requires c =
-    let bs = c.args.forest.now in record { laid = (accept-passed bs (trees_of bs) c.requires.forest_value).shaped.sound.laid; plan_writable = c.planned-p.ensures.planned.ready }
-
-pub returns : goal.returns
-returns c =
+pub returns-in-None-clause-tells : goal.returns-in-None-clause-tells
+returns-in-None-clause-tells c =
     let bs = c.args.forest.now in
     let out = c.args.out.now in
-    let ws = c.forest-step.new.work in
-    let r = c.forest-step.result in
-    let o : ℕ × State = (r.symbol, abs_of bs ws new_tables r.st) in
-    let is = written-measured (call_of bs out c.args.work.now) o
-    (intern_good bs ws r c.forest-step.ensures.is c.if-step-ne0.false) in record {
-      tells = subst (λ (a : answer.Answer Written). Tells a out c.write.result
-          c.write.new.out) (sym is)
-          (c.write.ensures.by_index o c.planned-p.ensures.planned.tree (syms_length bs ws r.st.symbols) refl);
-      lent_only = frame_then _ _ _ _ _ (frame_wider _ _ _ _ _ _ c.forest-step.ensures.frame (omega arith) (omega arith))
-          c.planned-p.ensures.planned.kept;
-      held_after = held_by r.st.symbols c.write.result c.write.ensures.counts
-          c.planned-p.ensures.held;
-    }
+    let step = c.forest-step in
+    let call = call_of bs out c.args.work.now in
+    let o : ℕ × State = (c.in_ok-root.root, abs_of bs step.new.work new_tables step.result.st) in
+    let is = written-measured call o
+    (intern_good call step.new.work step.result step.ensures.is c.in_ok-root.root c.in_ok-root.was) in
+    subst (λ (a : answer.Answer Written). Tells a out (Err no_room) out) (sym is)
+    (tells_many o out c.in-None.ensures.planned.tree)

@@ -9,13 +9,11 @@ use Rattle.cse.proofs.Buildable.{arena_countable, root_low, buildable}
 use Rattle.cse.proofs.Planning.{uses_counted, planned_tree, held}
 use Rattle.cse.proofs.planned.Goals as goal
 
--- In each answer `b` is the start and `u` the place after the uses are counted.
-
 pub reach_and_count-requires : goal.reach_and_count-requires
 reach_and_count-requires c =
-    let bs = c.args.forest.now in
-    let ws = c.args.work.now in
-    let st = c.args.st in record { countable = arena_countable c.requires.rep.arena; root_lt_n = omega (arith, root_low bs ws st c.requires.rep c.args.root c.requires.forest_value c.requires.forest_value_2) }
+    let q = c.requires in
+    let low = root_low c.args.forest.now c.args.work.now c.args.st q.rep c.args.root q.forest_value q.forest_value_2 in
+    record { countable = arena_countable q.rep.arena; root_lt_n = omega (arith, low) }
 
 pub materialize-requires : goal.materialize-requires
 materialize-requires c =
@@ -23,20 +21,29 @@ materialize-requires c =
     let ws = c.args.work.now in
     let st = c.args.st in
     let root = c.args.root in
-    let rep = c.requires.rep in
+    let q = c.requires in
     let counted = c.reach_and_count.new.work in
-    let reached = c.reach_and_count.ensures in record { laid = (accept-passed bs (trees_of bs) c.requires.forest_value).shaped.sound.laid; buildable = buildable bs ws st rep root c.requires.forest_value c.requires.forest_value_2 counted reached.kept; root_lt_symbols = root_low bs ws st rep root c.requires.forest_value c.requires.forest_value_2; counted = uses_counted bs ws st rep root counted reached }
+    let reached = c.reach_and_count.ensures in record {
+      laid = (accept-passed bs (trees_of bs) q.forest_value).shaped.sound.laid;
+      buildable = buildable bs ws st q.rep root q.forest_value q.forest_value_2 counted reached.kept;
+      root_lt_symbols = root_low bs ws st q.rep root q.forest_value q.forest_value_2;
+      counted = uses_counted bs ws st q.rep root counted reached;
+    }
 
 pub returns : goal.returns
 returns c =
     let bs = c.args.forest.now in
     let ws = c.args.work.now in
     let st = c.args.st in
-    let rep = c.requires.rep in
-    let long : WORDS ≤ length c.materialize.new.work =
-    omega (arith, rep.arena.scoped.words, c.reach_and_count.auto.work, c.materialize.auto.work) in record {
-      planned = planned_tree bs ws st rep c.args.root c.reach_and_count.new.work c.reach_and_count.ensures
-          c.materialize.new.work c.materialize.result long c.materialize.ensures;
-      held = held bs ws st rep c.args.root c.reach_and_count.new.work c.reach_and_count.ensures
-          c.materialize.new.work c.materialize.result long c.materialize.ensures c.requires.forest_value c.requires.forest_value_2;
+    let q = c.requires in
+    let counted = c.reach_and_count.new.work in
+    let reached = c.reach_and_count.ensures in
+    let done = c.materialize in
+    let long : WORDS ≤ length done.new.work =
+    omega (arith, q.rep.arena.scoped.words, c.reach_and_count.auto.work, done.auto.work) in record {
+      planned =
+          planned_tree bs ws st q.rep c.args.root counted reached done.new.work done.result long done.ensures;
+      held =
+          held bs ws st q.rep c.args.root counted reached done.new.work done.result long done.ensures
+          q.forest_value q.forest_value_2;
     }

@@ -1,17 +1,21 @@
 -- `free_lists::gather` meets its contract. Assumes nothing.
 use mathlib.Core.List.{[]}
-use Rattle.free_lists.proofs.Giving.{held_none, kids_below, gathered}
+use Rattle.outsiders.proofs.Lists.{held_none}
+use Rattle.outsiders.proofs.Offers.{kids_below}
+use Rattle.free_lists.proofs.Giving.{gathered}
 use Rattle.free_lists.proofs.gather.Goals as goal
 
-pub give_run-n-requires : goal.give_run-n-requires
-give_run-n-requires c =
-    let p = c.requires in record { scoped = p.arena.scoped; top_lt_symbols = p.c_lt_symbols; words_below = kids_below _ _ _ _ _ p.c_lt_symbols.0 _ c.load-y.ensures p.arena; held = held_none _ _ p.list_len }
+pub give_run-requires-clause-below : goal.give_run-requires-clause-below
+give_run-requires-clause-below c =
+    let p = c.requires in kids_below _ _ _ _ _ p.arena p.c_lt_symbols.0 _ c.load-y.ensures _ c.children.ensures
 
-pub offer_kids-requires : goal.offer_kids-requires
-offer_kids-requires c =
-    let p = c.requires in record { laid = p.laid; arena = p.arena; s_lt_symbols = p.c_lt_symbols.0; held = (c.give_run-n.ensures []).held }
+pub give_run-requires-clause-held : goal.give_run-requires-clause-held
+give_run-requires-clause-held c = rw c.requires.empty (held_none _)
+
+pub offer_kids-requires-clause-held : goal.offer_kids-requires-clause-held
+offer_kids-requires-clause-held c = (c.give_run.ensures []).held
 
 pub returns : goal.returns
 returns c =
     let p = c.requires in
-    gathered _ _ _ _ _ p.c_lt_symbols.0 _ c.load-y.ensures _ _ _ _ _ (c.give_run-n.ensures _) c.offer_kids.ensures
+    gathered p.c_lt_symbols.0 c.load-y.ensures c.children.ensures p.empty (c.give_run.ensures _) c.offer_kids.ensures

@@ -1,14 +1,16 @@
 -- `free_lists::work_out` meets its contract. Assumes nothing.
+use mathlib.Core.Path.{ap, ◌∙◌}
 use native.Mathlib.Omega.{arith}
-use borrow.Author.Rules.{rules}
+use Rattle.free_lists.specs.FreeLists.{with_list}
 use Rattle.free_lists.proofs.Keeping.{files, worked}
 use Rattle.free_lists.proofs.work_out.Goals as goal
 
-pub gather-count-requires : goal.gather-count-requires
-gather-count-requires c =
-    let p = c.requires in record { laid = p.laid; arena = p.arena; c_lt_symbols = (omega arith, files _ _ _ _ p.arena p.lists p.c_bound); list_len = search rules }
+pub gather-requires-clause-c_lt_symbols : goal.gather-requires-clause-c_lt_symbols
+gather-requires-clause-c_lt_symbols c =
+    let p = c.requires in (omega arith, files _ _ _ _ p.arena p.lists p.c_bound)
 
 pub returns : goal.returns
 returns c =
     let p = c.requires in
-    worked _ _ _ _ p.arena p.lists p.c_bound _ _ _ _ _ c.gather-count.ensures c.store.ensures
+    c.store.ensures
+    ∙ ap (with_list _ _) (c.deref.ensures.0 ∙ worked _ _ _ _ p.arena p.lists p.c_bound _ c.gather.ensures)

@@ -2,11 +2,10 @@
 use Rattle.graph.proofs.Laws.{outsider_arg, outsider_rel}
 use Rattle.graph.proofs.is_outsider.Goals as goal
 
-pub returns-then-is_arg : goal.returns-then-is_arg
-returns-then-is_arg c =
-    outsider_arg _ _ _ _ _ _ c.is_arg.ensures c.if-is_arg.true
+pub returns-else-not-is_arg : goal.returns-else-not-is_arg
+returns-else-not-is_arg c = outsider_arg _ _ _ _ _ _ c.is_arg.ensures c.if-not-is_arg.false
 
-pub returns : goal.returns
-returns c =
-    outsider_rel _ _ _ _ _ _ c.is_arg.ensures c.if-is_arg.false
+pub returns-then-not-is_arg : goal.returns-then-not-is_arg
+returns-then-not-is_arg c =
+    outsider_rel _ _ _ _ _ _ c.is_arg.ensures c.if-not-is_arg.true
     c.relation.result c.relation.ensures _ c.is_outside.ensures

@@ -1,7 +1,7 @@
 -- The functions of the cycle `interning` of `intern` meet their contracts. Assumes nothing.
 use native.Mathlib.Omega.{arith}
 use Prim.Native.Nat.{ℕ}
-use mathlib.Core.Path.{sym, ◌∙◌}
+use mathlib.Core.Path.{refl, sym, ap, ◌∙◌}
 use Rattle.walk.proofs.Bridge.{records_few}
 use Rattle.intern.proofs.Gives.{Selecting, selecting_given, field_operands, field_fails, field_selects}
 use Rattle.intern.proofs.Gives.{field_input, field_once, field_done, recount_asks, recount_done, again_operands}
@@ -16,14 +16,17 @@ use Rattle.bindings.specs.Bindings.{env_of}
 use Rattle.interner.specs.State.{abs_of}
 use Rattle.intern.specs.Intern.{Reads}
 use Rattle.intern.proofs.Reading.{reading_end, reading_there, reading_room, reading_plain, reading_thunk}
-use Rattle.intern.proofs.Reading.{reading_refused, reading_turn, loop_start, loop_reads}
+use Rattle.intern.proofs.Reading.{reading_refused, reading_turn, loop_start}
 use Rattle.intern.proofs.Thunks.{child_plainly, child_thunked}
 use Rattle.intern.specs.Intern.{ReadsOn}
+use Rattle.concluding.specs.declared.Branches.{Branches}
+use Rattle.intern.specs.Steps.{all_read}
 use Rattle.intern.proofs.Cases.{Counts, record_full, record_left, counted_given, counted_stands, counted_well}
 use Rattle.intern.proofs.Cases.{counted_parent, counted_opcode, counted_plain, record_lambda, record_field}
 use Rattle.intern.proofs.Cases.{record_other, record_uses, record_use}
 use Rattle.intern.proofs.Gives.{children-operands, children-read, children_none, incomplete_reads}
 use Rattle.intern.proofs.Records.{Parent}
+use Rattle.intern.proofs.After.{ok_of}
 use Rattle.intern.proofs.Weight.{weight_between, weight_thunked, weight_none}
 use Rattle.intern.proofs.+interning.Goals as goal
 use Rattle.intern.proofs.+interning.Goals.{lambda-Start, field-Start}
@@ -62,10 +65,10 @@ child_read : (t : ℕ) (c : operands-Joined-thunk t) →
     let l = c.loop-j in
     let a = c.args in
     let here = c.child_at-here.result in
-    Reads a.forest.now l.work a.t l.k.st l.k.next here
+    Reads a.forest.now l.work a.t l.before l.next here
     (intern_scoped c.is_thunked-thunk.result here.scope
-    (λ sc s. intern (tree_at a.forest.now l.k.next) l.k.next sc (env_of l.work here.top) s)
-    (abs_of a.forest.now l.work a.t l.k.st)) c.if-thunk.work c.if-thunk.r
+    (λ sc s. intern (tree_at a.forest.now l.next) l.next sc (env_of l.work here.top) s)
+    (abs_of a.forest.now l.work a.t l.before)) c.if-thunk.work c.if-thunk.r
 child_read t c =
     elim c.if-thunk.branch [
       | operands-then-thunk w ↦ rw (w.work-is, w.r-is) (child_thunked w.if-thunk.true w.in_thunk-r.ensures)
@@ -111,24 +114,24 @@ field-operands-k-requires t c =
       (h.sound, field_operands (field_asked t (goal.at.field-operands-k-requires t c).Start) c.opcode-op.ensures),
     )
 
-pub field-shape_of-work-then-k-ne0 : goal.field-shape_of-work-then-k-ne0
-field-shape_of-work-then-k-ne0 t c =
+pub field-shape_of-work-then-is_err : goal.field-shape_of-work-then-is_err
+field-shape_of-work-then-is_err t c =
     c.operands-k.auto.work
 
-pub field-returns-then-k-ne0 : goal.field-returns-then-k-ne0
-field-returns-then-k-ne0 t c =
-    field_fails (field_asked t (goal.at.field-returns-then-k-ne0 t c).Start) c.opcode-op.ensures c.operands-k.ensures c.if-k-ne0.true
+pub field-returns-then-is_err : goal.field-returns-then-is_err
+field-returns-then-is_err t c =
+    field_fails (field_asked t (goal.at.field-returns-then-is_err t c).Start) c.opcode-op.ensures c.operands-k.ensures (sym c.is_err.ensures.value ∙ c.if-is_err.true)
 
 pub field-reads_again-requires : goal.field-reads_again-requires
 field-reads_again-requires t c =
-    record { well_formed = (field_asked t (goal.at.field-reads_again-requires t c).Start).parent.sound; input = field_input (field_asked t (goal.at.field-reads_again-requires t c).Start) c.opcode-op.ensures c.operands-k.ensures c.if-k-ne0.false }
+    record { well_formed = (field_asked t (goal.at.field-reads_again-requires t c).Start).parent.sound; input = field_input (field_asked t (goal.at.field-reads_again-requires t c).Start) c.opcode-op.ensures c.operands-k.ensures (ok_of _ c.is_err.ensures.value c.if-is_err.false) }
 
 pub field-field-step-requires : goal.field-field-step-requires
 field-field-step-requires t c =
     let v = c.operands-k.ensures in
-    let selects = field_selects (field_asked t (goal.at.field-field-step-requires t c).Start) c.opcode-op.ensures v c.if-k-ne0.false in
+    let selects = field_selects (field_asked t (goal.at.field-field-step-requires t c).Start) c.opcode-op.ensures v (ok_of _ c.is_err.ensures.value c.if-is_err.false) in
     let once =
-    field_once (field_asked t (goal.at.field-field-step-requires t c).Start) c.opcode-op.ensures v c.if-k-ne0.false c.reads_again.ensures
+    field_once (field_asked t (goal.at.field-field-step-requires t c).Start) c.opcode-op.ensures v (ok_of _ c.is_err.ensures.value c.if-is_err.false) c.reads_again.ensures
     c.if-not-reads_again.true in record { well_formed = (field_asked t (goal.at.field-field-step-requires t c).Start).parent.sound; rep = v.rep; fact = v.opened; selects = selects; held_value = once }
 
 pub field-shape_of-work-then-not-reads_again : goal.field-shape_of-work-then-not-reads_again
@@ -137,7 +140,7 @@ field-shape_of-work-then-not-reads_again t c =
 
 pub field-returns-then-not-reads_again : goal.field-returns-then-not-reads_again
 field-returns-then-not-reads_again t c =
-    field_done (field_asked t (goal.at.field-returns-then-not-reads_again t c).Start) c.opcode-op.ensures c.operands-k.ensures c.if-k-ne0.false
+    field_done (field_asked t (goal.at.field-returns-then-not-reads_again t c).Start) c.opcode-op.ensures c.operands-k.ensures (ok_of _ c.is_err.ensures.value c.if-is_err.false)
     c.reads_again.ensures (c.field-step.ensures _ _)
 
 pub field-repeats-requires : goal.field-repeats-requires
@@ -149,7 +152,7 @@ field-repeats-requires t c =
 pub field-repeated-requires : goal.field-repeated-requires
 field-repeated-requires t c =
     let asks =
-    recount_asks (field_asked t (goal.at.field-repeated-requires t c).Start) c.opcode-op.ensures c.operands-k.ensures c.if-k-ne0.false
+    recount_asks (field_asked t (goal.at.field-repeated-requires t c).Start) c.opcode-op.ensures c.operands-k.ensures (ok_of _ c.is_err.ensures.value c.if-is_err.false)
     (sym c.repeats.ensures ∙ c.if-repeats.true) in record { readings_le_readings = omega (arith, asks); readings_bound = omega (arith, asks) }
 
 pub field-shape_of-work-then-repeats : goal.field-shape_of-work-then-repeats
@@ -158,7 +161,7 @@ field-shape_of-work-then-repeats t c =
 
 pub field-returns-then-repeats : goal.field-returns-then-repeats
 field-returns-then-repeats t c =
-    recount_done (field_asked t (goal.at.field-returns-then-repeats t c).Start) c.opcode-op.ensures c.operands-k.ensures c.if-k-ne0.false
+    recount_done (field_asked t (goal.at.field-returns-then-repeats t c).Start) c.opcode-op.ensures c.operands-k.ensures (ok_of _ c.is_err.ensures.value c.if-is_err.false)
     c.reads_again.ensures c.if-not-reads_again.false
     (sym c.repeats.ensures ∙ c.if-repeats.true) c.repeated.ensures
 
@@ -171,7 +174,7 @@ pub field-operands-requires : goal.field-operands-requires
 field-operands-requires t c =
     let h = (field_asked t (goal.at.field-operands-requires t c).Start).parent in (
       omega (arith, c.decreases, h.there, records_few _ h.sound, weight_between c.opcode-op.result),
-      (h.sound, again_operands (field_asked t (goal.at.field-operands-requires t c).Start) c.opcode-op.ensures c.operands-k.ensures c.if-k-ne0.false),
+      (h.sound, again_operands (field_asked t (goal.at.field-operands-requires t c).Start) c.opcode-op.ensures c.operands-k.ensures (ok_of _ c.is_err.ensures.value c.if-is_err.false)),
     )
 
 pub field-shape_of-work : goal.field-shape_of-work
@@ -180,7 +183,7 @@ field-shape_of-work t c =
 
 pub field-returns : goal.field-returns
 field-returns t c =
-    again_done (field_asked t (goal.at.field-returns t c).Start) c.opcode-op.ensures c.operands-k.ensures c.if-k-ne0.false
+    again_done (field_asked t (goal.at.field-returns t c).Start) c.opcode-op.ensures c.operands-k.ensures (ok_of _ c.is_err.ensures.value c.if-is_err.false)
     c.reads_again.ensures c.if-not-reads_again.false c.operands.ensures
 
 pub in_thunk-open_thunk-inside-requires : goal.in_thunk-open_thunk-inside-requires
@@ -201,8 +204,8 @@ in_thunk-operands-k-requires t c =
       (p.well_formed, thunk_operands p.i_bound p.in_thunk c.open_thunk-inside.ensures c.push-inner.ensures),
     )
 
-pub in_thunk-overflow_add-closed : goal.in_thunk-overflow_add-closed
-in_thunk-overflow_add-closed t c =
+pub in_thunk-overflow_add-held : goal.in_thunk-overflow_add-held
+in_thunk-overflow_add-held t c =
     let p = c.requires in
     omega (arith, p.i_bound, p.in_thunk.stands.held, records_few _ p.well_formed)
 
@@ -224,8 +227,8 @@ in_thunk-shape_of-work t c =
 pub in_thunk-returns : goal.in_thunk-returns
 in_thunk-returns t c =
     let p = c.requires in
-    thunk_done p.i_bound p.in_thunk c.open_thunk-inside.ensures c.push-inner.ensures
-    c.operands-k.ensures c.close_thunk.ensures
+    rw c.and.ensures (thunk_done p.i_bound p.in_thunk c.open_thunk-inside.ensures c.push-inner.ensures
+    c.operands-k.ensures c.close_thunk.ensures)
 
 pub lambda-enter_lambda-e-requires : goal.lambda-enter_lambda-e-requires
 lambda-enter_lambda-e-requires t c =
@@ -236,13 +239,13 @@ lambda-enter_lambda-e-requires t c =
       counted_at = p.counted_at;
     }
 
-pub lambda-shape_of-work-then-e-ne0 : goal.lambda-shape_of-work-then-e-ne0
-lambda-shape_of-work-then-e-ne0 t c =
+pub lambda-shape_of-work-in-Err : goal.lambda-shape_of-work-in-Err
+lambda-shape_of-work-in-Err t c =
     c.enter_lambda-e.auto.work
 
-pub lambda-returns-then-e-ne0 : goal.lambda-returns-then-e-ne0
-lambda-returns-then-e-ne0 t c =
-    lambda_unmade (lambda_asked t (goal.at.lambda-returns-then-e-ne0 t c).Start) c.enter_lambda-e.ensures c.refused.ensures c.if-e-ne0.true
+pub lambda-returns-in-Err : goal.lambda-returns-in-Err
+lambda-returns-in-Err t c =
+    lambda_unmade (lambda_asked t (goal.at.lambda-returns-in-Err t c).Start) c.enter_lambda-e.ensures c.refused.ensures c.in-Err.is
 
 pub lambda-opcode-op-requires : goal.lambda-opcode-op-requires
 lambda-opcode-op-requires t c =
@@ -257,23 +260,23 @@ pub lambda-operands-k-requires : goal.lambda-operands-k-requires
 lambda-operands-k-requires t c =
     let h = lambda_asked t (goal.at.lambda-operands-k-requires t c).Start in (
       omega (arith, c.decreases, h.there, records_few _ h.sound, weight_between c.opcode-op.result),
-      (h.sound, lambda_operands h c.enter_lambda-e.ensures c.if-e-ne0.false c.opcode-op.ensures),
+      (h.sound, lambda_operands h c.enter_lambda-e.ensures c.in-Ok.is c.opcode-op.ensures),
     )
 
-pub lambda-shape_of-work-then-k-ne0 : goal.lambda-shape_of-work-then-k-ne0
-lambda-shape_of-work-then-k-ne0 t c =
+pub lambda-shape_of-work-in-Err-outcome : goal.lambda-shape_of-work-in-Err-outcome
+lambda-shape_of-work-in-Err-outcome t c =
     c.operands-k.auto.work ∙ c.enter_lambda-e.auto.work
 
-pub lambda-returns-then-k-ne0 : goal.lambda-returns-then-k-ne0
-lambda-returns-then-k-ne0 t c =
-    lambda_refused (lambda_asked t (goal.at.lambda-returns-then-k-ne0 t c).Start) c.enter_lambda-e.ensures c.if-e-ne0.false c.opcode-op.ensures
-    c.operands-k.ensures c.refused-then-k-ne0.ensures c.if-k-ne0.true
+pub lambda-returns-in-Err-outcome : goal.lambda-returns-in-Err-outcome
+lambda-returns-in-Err-outcome t c =
+    lambda_refused (lambda_asked t (goal.at.lambda-returns-in-Err-outcome t c).Start) c.enter_lambda-e.ensures c.in-Ok.is c.opcode-op.ensures
+    c.operands-k.ensures c.refused-in-Err-outcome.ensures c.in-Err-outcome.is
 
 pub lambda-lambda-step-requires : goal.lambda-lambda-step-requires
 lambda-lambda-step-requires t c =
     let v = c.operands-k.ensures in
     let asks =
-    lambda_asks (lambda_asked t (goal.at.lambda-lambda-step-requires t c).Start) c.enter_lambda-e.ensures c.if-e-ne0.false c.opcode-op.ensures v c.if-k-ne0.false in let it = asks in record { well_formed = (lambda_asked t (goal.at.lambda-lambda-step-requires t c).Start).sound; rep = v.rep; fact = v.opened; concludes = it.0; i_value = it.1.0; body_of = it.1.1 }
+    lambda_asks (lambda_asked t (goal.at.lambda-lambda-step-requires t c).Start) c.enter_lambda-e.ensures c.in-Ok.is c.opcode-op.ensures v (rw c.in_default.is) in let it = asks in record { well_formed = (lambda_asked t (goal.at.lambda-lambda-step-requires t c).Start).sound; rep = v.rep; fact = v.opened; concludes = it.0; i_value = it.1.0; body_of = it.1.1 }
 
 pub lambda-shape_of-work : goal.lambda-shape_of-work
 lambda-shape_of-work t c =
@@ -282,12 +285,12 @@ lambda-shape_of-work t c =
 
 pub lambda-returns : goal.lambda-returns
 lambda-returns t c =
-    lambda_done (lambda_asked t (goal.at.lambda-returns t c).Start) c.enter_lambda-e.ensures c.if-e-ne0.false c.opcode-op.ensures
-    c.operands-k.ensures c.if-k-ne0.false c.lambda-step.ensures
+    lambda_done (lambda_asked t (goal.at.lambda-returns t c).Start) c.enter_lambda-e.ensures c.in-Ok.is c.opcode-op.ensures
+    c.operands-k.ensures (rw c.in_default.is) c.lambda-step.ensures
 
 pub operands-loop-j-init : goal.operands-loop-j-init
 operands-loop-j-init t c =
-    let p = c.requires in loop_start p.well_formed p.operands c.unread-k.ensures
+    let p = c.requires in loop_start p.well_formed p.operands refl
 
 pub operands-child_at-here-requires : goal.operands-child_at-here-requires
 operands-child_at-here-requires t c =
@@ -311,17 +314,15 @@ operands-subtree-r-requires t c =
       (inv.sound, (there, reading_plain inv c.loop-j-test.true is c.child_at-here.ensures)),
     )
 
-pub operands-shape_of-work-then-step-ne0 : goal.operands-shape_of-work-then-step-ne0
-operands-shape_of-work-then-step-ne0 t c =
-    (child_read t (goal.at.operands-shape_of-work-then-step-ne0 t c).Joined-thunk).kept.words.frame.long ∙ c.loop-j.invariant.remains.kept.words.frame.long
+pub operands-shape_of-work-in-Err : goal.operands-shape_of-work-in-Err
+operands-shape_of-work-in-Err t c =
+    (child_read t (goal.at.operands-shape_of-work-in-Err t c).Joined-thunk).kept.words.frame.long ∙ c.loop-j.invariant.remains.kept.words.frame.long
 
-pub operands-returns-then-step-ne0 : goal.operands-returns-then-step-ne0
-operands-returns-then-step-ne0 t c =
-    let p = c.requires in
-    loop_reads p.well_formed p.operands c.unread-k.ensures
+pub operands-returns-in-Err : goal.operands-returns-in-Err
+operands-returns-in-Err t c =
     (reading_refused c.loop-j.invariant c.loop-j-test.true
-    c.is_thunked-thunk.ensures c.child_at-here.ensures (child_read t (goal.at.operands-returns-then-step-ne0 t c).Joined-thunk)
-    c.failed.ensures c.if-step-ne0.true)
+    c.is_thunked-thunk.ensures c.child_at-here.ensures (child_read t (goal.at.operands-returns-in-Err t c).Joined-thunk)
+    refl c.in-Err.is)
 
 pub operands-overflow_add-work : goal.operands-overflow_add-work
 operands-overflow_add-work t c =
@@ -350,23 +351,15 @@ operands-bind_def-top-requires t c =
       );
     }
 
-pub operands-with_child-k-requires : goal.operands-with_child-k-requires
-operands-with_child-k-requires t c =
+pub operands-note-branches-requires : goal.operands-note-branches-requires
+operands-note-branches-requires t c =
     c.loop-j.invariant.remains.rep.arena.scoped.few_scopes
-
-pub operands-overflow_add-j : goal.operands-overflow_add-j
-operands-overflow_add-j t c =
-    omega (arith, c.loop-j.invariant.remains.pending)
-
-pub operands-loop-j-smaller : goal.operands-loop-j-smaller
-operands-loop-j-smaller t c =
-    omega (arith, c.loop-j-test.true)
 
 pub operands-loop-j-preserved : goal.operands-loop-j-preserved
 operands-loop-j-preserved t c =
     reading_turn c.loop-j.invariant c.loop-j-test.true c.is_thunked-thunk.ensures
-    c.child_at-here.ensures (child_read t (goal.at.operands-loop-j-preserved t c).Joined-thunk) c.if-step-ne0.false c.bind_def-top.ensures
-    c.with_child-k.ensures
+    c.child_at-here.ensures (child_read t (goal.at.operands-loop-j-preserved t c).Joined-thunk) c.in-Ok.is c.bind_def-top.ensures
+    (ap (λ (b : Branches). all_read b c.if-thunk.r.step.st c.if-thunk.r.next) c.note-branches.ensures)
 
 pub operands-shape_of-work : goal.operands-shape_of-work
 operands-shape_of-work t c =
@@ -374,12 +367,10 @@ operands-shape_of-work t c =
 
 pub operands-returns : goal.operands-returns
 operands-returns t c =
-    let p = c.requires in
-    loop_reads p.well_formed p.operands c.unread-k.ensures
     (reading_end c.loop-j.invariant c.loop-j-test.false)
 
-pub subtree-overflow_cast-i : goal.subtree-overflow_cast-i
-subtree-overflow_cast-i t c =
+pub subtree-overflow_cast-full : goal.subtree-overflow_cast-full
+subtree-overflow_cast-full t c =
     let p = c.requires in omega (arith, p.i_bound, records_few _ p.well_formed)
 
 pub subtree-returns-then-st-eq2048 : goal.subtree-returns-then-st-eq2048

@@ -1,5 +1,6 @@
 -- The functions of the cycle `interning` of `intern` in their loops and calls: what stays, and what falls. Assumes nothing.
 use Prim.Native.Nat.{◌+◌, ◌-◌, ◌*◌}
+use Rattle.intern.specs.Steps.{all_read}
 use Rattle.intern.proofs.Weight.{weight}
 use Rattle.intern.proofs.Remains.{Reading}
 use Rattle.intern.proofs.+interning.Given as given
@@ -22,11 +23,8 @@ decreases-operands l =
 
 abbrev pub invariant-operands-loop-j : given.invariant-operands-loop-j
 invariant-operands-loop-j l =
-    Reading l.forest l.t l.i l.count l.op l.at l.initial.work l.initial.k.st l.work l.k l.top l.j
-
-abbrev pub decreases-operands-loop-j : given.decreases-operands-loop-j
-decreases-operands-loop-j l =
-    l.count - l.j
+    Reading l.forest l.t l.i l.count l.op l.at l.initial.work l.initial.before l.work
+    (all_read l.branches l.before l.next) l.top l.j
 
 abbrev pub decreases-subtree : given.decreases-subtree
 decreases-subtree l =

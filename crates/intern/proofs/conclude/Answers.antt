@@ -1,7 +1,6 @@
 -- `intern::conclude` meets its contract. Assumes nothing.
-use mathlib.Core.Path.{sym, ◌∙◌}
-use mathlib.Core.Logic.{inl, inr}
-use Rattle.intern.proofs.Records.{Concludable, last_asks, last_answers, general_answers}
+use native.Mathlib.Omega.{arith}
+use Rattle.intern.proofs.Records.{Concludable, ends_shape, last_asks, last_answers, general_answers}
 use Rattle.intern.proofs.conclude.Goals as goal
 use Rattle.intern.proofs.conclude.Goals.{After-kids-count}
 
@@ -16,34 +15,30 @@ pub kids-count-requires : goal.kids-count-requires
 kids-count-requires c =
     let p = c.requires in record { laid = p.well_formed.laid; i_bound = p.concluding.from }
 
-pub shape-shape-requires : goal.shape-shape-requires
-shape-shape-requires c =
+pub shape-requires : goal.shape-requires
+shape-requires c =
     record { laid = c.requires.well_formed.laid; i_bound = c.requires.concluding.from }
 
 pub last-requires : goal.last-requires
 last-requires c =
-    last_asks (given (goal.at.last-requires c).After-kids-count) (inl (sym c.shape-shape.ensures ∙ c.if-shape-eq-VAL_DEF.true))
+    last_asks (given (goal.at.last-requires c).After-kids-count) (ends_shape _ (omega arith) (omega arith))
 
-pub returns-then-shape-eq-VAL_DEF : goal.returns-then-shape-eq-VAL_DEF
-returns-then-shape-eq-VAL_DEF c =
-    last_answers (given (goal.at.returns-then-shape-eq-VAL_DEF c).After-kids-count) c.args.t (inl (sym c.shape-shape.ensures ∙ c.if-shape-eq-VAL_DEF.true))
+pub returns-in-10 : goal.returns-in-10
+returns-in-10 c =
+    last_answers (given (goal.at.returns-in-10 c).After-kids-count) c.args.t (ends_shape _ (omega arith) (omega arith))
     c.last.ensures
-
-pub last-requires-then-shape-eq-BLOCK_VALUE : goal.last-requires-then-shape-eq-BLOCK_VALUE
-last-requires-then-shape-eq-BLOCK_VALUE c =
-    last_asks (given (goal.at.last-requires-then-shape-eq-BLOCK_VALUE c).After-kids-count) (inr (sym c.shape-shape.ensures ∙ c.if-shape-eq-BLOCK_VALUE.true))
-
-pub returns-then-shape-eq-BLOCK_VALUE : goal.returns-then-shape-eq-BLOCK_VALUE
-returns-then-shape-eq-BLOCK_VALUE c =
-    last_answers (given (goal.at.returns-then-shape-eq-BLOCK_VALUE c).After-kids-count) c.args.t
-    (inr (sym c.shape-shape.ensures ∙ c.if-shape-eq-BLOCK_VALUE.true)) c.last-then-shape-eq-BLOCK_VALUE.ensures
 
 pub general-requires : goal.general-requires
 general-requires c =
-    let p = c.requires in record { well_formed = p.well_formed; rep = p.rep; fact = p.fact; concludes = rw c.kids-count.ensures.0 p.concluding; branched = p.branched }
+    let p = c.requires in record {
+      well_formed = p.well_formed;
+      rep = p.rep;
+      fact = p.fact;
+      concludes = rw c.kids-count.ensures.0 p.concluding;
+      branched = p.branched;
+    }
 
-pub returns : goal.returns
-returns c =
-    general_answers (given (goal.at.returns c).After-kids-count) c.args.t
-    (λ e. c.if-shape-eq-VAL_DEF.false (c.shape-shape.ensures ∙ e)) (λ e. c.if-shape-eq-BLOCK_VALUE.false (c.shape-shape.ensures ∙ e))
+pub returns-in_default : goal.returns-in_default
+returns-in_default c =
+    general_answers (given (goal.at.returns-in_default c).After-kids-count) c.args.t (λ e. omega arith) (λ e. omega arith)
     c.general.ensures

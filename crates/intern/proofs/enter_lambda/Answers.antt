@@ -21,29 +21,29 @@ overflow_cast-i c =
 
 pub alloc_args-made-requires : goal.alloc_args-made-requires
 alloc_args-made-requires c =
-    record { laid = (given (goal.at.alloc_args-made-requires c).Start).sound.laid; rep = (given (goal.at.alloc_args-made-requires c).Start).stands.rep; binds = lambda_binds (given (goal.at.alloc_args-made-requires c).Start) (c.wide-count.ensures.0 ∙ c.aux.ensures) }
+    record { laid = (given (goal.at.alloc_args-made-requires c).Start).sound.laid; rep = (given (goal.at.alloc_args-made-requires c).Start).stands.rep; binds = lambda_binds (given (goal.at.alloc_args-made-requires c).Start) (c.from-count.ensures ∙ c.aux.ensures) }
 
-pub returns-then-made-ne0 : goal.returns-then-made-ne0
-returns-then-made-ne0 c =
-    enter_refused (given (goal.at.returns-then-made-ne0 c).Start) (c.wide-count.ensures.0 ∙ c.aux.ensures) c.alloc_args-made.ensures c.if-made-ne0.true
+pub returns-in-Err : goal.returns-in-Err
+returns-in-Err c =
+    enter_refused (given (goal.at.returns-in-Err c).Start) (c.from-count.ensures ∙ c.aux.ensures) c.alloc_args-made.ensures c.in-Err.is
 
 pub first_of-first-requires : goal.first_of-first-requires
 first_of-first-requires c =
-    enter_few (given (goal.at.first_of-first-requires c).Start) (c.wide-count.ensures.0 ∙ c.aux.ensures) c.alloc_args-made.ensures c.if-made-ne0.false
+    enter_few (given (goal.at.first_of-first-requires c).Start) (c.from-count.ensures ∙ c.aux.ensures) c.alloc_args-made.ensures c.in-Ok.is
 
 pub open_body-inside-requires : goal.open_body-inside-requires
 open_body-inside-requires c =
     let room =
-    enter_room (given (goal.at.open_body-inside-requires c).Start) (c.wide-count.ensures.0 ∙ c.aux.ensures) c.alloc_args-made.ensures c.if-made-ne0.false in record { in_bounds = room.0; cur_lt_scopes = (room.1, room.2); first_bound = (c.first_of-first.ensures.1, room.3); cur_bound = room.4 }
+    enter_room (given (goal.at.open_body-inside-requires c).Start) (c.from-count.ensures ∙ c.aux.ensures) c.alloc_args-made.ensures c.in-Ok.is in record { in_bounds = room.0; cur_lt_scopes = (room.1, room.2); first_bound = (c.first_of-first.ensures.1, room.3); cur_bound = room.4 }
 
 pub bind_args-end-requires : goal.bind_args-end-requires
 bind_args-end-requires c =
     let g = given (goal.at.bind_args-end-requires c).Start in
     let room =
-    enter_bind g (c.wide-count.ensures.0 ∙ c.aux.ensures) c.alloc_args-made.ensures c.if-made-ne0.false c.first_of-first.ensures
+    enter_bind g (c.from-count.ensures ∙ c.aux.ensures) c.alloc_args-made.ensures c.in-Ok.is c.first_of-first.ensures
     c.open_body-inside.ensures.0 in record { well_formed = g.sound; i_bound = (g.there, g.shape); top_bound = room }
 
 pub returns : goal.returns
 returns c =
-    enter_done (given (goal.at.returns c).Start) (c.wide-count.ensures.0 ∙ c.aux.ensures) c.alloc_args-made.ensures c.if-made-ne0.false
+    enter_done (given (goal.at.returns c).Start) (c.from-count.ensures ∙ c.aux.ensures) c.alloc_args-made.ensures c.in-Ok.is
     c.first_of-first.ensures c.open_body-inside.ensures.0 c.open_body-inside.ensures.1 c.bind_args-end.ensures

@@ -24,13 +24,13 @@ pub operands-k-requires : goal.operands-k-requires
 operands-k-requires c =
     record { well_formed = forest_sound _ (begun (goal.at.operands-k-requires c).After-new-t).accepted; operands = forest_operands (begun (goal.at.operands-k-requires c).After-new-t) }
 
-pub returns-then-k-ne0 : goal.returns-then-k-ne0
-returns-then-k-ne0 c =
-    forest_refused (begun (goal.at.returns-then-k-ne0 c).After-new-t) c.operands-k.ensures c.if-k-ne0.true
+pub returns-in-Err : goal.returns-in-Err
+returns-in-Err c =
+    forest_refused (begun (goal.at.returns-in-Err c).After-new-t) c.operands-k.ensures c.in-Err.is
 
 pub last-requires : goal.last-requires
 last-requires c =
-    forest_last (begun (goal.at.last-requires c).After-new-t) c.operands-k.ensures c.if-k-ne0.false
+    forest_last (begun (goal.at.last-requires c).After-new-t) c.operands-k.ensures (rw c.in_default.is)
 
 pub shape_of-work : goal.shape_of-work
 shape_of-work c =
@@ -38,4 +38,4 @@ shape_of-work c =
 
 pub returns : goal.returns
 returns c =
-    forest_done (begun (goal.at.returns c).After-new-t) c.operands-k.ensures c.if-k-ne0.false c.last.ensures
+    forest_done (begun (goal.at.returns c).After-new-t) c.operands-k.ensures (rw c.in_default.is) c.last.ensures

@@ -11,23 +11,23 @@ hint_of-hint-requires c =
 
 pub push-next-requires : goal.push-next-requires
 push-next-requires c =
-    let p = c.requires in record { laid = p.laid; rep = p.rep; symbols_bound = c.if-n-lt512.true; fresh = p.fresh; levels = p.levels }
+    let p = c.requires in record { laid = p.laid; rep = p.rep; symbols_bound = c.if-n-ge512.false; fresh = p.fresh; levels = p.levels }
 
 pub enter-requires : goal.enter-requires
 enter-requires c =
     let rep = c.requires.rep in (
-      omega (arith, pushed_entries c.push-next.ensures, rep.entries.few, c.if-n-lt512.true),
-      c.if-n-lt512.true,
+      omega (arith, pushed_entries c.push-next.ensures, rep.entries.few, c.if-n-ge512.false),
+      c.if-n-ge512.false,
       c.hint_of-hint.ensures.1,
       omega (arith, c.push-next.ensures.leaves.frame.long, rep.arena.scoped.words),
     )
 
-pub returns-then-n-lt512 : goal.returns-then-n-lt512
-returns-then-n-lt512 c =
-    let g = c.requires in
-    λ t opened. shared_answers t g.rep g.fresh c.hint_of-hint.result c.if-n-lt512.true opened c.push-next.ensures
-    c.parts_of-p.ensures c.hint_of-hint.ensures.0 c.enter.ensures
+pub returns-then-n-ge512 : goal.returns-then-n-ge512
+returns-then-n-ge512 c =
+    let g = c.requires in λ t opened. full_answers t g.rep g.fresh c.if-n-ge512.true
 
 pub returns : goal.returns
 returns c =
-    let g = c.requires in λ t opened. full_answers t g.rep g.fresh c.if-n-lt512.false
+    let g = c.requires in
+    λ t opened. shared_answers t g.rep g.fresh c.hint_of-hint.result c.if-n-ge512.false opened c.push-next.ensures
+    c.parts_of-p.ensures c.hint_of-hint.ensures.0 c.enter.ensures

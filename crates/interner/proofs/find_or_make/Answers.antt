@@ -1,7 +1,5 @@
 -- `interner::find_or_make` meets its contract. Assumes nothing.
-use mathlib.Core.Path.{ap}
 use Rattle.std.specs.Prelude.{None}
-use Rattle.tables.specs.Tables.{found_of}
 use Rattle.interner.proofs.Ready.{ready_levels}
 use Rattle.interner.proofs.Keys.{found_answers, made_answers, found_is, sought_entries, pending_read}
 use Rattle.interner.proofs.find_or_make.Goals as goal
@@ -22,17 +20,15 @@ alloc-requires c =
     let p = c.requires in
     let ready = p.ready in record { laid = c.requires.laid; rep = p.rep; fresh = ready.fresh; levels = ready_levels _ _ _ _ _ _ _ _ p.rep ready c.key_levels-levels.ensures }
 
-pub returns-in-At : goal.returns-in-At
-returns-in-At c =
+pub returns-in-Some : goal.returns-in-Some
+returns-in-Some c =
     let p = c.requires in
     found_answers p.rep p.fact p.ready _
-    (found_is p.rep p.fact p.ready _ c.parts_of-p.ensures c.find.result _ c.find.ensures
-    (ap found_of c.in-At.is))
+    (found_is p.rep p.fact p.ready _ c.parts_of-p.ensures _ _ c.find.ensures c.in-Some.is)
 
-pub returns-in-Nothing : goal.returns-in-Nothing
-returns-in-Nothing c =
+pub returns-in-None : goal.returns-in-None
+returns-in-None c =
     let p = c.requires in
     made_answers p.rep p.fact p.ready
-    (found_is p.rep p.fact p.ready _ c.parts_of-p.ensures c.find.result None c.find.ensures
-    (ap found_of c.in-Nothing.is))
+    (found_is p.rep p.fact p.ready _ c.parts_of-p.ensures _ None c.find.ensures c.in-None.is)
     (c.alloc.ensures c.args.t p.fact)

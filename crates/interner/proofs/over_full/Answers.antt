@@ -3,4 +3,4 @@ use Rattle.interner.proofs.over_full.Goals as goal
 
 pub returns : goal.returns
 returns c =
-    rw c.parts_of-p.ensures
+    rw c.parts_of-place.ensures

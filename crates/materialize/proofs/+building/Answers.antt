@@ -1,41 +1,51 @@
 -- The functions of the cycle `building` of `materialize` meet their contracts. In order: what the code has read; the
 -- functions, as they stand in the code.
 -- Assumes nothing.
-use Prim.Native.Nat.{ℕ, ◌+◌, ◌<◌, ◌≤◌}
-use mathlib.Core.Path.{◌≡◌, refl, sym, ap, ◌∙◌}
+use Prim.Native.Nat.{ℕ, ◌<◌}
+use mathlib.Core.Path.{◌≡◌, sym, ◌∙◌}
+use mathlib.Core.Logic.{◌⊎◌, inl, inr}
 use mathlib.Core.List.{List}
 use native.Mathlib.Omega.{arith}
-use lib.ListN.{length, get_or}
+use lib.ListN.{length}
+use lib.Seq.{take-length}
 use Rattle.laws.proofs.Frame.{frame_none, frame_then}
-use Rattle.regions.specs.Regions.{SLOTS}
-use Rattle.record.specs.Record.{row_at}
+use Rattle.model.specs.Forest.{record_count}
 use Rattle.key.specs.declared.Symbol.{Symbol}
+use Rattle.key.specs.declared.Leaf.{Leaf}
+use Rattle.key.specs.declared.Node.TheVariants.{Const, Unparsed}
+use Rattle.key.specs.Key.{symbol_at}
+use Rattle.schedule.specs.Schedule.{Scheduled}
+use Rattle.planner.specs.Building.{Buildable}
+use Rattle.planner.specs.Planning.{fresh_tree}
 use Rattle.planner.proofs.Keeping.{buildable_kept, symbol_kept}
 use Rattle.planner.proofs.Operands.{opened_there}
 use Rattle.planner.proofs.Loaded.{node_loaded, put_as, source_low, row_writable, node_opens}
-use Rattle.planner.proofs.Nodes.{grew_few, plans_use, plans_new, plans_const, plans_unparsed, plans_argument, plans_thunk}
-use Rattle.planner.proofs.Nodes.{plans_copied}
-use Rattle.planner.proofs.Sites.{id_fits, site_on}
-use Rattle.planner.proofs.Applying.{operands-start, operands_next, operand_low, operands_end, plans_operation}
-use Rattle.planner.proofs.Binding.{lambda_fits, lambda_writable, body_low, plans_lambda}
-use Rattle.planner.proofs.Scoping.{plans_memberless, plans_result, plans_block}
+use Rattle.planner.proofs.Nodes.{plans_over, plans_use, plans_new, plans_leaf, plans_argument, plans_thunk}
+use Rattle.planner.proofs.Sites.{site_on}
+use Rattle.planner.proofs.Applying.{operands-start, operands_next, operand_low, operands_over, operands_end}
+use Rattle.planner.proofs.Applying.{operation_rows, plans_operation}
+use Rattle.planner.proofs.Binding.{lambda_fits, lambda_writable, body_low, lambda_rows, plans_lambda}
+use Rattle.planner.proofs.Scoping.{plans_memberless, plans_result, block_rows, plans_block, block_over}
 use Rattle.planner.proofs.Scoping.{defines_none, defines_one, defines_other, defines_more}
+use Rattle.planner.proofs.Scoping.{define_over, value_over, defines_over}
 use Rattle.materialize.proofs.+building.Goals as goal
 
 -- ---- what the code has read
 
--- a lambda's number of arguments
-count_read : (bs : List ℕ) {s i a k : ℕ} → i ≡ s → a ≡ (row_at bs i).rec.aux → k ≡ a → k ≡ (row_at bs s).rec.aux
-count_read bs e f g = cc
+leaf_loaded : (ws : List ℕ) (s : ℕ) {y : Symbol} {l : Leaf} → y ≡ symbol_at ws s → (y.node ≡ Const l) ⊎ (y.node ≡ Unparsed l)
+    → ((symbol_at ws s).node ≡ Const l) ⊎ ((symbol_at ws s).node ≡ Unparsed l)
+leaf_loaded ws s e (inl f) = inl (node_loaded _ _ e f)
+leaf_loaded ws s e (inr f) = inr (node_loaded _ _ e f)
 
--- an operation's opcode
-opcode_read : (bs : List ℕ) {s i op : ℕ} → i ≡ s → op ≡ (row_at bs i).rec.opcode → op ≡ (row_at bs s).rec.opcode
-opcode_read bs e f = cc
+leaf_low : {bs ws : List ℕ} {n m : ℕ} (b : Buildable bs ws n m) (s : ℕ) (lt : s < n) (l : Leaf)
+    → ((symbol_at ws s).node ≡ Const l) ⊎ ((symbol_at ws s).node ≡ Unparsed l) → l.source < record_count bs
+leaf_low b s lt l (inl e) = source_low b s lt _ e
+leaf_low b s lt l (inr e) = source_low b s lt _ e
 
--- the root of a lambda's body
-root_read : (ws : List ℕ) {y z : Symbol} {k r : ℕ} → y ≡ z → k ≡ y.kids → r ≡ get_or ws (SLOTS.first + k) 0
-    → r ≡ get_or ws (SLOTS.first + z.kids) 0
-root_read ws e f g = cc
+-- a schedule, as a slice
+ordered : {bs ws : List ℕ} {n m root sc : ℕ} {order items : List ℕ} → order ≡ items
+    → Scheduled bs ws n m root sc items → Scheduled bs ws n m root sc order
+ordered e s = rw e s
 
 -- ---- `build`
 
@@ -53,73 +63,85 @@ build-returns t c =
 pub fresh-returns-in-Const : goal.fresh-returns-in-Const
 fresh-returns-in-Const t c =
     let p = c.requires in
-    let e = node_loaded _ _ c.load-y.ensures c.in-Const.is in
-    plans_const p.buildable _ p.site.low _ _ e (c.put.ensures.grew _ (source_low p.buildable _ p.site.low _ e))
-
-pub fresh-returns-in-Unparsed : goal.fresh-returns-in-Unparsed
-fresh-returns-in-Unparsed t c =
-    let p = c.requires in
-    let e = node_loaded _ _ c.load-y.ensures c.in-Unparsed.is in
-    plans_unparsed p.buildable _ p.site.low _ _ e
-    (c.put-in-Unparsed.ensures.grew _ (source_low p.buildable _ p.site.low _ e))
+    let e = leaf_loaded _ _ c.load.ensures c.in-Const.is in
+    plans_leaf p.buildable _ p.site.low _ _ e
+    (c.put-in-Const.ensures.grew _ (leaf_low p.buildable _ p.site.low _ e))
 
 pub fresh-returns-in-Arg : goal.fresh-returns-in-Arg
 fresh-returns-in-Arg t c =
     let p = c.requires in
-    plans_argument p.buildable _ p.site.low _ _ (node_loaded _ _ c.load-y.ensures c.in-Arg.is)
-    (c.put-in-Arg.ensures.grew _ tt)
+    plans_argument p.buildable _ p.site.low _ _ (node_loaded _ _ c.load.ensures c.in-Arg.is) (c.put.ensures.grew _ tt)
 
 -- ---- `operands`
+
+pub operands-returns-in_err-q : goal.operands-returns-in_err-q
+operands-returns-in_err-q t c =
+    let p = c.requires in
+    let low = p.site.low in
+    let put = put_as c.row_of.ensures c.in_err-q.ensures.grew (row_writable p.buildable _ low _ p.s_value) in
+    rw c.from_residual.ensures
+    (plans_over put (fresh_tree c.args.s c.args.last) (λ gr sc env st maps.
+    (_, operation_rows p.buildable _ low _ _ _ p.s_value c.opcode-opcode.ensures gr sc env st)))
 
 pub operands-loop-j-init : goal.operands-loop-j-init
 operands-loop-j-init t c =
     let p = c.requires in
-    let put = put_as c.row_of.ensures c.put-q.ensures.grew (row_writable p.buildable _ p.site.low _ p.s_value) in
+    let put = (put_as c.row_of.ensures c.in_ok-q.ensures.grew (row_writable p.buildable _ p.site.low _ p.s_value)).is in
     let b = buildable_kept put.kept p.buildable in
-    (omega arith, frame_none _ _ _, grew_few put, operands-start b _ p.site.low _ _ _)
+    (frame_none _ _ _, put.few, operands-start b _ p.site.low _ _ _)
 
-pub operands-operand-q-requires : goal.operands-operand-q-requires
-operands-operand-q-requires t c =
+pub operands-operand-requires : goal.operands-operand-requires
+operands-operand-requires t c =
     let p = c.requires in
     let at = p.site in
     let inv = c.loop-j.invariant in
-    let put = put_as c.row_of.ensures c.put-q.ensures.grew (row_writable p.buildable _ at.low _ p.s_value) in
+    let put = (put_as c.row_of.ensures c.in_ok-q.ensures.grew (row_writable p.buildable _ at.low _ p.s_value)).is in
     let b = buildable_kept put.kept p.buildable in
     let y = c.load-y.ensures ∙ sym (symbol_kept put.kept p.buildable.arena _ at.low) in
-    let few : c.loop-j.j < c.load-y.result.count = omega (arith, c.wide-count.ensures, c.loop-j-test.true) in
-    let low = operand_low b _ at.low y c.wide-at.ensures few inv.1 c.wide-kid.ensures in (
+    let low = operand_low b _ at.low y c.loop-j-test.true inv.0 in (
       omega (arith, c.decreases, low),
       (
         p.laid,
         (
-          buildable_kept inv.1 b,
+          buildable_kept inv.0 b,
           (
             record {
               low = omega (arith, low, at.low);
-              long = at.long;
               room = omega (arith, low, at.room);
-              count = inv.2;
+              count = inv.1;
             },
-            opened_there _ _ _ c.operand_scope-w.ensures (node_opens p.buildable _ at.low _ p.s_value),
+            opened_there _ _ _ c.operand_scope-scope.ensures (node_opens p.buildable _ at.low _ p.s_value),
           ),
         ),
       ),
     )
+
+pub operands-returns-in_err-q-2 : goal.operands-returns-in_err-q-2
+operands-returns-in_err-q-2 t c =
+    let p = c.requires in
+    let at = p.site in
+    let inv = c.loop-j.invariant in
+    let put = (put_as c.row_of.ensures c.in_ok-q.ensures.grew (row_writable p.buildable _ at.low _ p.s_value)).is in
+    let b = buildable_kept put.kept p.buildable in
+    let y = c.load-y.ensures ∙ sym (symbol_kept put.kept p.buildable.arena _ at.low) in
+    let h = c.in_err-q-2.ensures in
+    rw c.from_residual-in_err-q-2.ensures
+    (plans_operation p.buildable _ at.low _ _ _ p.s_value c.opcode-opcode.ensures put
+    (frame_then _ _ _ _ _ inv.0 h.kept) tt
+    (operands_over b _ at.low _ _ _ y c.loop-j-test.true inv.0 c.operand_scope-scope.ensures inv.2 h))
 
 pub operands-loop-j-preserved : goal.operands-loop-j-preserved
 operands-loop-j-preserved t c =
     let p = c.requires in
     let at = p.site in
     let inv = c.loop-j.invariant in
-    let put = put_as c.row_of.ensures c.put-q.ensures.grew (row_writable p.buildable _ at.low _ p.s_value) in
+    let put = (put_as c.row_of.ensures c.in_ok-q.ensures.grew (row_writable p.buildable _ at.low _ p.s_value)).is in
     let b = buildable_kept put.kept p.buildable in
     let y = c.load-y.ensures ∙ sym (symbol_kept put.kept p.buildable.arena _ at.low) in
-    let few : c.loop-j.j < c.load-y.result.count = omega (arith, c.wide-count.ensures, c.loop-j-test.true) in (
-      omega (arith, c.loop-j-test.true),
-      frame_then _ _ _ _ _ inv.1 c.operand-q.ensures.kept,
-      c.operand-q.ensures.full,
-      operands_next b _ at.low _ _ _ y c.wide-at.ensures few inv.1 c.wide-kid.ensures c.operand_scope-w.ensures
-          inv.3 c.operand-q.ensures,
+    let h = c.in_ok-q-2.ensures in (
+      frame_then _ _ _ _ _ inv.0 h.kept,
+      h.few,
+      operands_next b _ at.low _ _ _ y c.loop-j-test.true inv.0 c.operand_scope-scope.ensures inv.2 h,
     )
 
 pub operands-returns : goal.operands-returns
@@ -127,18 +149,16 @@ operands-returns t c =
     let p = c.requires in
     let low = p.site.low in
     let inv = c.loop-j.invariant in
-    let put = put_as c.row_of.ensures c.put-q.ensures.grew (row_writable p.buildable _ low _ p.s_value) in
+    let put = (put_as c.row_of.ensures c.in_ok-q.ensures.grew (row_writable p.buildable _ low _ p.s_value)).is in
     let b = buildable_kept put.kept p.buildable in
     let y = c.load-y.ensures ∙ sym (symbol_kept put.kept p.buildable.arena _ low) in
-    let opcode = opcode_read _ c.wide.ensures c.opcode-opcode.ensures in
-    let done : c.load-y.result.count ≤ c.loop-j.j = omega (arith, c.wide-count.ensures, c.loop-j-test.false) in
-    plans_operation p.buildable _ low _ _ _ p.s_value opcode put inv.1 inv.2
-    (operands_end b _ low _ _ _ y done inv.2 inv.3)
+    plans_operation p.buildable _ low _ _ _ p.s_value c.opcode-opcode.ensures put inv.0 inv.1
+    (operands_end b _ low _ _ _ y c.loop-j-test.false inv.1 inv.2)
 
 -- ---- `operand`
 
-pub operand-returns-in-Thunk : goal.operand-returns-in-Thunk
-operand-returns-in-Thunk t c = plans_thunk _ _ _ _ c.in-Thunk.is c.wide.ensures c.thunk.ensures
+pub operand-returns-in-Some : goal.operand-returns-in-Some
+operand-returns-in-Some t c = plans_thunk _ _ _ c.in-Some.is c.thunk.ensures
 
 -- ---- `thunk`
 
@@ -146,34 +166,37 @@ pub thunk-returns-then-not-any_member : goal.thunk-returns-then-not-any_member
 thunk-returns-then-not-any_member t c =
     plans_memberless _ _ c.requires.buildable _ _ _ c.any_member.ensures c.if-not-any_member.true c.build.ensures
 
-pub thunk-returns : goal.thunk-returns
-thunk-returns t c = plans_copied c.copied-map.ensures c.define.ensures
-
 -- ---- `lambda`
+
+pub lambda-returns-in_err-q : goal.lambda-returns-in_err-q
+lambda-returns-in_err-q t c =
+    let p = c.requires in
+    let at = p.site in
+    let writable = lambda_writable p.buildable _ at.low _ p.s_value c.args.last (omega (arith, at.room)) in
+    rw c.from_residual.ensures
+    (plans_over (c.in_err-q.ensures.grew _ writable) (fresh_tree c.args.s c.args.last) (λ gr sc env st maps.
+    (_, lambda_rows p.buildable _ at.low _ _ p.s_value c.load-y.ensures _ c.aux-count.ensures gr sc env st)))
 
 pub lambda-define-requires : goal.lambda-define-requires
 lambda-define-requires t c =
     let p = c.requires in
     let at = p.site in
-    let count = count_read _ c.wide.ensures c.aux.ensures c.wide-count.ensures.0 in
-    let root = root_read _ c.load-y.ensures c.wide-2.ensures c.wide-root.ensures in
     let fits = lambda_fits p.buildable _ at.low _ p.s_value in
-    let low = body_low p.buildable _ at.low _ p.s_value in
+    let low = body_low p.buildable _ at.low _ p.s_value c.load-y.ensures in
     let writable = lambda_writable p.buildable _ at.low _ p.s_value c.args.last (omega (arith, at.room)) in
-    let put = c.put-q.ensures.grew _ writable in (
-      omega (arith, c.decreases, root, low),
+    let put = (c.in_ok-q.ensures.grew _ writable).is in (
+      omega (arith, c.decreases, low),
       (
         p.laid,
         (
           buildable_kept put.kept p.buildable,
           (
             record {
-              low = omega (arith, root, low, at.low);
-              long = c.number.auto.map ∙ (ap length c.copied-map.ensures ∙ at.long);
-              room = omega (arith, root, low, count, fits.few, at.room);
-              count = grew_few put;
+              low = omega (arith, low, at.low);
+              room = omega (arith, low, c.aux-count.ensures, c.from-2.ensures, fits.few, at.room);
+              count = put.few;
             },
-            omega (arith, c.wide-5.ensures, fits.body),
+            fits.body,
           ),
         ),
       ),
@@ -183,11 +206,9 @@ pub lambda-returns : goal.lambda-returns
 lambda-returns t c =
     let p = c.requires in
     let at = p.site in
-    let count = count_read _ c.wide.ensures c.aux.ensures c.wide-count.ensures.0 in
-    let root = root_read _ c.load-y.ensures c.wide-2.ensures c.wide-root.ensures in
     let writable = lambda_writable p.buildable _ at.low _ p.s_value c.args.last (omega (arith, at.room)) in
-    plans_lambda p.buildable _ at.low _ _ p.s_value at.long count root c.copied-map.ensures c.wide-3.ensures
-    c.wide-4.ensures c.wide-5.ensures c.number.ensures (c.put-q.ensures.grew _ writable) c.define.ensures
+    plans_lambda p.buildable _ at.low _ _ p.s_value c.load-y.ensures c.told-ids (c.from.ensures ∙ c.aux-count.ensures)
+    (c.from-2.ensures ∙ c.aux-count.ensures) c.number.ensures (c.in_ok-q.ensures.grew _ writable).is c.define.ensures
 
 -- ---- `define`
 
@@ -197,101 +218,124 @@ define-returns-then-not-any_member t c =
 
 pub define-returns-then-k-eq0 : goal.define-returns-then-k-eq0
 define-returns-then-k-eq0 t c =
-    plans_result _ _ c.requires.buildable _ _ _ _ _ c.schedule-count.ensures.is c.members-k.ensures.1
+    let s = ordered c.as_slice-order.ensures.value c.schedule.ensures in
+    plans_result _ _ c.requires.buildable _ _ _ _ _ s.is c.members-k.ensures.1
     c.if-k-eq0.true c.build-then-k-eq0.ensures
 
-pub define-definitions-d-requires : goal.define-definitions-d-requires
-define-definitions-d-requires t c =
+pub define-returns-in_err-q : goal.define-returns-in_err-q
+define-returns-in_err-q t c =
+    let s = ordered c.as_slice-order.ensures.value c.schedule.ensures in
+    let put = c.in_err-q.ensures.grew c.args.forest.now (omega (arith, c.members-k.ensures.0)) in
+    rw c.from_residual.ensures
+    (plans_over put _ (λ gr x env st maps.
+    (_, block_rows _ _ c.requires.buildable _ _ _ _ _ s.is c.members-k.ensures.1 (omega (arith, c.if-k-eq0.false)) gr env st maps)))
+
+pub define-definitions-requires : goal.define-definitions-requires
+define-definitions-requires t c =
     let p = c.requires in
-    let s = c.schedule-count in
-    let put = c.put-q.ensures.grew c.args.forest.now (omega (arith, c.members-k.ensures.0)) in
-    let long = s.auto.order ∙ ap length c.zeros16-order.ensures in (
+    let s = ordered c.as_slice-order.ensures.value c.schedule.ensures in
+    let put = (c.in_ok-q.ensures.grew c.args.forest.now (omega (arith, c.members-k.ensures.0))).is in (
       omega (arith, c.decreases),
-      (
-        p.laid,
-        (
-          buildable_kept put.kept p.buildable,
-          (site_on p.site refl (omega arith) (grew_few put), ((s.ensures.fit, long), s.ensures.low)),
-        ),
-      ),
+      (p.laid, (buildable_kept put.kept p.buildable, (site_on p.site (omega arith) put.few, (s.fit, s.low)))),
     )
+
+pub define-returns-in_err-d : goal.define-returns-in_err-d
+define-returns-in_err-d t c =
+    let s = ordered c.as_slice-order.ensures.value c.schedule.ensures in
+    let put = (c.in_ok-q.ensures.grew c.args.forest.now (omega (arith, c.members-k.ensures.0))).is in
+    rw c.from_residual-in_err-d.ensures
+    (block_over _ _ c.requires.buildable _ _ _ _ _ s.is c.members-k.ensures.1
+    (omega (arith, c.if-k-eq0.false)) put c.in_err-d.ensures)
 
 pub define-build-requires-2 : goal.define-build-requires-2
 define-build-requires-2 t c =
     let p = c.requires in
-    let d = c.definitions-d in
-    let put = c.put-q.ensures.grew c.args.forest.now (omega (arith, c.members-k.ensures.0)) in (
+    let d = c.in_ok-d.ensures in
+    let put = (c.in_ok-q.ensures.grew c.args.forest.now (omega (arith, c.members-k.ensures.0))).is in (
       omega (arith, c.decreases),
       (
         p.laid,
         (
-          buildable_kept (frame_then _ _ _ _ _ put.kept d.ensures.kept) p.buildable,
-          site_on p.site d.auto.map (omega (arith, d.ensures.few, c.schedule-count.ensures.fit)) d.ensures.full,
+          buildable_kept (frame_then _ _ _ _ _ put.kept d.kept) p.buildable,
+          site_on p.site (omega (arith, d.ids, c.as_slice-order.ensures.fits)) d.few,
         ),
       ),
     )
 
 pub define-returns : goal.define-returns
 define-returns t c =
-    let put = c.put-q.ensures.grew c.args.forest.now (omega (arith, c.members-k.ensures.0)) in
-    plans_block _ _ c.requires.buildable _ _ _ _ _ c.schedule-count.ensures.is c.members-k.ensures.1
-    (omega (arith, c.if-k-eq0.false)) put c.definitions-d.ensures c.build-2.ensures
+    let s = ordered c.as_slice-order.ensures.value c.schedule.ensures in
+    let put = (c.in_ok-q.ensures.grew c.args.forest.now (omega (arith, c.members-k.ensures.0))).is in
+    plans_block _ _ c.requires.buildable _ _ _ _ _ s.is c.members-k.ensures.1
+    (omega (arith, c.if-k-eq0.false)) put c.in_ok-d.ensures c.build-2.ensures
 
 -- ---- `definitions`
 
-pub definitions-loop-i-init : goal.definitions-loop-i-init
-definitions-loop-i-init t c =
-    let at = c.requires.site in (omega arith, at.long, defines_none at.count)
+pub definitions-loop-s-init : goal.definitions-loop-s-init
+definitions-loop-s-init t c = defines_none c.requires.site.count
 
-pub definitions-definition-d-requires : goal.definitions-definition-d-requires
-definitions-definition-d-requires t c =
+pub definitions-definition-requires : goal.definitions-definition-requires
+definitions-definition-requires t c =
     let p = c.requires in
-    let inv = c.loop-i.invariant in
-    let low = p.by_index _ c.loop-i-test.true in (
-      omega (arith, c.decreases, c.wide-s.ensures.0, low),
+    let inv = c.loop-s.invariant in
+    let low = p.by_index _ c.loop-s-test.true in (
+      omega (arith, c.decreases, c.from.ensures, low),
       (
         p.laid,
         (
-          buildable_kept inv.2.kept p.buildable,
+          buildable_kept inv.kept p.buildable,
           record {
-            low = omega (arith, c.wide-s.ensures.0, low, p.site.low);
-            long = inv.1;
-            room = omega (arith, c.wide-s.ensures.0, low, inv.0, inv.2.few, p.site.room, p.count_bound.0);
-            count = inv.2.full;
+            low = omega (arith, c.from.ensures, low, p.site.low);
+            room = omega (arith, c.from.ensures, low, inv.ids, p.site.room, p.order_bound, c.loop-s-test.true);
+            count = inv.few;
           },
         ),
       ),
     )
 
-pub definitions-loop-i-preserved : goal.definitions-loop-i-preserved
-definitions-loop-i-preserved t c =
-    let p = c.requires in
-    let l = c.loop-i in (
-      omega (arith, c.loop-i-test.true),
-      c.definition-d.auto.map ∙ l.invariant.1,
-      defines_more c.args.order.now p.buildable (omega (arith, c.loop-i-test.true, p.count_bound.0, p.count_bound.1))
-          c.wide-s.ensures.0 l.invariant.2 c.definition-d.ensures,
-    )
+pub definitions-returns-in_err-d : goal.definitions-returns-in_err-d
+definitions-returns-in_err-d t c =
+    rw c.from_residual.ensures
+    (defines_over c.args.order.now c.requires.buildable c.loop-s-test.true c.from.ensures c.loop-s.invariant
+    c.in_err-d.ensures)
+
+pub definitions-loop-s-preserved : goal.definitions-loop-s-preserved
+definitions-loop-s-preserved t c =
+    defines_more c.args.order.now c.requires.buildable c.loop-s-test.true c.from.ensures c.loop-s.invariant
+    c.in_ok-d.ensures
 
 pub definitions-returns : goal.definitions-returns
 definitions-returns t c =
-    let e : c.loop-i.i ≡ c.args.count = omega (arith, c.loop-i.invariant.0) in rw (← e) c.loop-i.invariant.2
+    let e : c.loop-s.s-index ≡ length c.args.order.now = omega arith in
+    rw take-length at (rw e at c.loop-s.invariant)
 
 -- ---- `definition`
 
-pub definition-build-plan-requires : goal.definition-build-plan-requires
-definition-build-plan-requires t c =
+pub definition-returns-in_err-q : goal.definition-returns-in_err-q
+definition-returns-in_err-q t c =
+    rw c.from_residual.ensures
+    (define_over _ _ c.if-member.true c.member.ensures (c.in_err-q.ensures.grew c.args.forest.now tt).is)
+
+pub definition-build-requires : goal.definition-build-requires
+definition-build-requires t c =
     let p = c.requires in
-    let put = c.put-q.ensures.grew c.args.forest.now tt in (
+    let put = (c.in_ok-q.ensures.grew c.args.forest.now tt).is in (
       omega (arith, c.decreases),
-      (p.laid, (buildable_kept put.kept p.buildable, site_on p.site refl (omega arith) (grew_few put))),
+      (p.laid, (buildable_kept put.kept p.buildable, site_on p.site (omega arith) put.few)),
     )
+
+pub definition-returns-in_err-plan : goal.definition-returns-in_err-plan
+definition-returns-in_err-plan t c =
+    let put = (c.in_ok-q.ensures.grew c.args.forest.now tt).is in
+    rw c.from_residual-in_err-plan.ensures
+    (value_over c.args.above _ _ c.requires.buildable c.if-member.true c.member.ensures put c.in_err-plan.ensures)
 
 pub definition-returns-then-member : goal.definition-returns-then-member
 definition-returns-then-member t c =
     let p = c.requires in
-    defines_one _ _ p.buildable c.if-member.true c.member.ensures (id_fits p.site p.buildable)
-    (c.put-q.ensures.grew _ tt) c.build-plan.ensures
+    let put = (c.in_ok-q.ensures.grew c.args.forest.now tt).is in
+    defines_one _ _ p.buildable c.if-member.true c.member.ensures
+    (let h = c.told-map in omega (arith, h, p.site.low, p.buildable.arena.scoped.few)) put c.in_ok-plan.ensures
 
 pub definition-returns : goal.definition-returns
 definition-returns t c = defines_other _ _ c.if-member.false c.member.ensures c.requires.site.count

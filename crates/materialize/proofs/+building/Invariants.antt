@@ -1,7 +1,6 @@
 -- The functions of the cycle `building` of `materialize` in their loops and calls: what stays, and what falls. Assumes nothing.
-use Prim.Native.Nat.{◌+◌, ◌-◌, ◌*◌, ◌≤◌}
-use mathlib.Core.Path.{◌≡◌}
-use lib.ListN.{length, take}
+use Prim.Native.Nat.{◌+◌, ◌*◌, ◌≤◌}
+use lib.ListN.{take}
 use Rattle.planner.specs.Grew.{PlanOnly}
 use Rattle.planner.specs.Planning.{Defines, Leads}
 use Rattle.materialize.proofs.+building.Given as given
@@ -22,15 +21,9 @@ abbrev pub decreases-definitions : given.decreases-definitions
 decreases-definitions l =
     8 * l.root + 4
 
-abbrev pub invariant-definitions-loop-i : given.invariant-definitions-loop-i
-invariant-definitions-loop-i l =
-    (l.i ≤ l.count)
-    × (length l.map ≡ 512)
-    × Defines l.forest l.initial.work l.g l.initial.map l.initial.d.plan l.above l.sc (take l.i l.order) l.last l.i l.work l.map l.d.plan l.d.last
-
-abbrev pub decreases-definitions-loop-i : given.decreases-definitions-loop-i
-decreases-definitions-loop-i l =
-    l.count - l.i
+abbrev pub invariant-definitions-loop-s : given.invariant-definitions-loop-s
+invariant-definitions-loop-s l =
+    Defines l.forest l.initial.work l.g l.initial.map l.initial.d.plan l.above l.sc (take l.s-index l.order) l.last l.s-index l.work l.map l.d.plan l.d.last
 
 abbrev pub decreases-fresh : given.decreases-fresh
 decreases-fresh l =
@@ -50,14 +43,9 @@ decreases-operands l =
 
 abbrev pub invariant-operands-loop-j : given.invariant-operands-loop-j
 invariant-operands-loop-j l =
-    (l.j ≤ l.count)
-    × PlanOnly l.initial.work l.work
-    × (l.q.rows ≤ 257)
+    PlanOnly l.initial.work l.work
+    × (l.q.rows ≤ 256)
     × Leads l.forest l.initial.work l.g l.ids l.initial.q (l.above + 1) l.s l.opcode l.o l.last l.j l.work l.q
-
-abbrev pub decreases-operands-loop-j : given.decreases-operands-loop-j
-decreases-operands-loop-j l =
-    l.count - l.j
 
 abbrev pub decreases-thunk : given.decreases-thunk
 decreases-thunk l =

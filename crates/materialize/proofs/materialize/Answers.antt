@@ -1,7 +1,5 @@
 -- `materialize::materialize` meets its contract. Assumes nothing.
-use mathlib.Core.Path.{ap}
 use native.Mathlib.Omega.{arith}
-use lib.ListN.{length}
 use Rattle.materialize.proofs.Root.{materialized}
 use Rattle.materialize.proofs.materialize.Goals as goal
 
@@ -12,7 +10,6 @@ define-requires c =
       buildable = b;
       site = record {
         low = c.requires.root_lt_symbols;
-        long = ap length c.no_ids-map.ensures;
         room = omega (arith, c.requires.root_lt_symbols, b.arena.scoped.few);
         count = omega arith;
       };
@@ -21,6 +18,4 @@ define-requires c =
 
 pub returns : goal.returns
 returns c =
-    materialized _ c.no_ids-map.ensures
-    c.requires.counted
-    c.define.ensures
+    materialized _ c.requires.counted c.define.ensures

@@ -1,23 +1,17 @@
 -- `memo::recall` meets its contract. Assumes nothing.
-use mathlib.Core.Path.{refl, ◌∙◌}
-use native.Mathlib.Omega.{arith}
-use Rattle.memo.proofs.Laws.{recall_none, recall_hit, recall_miss}
+use Rattle.std.proofs.Common.{rules, ◌+◌, ◌%◌, arith, eqb, tests}
+use Rattle.std.specs.List.{slice_range}
+use Rattle.std.proofs.lemmas.Iterator.Search.{find_from_yields_List}
+use Rattle.std.proofs.lemmas.Iterator.Adapters.{YieldsList-from_rev_slice}
+use Rattle.regions.specs.Regions.{MEMO}
+use Rattle.memo.proofs.Laws.{recall_found}
 use Rattle.memo.proofs.recall.Goals as goal
-
-pub returns-then-w-p : goal.returns-then-w-p
-returns-then-w-p c =
-    let l = c.loop-k in
-    recall_hit _ _ l.k c.loop-k-test.true c.if-w-p.true ∙ l.invariant.1
-
-pub loop-k-preserved : goal.loop-k-preserved
-loop-k-preserved c =
-    let l = c.loop-k in
-    (omega arith, recall_miss _ _ l.k c.loop-k-test.true c.if-w-p.false ∙ l.invariant.1)
-
-pub loop-k-init : goal.loop-k-init
-loop-k-init c =
-    (omega arith, refl)
 
 pub returns : goal.returns
 returns c =
-    recall_none _ _ _ c.loop-k-test.false ∙ c.loop-k.invariant.1
+    let a = c.args in
+    let pairs = YieldsList-from_rev_slice (slice_range a.work.now MEMO.first (MEMO.first + a.n)) (search rules) in
+    let newest =
+    find_from_yields_List (λ w. eqb (w % 512) a.p) _ _ c.find-newest.result c.find-newest.ensures.ran pairs
+    (λ x b q k. search (rules, tests)) in
+    rw (← recall_found a.work.now a.p a.n (omega arith), ← newest) (search rules)

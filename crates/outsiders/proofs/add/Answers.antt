@@ -1,25 +1,19 @@
 -- `outsiders::add` meets its contract. Assumes nothing.
+use mathlib.Core.Path.{◌∙◌}
 use native.Mathlib.Omega.{arith}
-use mathlib.Core.Path.{sym, ◌∙◌}
-use Rattle.outsiders.proofs.Lists.{held_room}
-use Rattle.outsiders.proofs.Offers.{add_old, add_new}
+use Rattle.outsiders.proofs.Lists.{found_is, add_old, add_new, held_room}
 use Rattle.outsiders.proofs.add.Goals as goal
 
-pub returns-then-has : goal.returns-then-has
-returns-then-has c bs ws =
-    add_old _ _ _ _ c.requires.held bs ws _ (sym c.has.ensures ∙ c.if-has.true)
+pub push-requires : goal.push-requires
+push-requires c = (
+  omega arith,
+  held_room _ _ _ c.requires.1 c.requires.0
+      (found_is _ _ c.deref.ensures.0 c.has.ensures ∙ c.if-not-has.true),
+)
 
-pub bounds-list-n : goal.bounds-list-n
-bounds-list-n c =
-    let p = c.requires in
-    omega (
-      arith,
-      p.d_lt_symbols.1,
-      p.held.long,
-      held_room _ _ _ p.held _ p.d_lt_symbols.0 (sym c.has.ensures ∙ c.if-has.false),
-    )
+pub returns-then-not-has : goal.returns-then-not-has
+returns-then-not-has c =
+    c.push.ensures.items ∙ add_new _ _ c.deref.ensures.0 c.has.ensures c.if-not-has.true
 
-pub returns : goal.returns
-returns c bs ws =
-    let p = c.requires in
-    add_new _ _ _ _ p.held bs ws _ (sym c.has.ensures ∙ c.if-has.false) p.d_lt_symbols.0 p.d_lt_symbols.1
+pub returns-else-not-has : goal.returns-else-not-has
+returns-else-not-has c = add_old _ _ c.deref.ensures.0 c.has.ensures c.if-not-has.false

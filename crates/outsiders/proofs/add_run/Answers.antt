@@ -1,44 +1,19 @@
 -- `outsiders::add_run` meets its contract. Assumes nothing.
-use mathlib.Core.Path.{◌≡◌, refl, ◌∙◌}
-use mathlib.Core.List.{[]}
-use native.Mathlib.Omega.{arith}
-use Rattle.outsiders.proofs.Offers.{run-start, run_next}
+use mathlib.Core.Path.{refl}
+use Rattle.model.specs.Lists.{union}
+use Rattle.laws.proofs.Falls.{under_at}
+use Rattle.outsiders.proofs.Lists.{held_add, union_next}
 use Rattle.outsiders.proofs.add_run.Goals as goal
 
-pub loop-k-init : goal.loop-k-init
-loop-k-init c =
-    (omega arith, refl, λ bs. run-start _ _ _ _ _ _ _ c.requires.held)
+pub loop-d-init : goal.loop-d-init
+unfolding union
+loop-d-init c = (c.requires.held, refl)
 
-pub add-at-requires : goal.add-at-requires
-add-at-requires c =
-    let p = c.requires in
-    let l = c.loop-k in record { d_lt_symbols = (p.words_below.low l.k c.loop-k-test.true, p.scoped.few); held = (l.invariant.2 []).held }
+pub add-requires : goal.add-requires
+add-requires c = (under_at _ _ c.requires.below _ c.loop-d-test.true, c.loop-d.invariant.0)
 
-pub loop-k-preserved : goal.loop-k-preserved
-loop-k-preserved c =
-    let l = c.loop-k in
-    let o = c.add-at in (
-      omega arith,
-      o.auto.list ∙ l.invariant.1,
-      λ bs. run_next bs _ _ _ _ _ _ l.k _ refl _ _ _ _ (l.invariant.2 bs) (o.ensures bs _),
-    )
-
-pub returns : goal.returns
-returns c bs =
-    let l = c.loop-k in let e : l.k ≡ c.args.count = omega arith in rw e at
-    (l.invariant.2 bs)
-
-pub overflow_add-d : goal.overflow_add-d
-overflow_add-d c =
-    omega (
-      arith,
-      c.requires.words_below.fit,
-    )
-
-pub overflow_cast-d : goal.overflow_cast-d
-overflow_cast-d c =
-    omega (arith, c.requires.scoped.few, c.requires.words_below.low c.loop-k.k c.loop-k-test.true)
-
-pub shape_of-list : goal.shape_of-list
-shape_of-list c =
-    c.loop-k.invariant.1
+pub loop-d-preserved : goal.loop-d-preserved
+loop-d-preserved c = (
+  rw c.add.ensures (held_add _ _ _ c.loop-d.invariant.0 (under_at _ _ c.requires.below _ c.loop-d-test.true)),
+  rw (c.add.ensures, c.loop-d.invariant.1) (union_next _ _ _ _ c.loop-d-test.true refl),
+)

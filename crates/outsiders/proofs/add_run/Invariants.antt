@@ -1,18 +1,9 @@
--- `outsiders::add_run` in its loops: what stays, and what falls. Assumes nothing.
-use Prim.Native.Nat.{ℕ, ◌-◌, ◌≤◌}
+-- `outsiders::add_run` in its loop: what stays. Assumes nothing.
 use mathlib.Core.Path.{◌≡◌}
-use mathlib.Core.List.{List}
-use lib.ListN.{length}
+use lib.ListN.{take}
 use Rattle.model.specs.Lists.{union}
-use Rattle.symbols.specs.Words.{words_from}
-use Rattle.outsiders.specs.Outsiders.{Listed}
+use Rattle.outsiders.specs.Outsiders.{Held}
 use Rattle.outsiders.proofs.add_run.Given as given
 
-abbrev pub invariant-loop-k : given.invariant-loop-k
-invariant-loop-k l =
-    (l.k ≤ l.count) × (length l.list ≡ length l.initial.list)
-    × ((bs : List ℕ) → Listed bs l.work l.g.symbols l.g.scopes (λ _ o. union o (words_from l.work l.from l.k)) l.initial.list l.n l.list l.at)
-
-abbrev pub decreases-loop-k : given.decreases-loop-k
-decreases-loop-k l =
-    l.count - l.k
+abbrev pub invariant-loop-d : given.invariant-loop-d
+invariant-loop-d l = Held 512 l.list.items × (l.list.items ≡ union l.initial.list.items (take l.d-index l.run))

@@ -1,35 +1,20 @@
 -- `outsiders::offer_kids` meets its contract. Assumes nothing.
-use mathlib.Core.List.{[]}
-use Rattle.outsiders.proofs.Offers.{kids_from, kids_lower, kids_offered}
+use Rattle.outsiders.proofs.Offers.{kids_inside, kids_offered}
 use Rattle.outsiders.proofs.offer_kids.Goals as goal
 
-pub opcode-opcode-requires : goal.opcode-opcode-requires
-opcode-opcode-requires c =
-    let p = c.requires in record {
-      laid = p.laid;
-      i_bound = kids_from _ _ _ _ _ p.arena p.s_lt_symbols _ c.load-y.ensures _
-          c.parts_of-p.ensures;
-    }
+pub offer_operands-requires-clause-below : goal.offer_operands-requires-clause-below
+offer_operands-requires-clause-below c =
+    let p = c.requires in kids_inside _ _ _ _ _ p.arena p.s_lt_symbols _ c.load.ensures _ c.children-run.ensures
 
-pub offer_words-m-requires : goal.offer_words-m-requires
-offer_words-m-requires c =
-    let p = c.requires in record {
-      scoped = p.arena.scoped;
-      words_below = kids_lower _ _ _ _ _ p.arena p.s_lt_symbols _
-          c.load-y.ensures;
-      held = p.held;
-    }
+pub offer_operands-requires-2-clause-below : goal.offer_operands-requires-2-clause-below
+offer_operands-requires-2-clause-below c =
+    let p = c.requires in kids_inside _ _ _ _ _ p.arena p.s_lt_symbols _ c.load.ensures _ c.children-run.ensures
 
-pub offer_words-requires : goal.offer_words-requires
-offer_words-requires c =
-    let p = c.requires in record { scoped = p.arena.scoped; words_below = kids_lower _ _ _ _ _ p.arena p.s_lt_symbols _ c.load-y.ensures; held = (c.offer_words-m.ensures []).held }
+pub offer_operands-requires-2-clause-held : goal.offer_operands-requires-2-clause-held
+offer_operands-requires-2-clause-held c = (c.offer_operands.ensures c.args.forest.now).held
 
 pub returns : goal.returns
 returns c =
     let p = c.requires in
-    kids_offered _ _ _ _ _ p.arena p.s_lt_symbols _
-    c.load-y.ensures _
-    c.parts_of-p.ensures _
-    c.opcode-opcode.ensures _ _ _ _ _ _ _
-    (c.offer_words-m.ensures _)
-    (c.offer_words.ensures _)
+    kids_offered _ _ _ _ _ p.arena p.s_lt_symbols _ c.load.ensures _ c.source.ensures _ c.opcode-opcode.ensures _ _
+    c.children-run.ensures (c.offer_operands.ensures _) (c.offer_operands-2.ensures _)

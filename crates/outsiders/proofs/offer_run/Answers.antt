@@ -1,44 +1,31 @@
 -- `outsiders::offer_run` meets its contract. Assumes nothing.
-use mathlib.Core.Path.{◌≡◌, refl, ◌∙◌}
 use mathlib.Core.List.{[]}
 use native.Mathlib.Omega.{arith}
-use Rattle.outsiders.proofs.Offers.{all_start, all_next}
+use lib.Seq.{take_all}
+use Rattle.laws.proofs.Falls.{under_at}
+use Rattle.outsiders.proofs.Offers.{offered_none, offered_next}
 use Rattle.outsiders.proofs.offer_run.Goals as goal
 
-pub loop-k-init : goal.loop-k-init
-loop-k-init c =
-    (omega arith, refl, λ bs. all_start _ _ _ _ _ _ _ _ c.requires.held)
+pub loop-d-init : goal.loop-d-init
+loop-d-init g c bs = offered_none _ c.requires.held
 
-pub offer-at-requires : goal.offer-at-requires
-offer-at-requires c =
-    let p = c.requires in
-    let l = c.loop-k in record { scoped = p.scoped; d_lt_symbols = p.words_below.low l.k c.loop-k-test.true; held = (l.invariant.2 []).held }
+pub offer-requires-clause-d_lt_symbols : goal.offer-requires-clause-d_lt_symbols
+offer-requires-clause-d_lt_symbols g c =
+    let long = g.met.T.Entry.lengths c.args.run.now in
+    let is = c.symbol.ensures _ c.loop-d.d-index c.loop-d-test.true c.d-item.is in
+    omega (arith, under_at _ _ c.requires.below c.loop-d.d-index (omega arith))
 
-pub loop-k-preserved : goal.loop-k-preserved
-loop-k-preserved c =
-    let l = c.loop-k in
-    let o = c.offer-at in (
-      omega arith,
-      o.auto.list ∙ l.invariant.1,
-      λ bs. all_next bs _ _ _ _ _ _ _ l.k _ refl _ _ _ _ (l.invariant.2 bs) (o.ensures bs),
-    )
+pub offer-requires-clause-held : goal.offer-requires-clause-held
+offer-requires-clause-held g c = (c.loop-d.invariant []).held
+
+pub loop-d-preserved : goal.loop-d-preserved
+loop-d-preserved g c bs =
+    let long = g.met.T.Entry.lengths c.args.run.now in
+    let is = c.symbol.ensures _ c.loop-d.d-index c.loop-d-test.true c.d-item.is in
+    offered_next _ _ _ _ (omega arith) is (c.loop-d.invariant bs) (c.offer.ensures bs)
 
 pub returns : goal.returns
-returns c bs =
-    let l = c.loop-k in let e : l.k ≡ c.args.count = omega arith in rw e at
-    (l.invariant.2 bs)
-
-pub overflow_add-d : goal.overflow_add-d
-overflow_add-d c =
-    omega (
-      arith,
-      c.requires.words_below.fit,
-    )
-
-pub overflow_cast-d : goal.overflow_cast-d
-overflow_cast-d c =
-    omega (arith, c.requires.scoped.few, c.requires.words_below.low c.loop-k.k c.loop-k-test.true)
-
-pub shape_of-list : goal.shape_of-list
-shape_of-list c =
-    c.loop-k.invariant.1
+returns g c bs =
+    let long = g.met.T.Entry.lengths c.args.run.now in
+    let e = take_all c.loop-d.d-index (g.T.Entry.numbers c.args.run.now) (omega arith) in
+    rw e at (c.loop-d.invariant bs)

@@ -1,17 +1,11 @@
--- `outsiders::offer_run` in its loops: what stays, and what falls. Assumes nothing.
-use Prim.Native.Nat.{ℕ, ◌-◌, ◌≤◌}
-use mathlib.Core.Path.{◌≡◌}
+-- `outsiders::offer_run` in its loop: what stays. Assumes nothing.
 use mathlib.Core.List.{List}
-use lib.ListN.{length}
-use Rattle.symbols.specs.Words.{words_from}
+use Prim.Native.Nat.{ℕ}
+use lib.ListN.{take}
 use Rattle.outsiders.specs.Outsiders.{offered, Listed}
 use Rattle.outsiders.proofs.offer_run.Given as given
 
-abbrev pub invariant-loop-k : given.invariant-loop-k
-invariant-loop-k l =
-    (l.k ≤ l.count) × (length l.list ≡ length l.initial.list)
-    × ((bs : List ℕ) → Listed bs l.work l.g.symbols l.g.scopes (offered l.cs (words_from l.work l.from l.k)) l.initial.list l.n l.list l.at)
-
-abbrev pub decreases-loop-k : given.decreases-loop-k
-decreases-loop-k l =
-    l.count - l.k
+abbrev pub invariant-loop-d : given.invariant-loop-d
+invariant-loop-d g l =
+    (bs : List ℕ) → Listed bs l.work l.g.symbols l.g.scopes (offered l.cs (take l.d-index (g.T.Entry.numbers l.run)))
+    l.initial.list.items l.list.items

@@ -1,11 +1,12 @@
 -- `replay::agrees` meets its contract. Assumes nothing.
-use Rattle.std.proofs.Common.{◌≡◌, ℕ, ◌-◌, ◌≤◌, List, ◌++◌, length, take, drop, replicate, arith, sym, ap, ap₂, ◌∙◌}
-use Rattle.std.proofs.Common.{length-append, length-drop, length-take-le}
+use Rattle.std.proofs.Common.{◌≡◌, ℕ, ◌-◌, ◌≤◌, List, ◌++◌, length, take, drop, replicate, arith, rules, sym, ap, ap₂}
+use Rattle.std.proofs.Common.{◌∙◌, length-append, length-drop, length-take-le}
 use Rattle.std.proofs.lemmas.List.{take-replicate, drop-replicate, length-replicate}
 use Rattle.model.specs.Call.{call_of, out_after}
 use Rattle.replay.specs.declared.Row.{Row}
 use Rattle.replay.specs.Rows.{call_in, before}
 use Rattle.replay.proofs.agrees.Goals as goal
+use Rattle.replay.proofs.agrees.Goals.{then-eq, else-eq}
 
 -- what the definitions leave in the bytes that are lent, and those past them, is what was looked at
 seen : (row : Row) (bs tree fill fill' out' : List ℕ) (n x : ℕ) → row.room ≤ n → row.words ≤ length fill' →
@@ -31,8 +32,12 @@ seen row bs tree fill fill' out' n x room words e left long same =
     ) in
     ap₂ (λ (a b : List ℕ). a ++ b) (sym gives) (sym past) ∙ same ∙ ap (λ m. before tree m x) whole
 
-pub returns-clause-output : goal.returns-clause-output
-returns-clause-output c h =
-    seen c.args.row c.args.forest.now c.args.tree.now c.fill_bytes.new.out c.fill_words.new.work c.cse-r.new.out
-    (length c.args.out.now) 165 c.if-out-row.false (omega arith) c.fill_bytes.ensures c.cse-r.ensures.out_after
-    c.cse-r.auto.out (c.is_output.ensures.0 c.if-not-is_output.false)
+pub returns-then-is_output-clause-output : goal.returns-then-is_output-clause-output
+returns-then-is_output-clause-output c h =
+    elim c.if-eq.branch [
+      | then-eq w ↦
+          seen c.args.row c.args.forest.now c.args.tree.now c.fill.new.self c.fill-2.new.self c.cse-answer.new.out
+          (length c.args.out.now) 165 c.if-out-row.false (omega arith) (search rules) c.cse-answer.ensures.out_after
+          c.cse-answer.auto.out (w.is_output.ensures.0 (sym w.value-is ∙ c.if-is_output.true))
+      | else-eq w ↦ cc
+    ]

@@ -1,9 +1,6 @@
--- `replay::main` in its loop: what stays, and what falls. Assumes nothing.
-use Rattle.std.proofs.Common.{◌-◌, ◌≤◌}
+-- `replay::main` in its loop: what stays. Assumes nothing.
+use Rattle.std.proofs.Common.{◌≤◌}
 use Rattle.replay.proofs.main.Given as goal
 
-abbrev pub invariant-loop-rows : goal.invariant-loop-rows
-invariant-loop-rows l = l.differ ≤ l.rows
-
-abbrev pub decreases-loop-rows : goal.decreases-loop-rows
-decreases-loop-rows l = 1000000 - l.rows
+abbrev pub invariant-loop-row : goal.invariant-loop-row
+invariant-loop-row l = l.differ ≤ l.row-counter

@@ -1,147 +1,171 @@
 -- The functions of the cycle `scheduling` of `schedule` meet their contracts. Assumes nothing.
-use Prim.Native.Nat.{◌+◌, ◌<◌}
-use mathlib.Core.Path.{◌≡◌, refl, ◌∙◌}
+use mathlib.Core.Path.{refl, ◌∙◌}
 use mathlib.Core.List.{[]}
 use native.Mathlib.Omega.{arith}
-use borrow.Author.Rules.{rules}
-use lib.ListN.{length, get_or}
-use Rattle.free_lists.proofs.Giving.{kids_below}
-use Rattle.schedule.proofs.Lending.{shows_empty, lent_empty, put_body, put_room, put_plain, walked_lent}
-use Rattle.schedule.proofs.Walking.{visit-passed, visit_seen, visit_goes, near_done, visit_done, walk_start, walk_more}
-use Rattle.schedule.proofs.Walking.{words_begin, words_next, list_next}
-use Rattle.schedule.proofs.Bodies.{near_free, needs_free, free_done}
+use lib.Seq.{take_all}
+use Rattle.laws.proofs.Falls.{under_at}
+use Rattle.outsiders.proofs.Offers.{kids_below}
+use Rattle.schedule.proofs.Places.{near_free}
+use Rattle.schedule.proofs.Lending.{shows_empty, lent_empty, walked_lent}
+use Rattle.schedule.proofs.Walking.{visit_seen, visit-passed, visit_goes, near_done, visit_done, walk_start, walk_next}
+use Rattle.schedule.proofs.Bodies.{free_done}
 use Rattle.schedule.proofs.+scheduling.Goals as goal
-use Rattle.schedule.proofs.+scheduling.Goals.{across-then-seen-d-eq0, across-else-seen-d-eq0, run-then-seen-d-eq0, run-else-seen-d-eq0}
+use Rattle.schedule.proofs.+scheduling.Goals.{across-then-not-seen-d, across-else-not-seen-d}
+use Rattle.schedule.proofs.+scheduling.Goals.{run-then-not-seen-d, run-else-not-seen-d}
 
 -- ---- `across`
 
-pub across-loop-k-init : goal.across-loop-k-init
-across-loop-k-init t c = (omega arith, refl, refl, walk_start)
+pub across-loop-entry-init : goal.across-loop-entry-init
+across-loop-entry-init t c = walk_start
 
-pub across-loop-k-preserved : goal.across-loop-k-preserved
-across-loop-k-preserved t c =
-    let l = c.loop-k in
-    let f = c.free-count in
-    let i = c.if-seen-d-eq0 in
-    let long : length f.new.list ≡ 512 = search rules in
-    let within : l.k < length f.new.list = omega (arith, f.ensures.fit, c.loop-k-test.true) in
-    let next = list_next _ l.k _ within c.wide-d.ensures.0 in
-    let few : c.wide-d.result < c.args.g.symbols =
-    omega (arith, f.ensures.low l.k c.loop-k-test.true, c.wide-d.ensures.0, c.requires.s_lt_symbols) in (
-      omega (arith, c.loop-k-test.true),
-      i.auto.seen ∙ l.invariant.1,
-      i.auto.list ∙ l.invariant.2,
-      elim i.branch [
-        | across-then-seen-d-eq0 w ↦ rw (w.seen-is, w.list-is, w.at-is) (walk_more _ w.visit-at.ensures _ _ next l.invariant.3)
-        | across-else-seen-d-eq0 w ↦
-            let v = visit_seen c.requires.stocked.arena _ few w.if-seen-d-eq0.false in
-            rw (w.seen-is, w.list-is, w.at-is) (walk_more _ v _ _ next l.invariant.3)
-      ],
+pub across-bounds-seen-d : goal.across-bounds-seen-d
+across-bounds-seen-d t c =
+    let p = c.requires in
+    let near = near_free p.stocked.arena p.deeper (c.as_slice-near.ensures.value ∙ c.free.ensures) in
+    omega (
+      arith,
+      c.from-d.ensures,
+      under_at _ _ near.below c.loop-entry.entry-index c.loop-entry-test.true,
+      p.s_lt_symbols,
+      p.stocked.arena.scoped.few,
     )
 
-pub across-returns-then-o : goal.across-returns-then-o
-across-returns-then-o t c =
-    let l = c.loop-k in
-    let f = c.free-count in
+pub across-visit-requires : goal.across-visit-requires
+across-visit-requires t c =
     let p = c.requires in
-    let arena = p.stocked.arena in
-    let end : l.k ≡ f.result = omega arith in
-    let walked = rw end at l.invariant.3 in
-    visit_done arena _ p.s_lt_symbols p.s_value (near_free p.nearby f.ensures.is) walked
-    (put_body _ (c.offer_list.ensures _) c.if-o.true (omega (arith, p.s_lt_symbols, arena.scoped.few))
-    (needs_free p.nearby f.ensures.is))
-
-pub across-append-requires : goal.across-append-requires
-across-append-requires t c =
-    let l = c.loop-k in
-    let f = c.free-count in
-    let p = c.requires in
-    let few = p.stocked.arena.scoped.few in
-    let end : l.k ≡ f.result = omega arith in
-    let walked = rw end at l.invariant.3 in
-    let lent = walked_lent walked p.lent in
-    let fresh = near_done p.stocked.arena _ p.s_lt_symbols p.s_value (near_free p.nearby f.ensures.is) walked p.lent in (
-      put_room _ c.if-o.false p.s_lt_symbols few fresh lent,
-      omega (arith, p.s_lt_symbols, few),
-      lent.shows.held.long,
+    let near = near_free p.stocked.arena p.deeper (c.as_slice-near.ensures.value ∙ c.free.ensures) in
+    let low = under_at _ _ near.below c.loop-entry.entry-index c.loop-entry-test.true in (
+      omega (arith, c.decreases, c.from-d.ensures, low),
+      (
+        p.laid,
+        (
+          p.stocked,
+          (
+            omega (arith, c.from-d.ensures, low, p.s_lt_symbols),
+            (walked_lent c.loop-entry.invariant p.lent, c.if-not-seen-d.true),
+          ),
+        ),
+      ),
     )
+
+pub across-loop-entry-preserved : goal.across-loop-entry-preserved
+across-loop-entry-preserved t c =
+    let p = c.requires in
+    let near = near_free p.stocked.arena p.deeper (c.as_slice-near.ensures.value ∙ c.free.ensures) in
+    let low = under_at _ _ near.below c.loop-entry.entry-index c.loop-entry-test.true in
+    elim c.if-not-seen-d.branch [
+      | across-then-not-seen-d w ↦
+          rw (w.seen-is, w.list-is)
+          (walk_next _ _ _ c.loop-entry-test.true c.from-d.ensures c.loop-entry.invariant w.visit.ensures)
+      | across-else-not-seen-d w ↦
+          rw (w.seen-is, w.list-is)
+          (walk_next _ _ _ c.loop-entry-test.true c.from-d.ensures c.loop-entry.invariant (visit_seen p.stocked.arena _
+          (omega (arith, c.from-d.ensures, low, p.s_lt_symbols)) w.if-not-seen-d.false))
+    ]
+
+pub across-put-requires-clause-near : goal.across-put-requires-clause-near
+across-put-requires-clause-near t c =
+    let p = c.requires in near_free p.stocked.arena p.deeper (c.as_slice-near.ensures.value ∙ c.free.ensures)
+
+pub across-put-requires-clause-s_value : goal.across-put-requires-clause-s_value
+across-put-requires-clause-s_value t c =
+    let p = c.requires in
+    let near = near_free p.stocked.arena p.deeper (c.as_slice-near.ensures.value ∙ c.free.ensures) in
+    let walked = rw (take_all _ _ c.loop-entry-test.false) at c.loop-entry.invariant in
+    near_done p.stocked.arena _ p.s_lt_symbols p.s_value near walked p.lent
 
 pub across-returns : goal.across-returns
 across-returns t c =
-    let l = c.loop-k in
-    let f = c.free-count in
     let p = c.requires in
-    let arena = p.stocked.arena in
-    let end : l.k ≡ f.result = omega arith in
-    let walked = rw end at l.invariant.3 in
-    let near = near_free p.nearby f.ensures.is in
-    let fresh = near_done arena _ p.s_lt_symbols p.s_value near walked p.lent in
-    visit_done arena _ p.s_lt_symbols p.s_value near walked
-    (put_plain _ c.if-o.false p.s_lt_symbols arena.scoped.few fresh c.append.ensures.0 c.append.ensures.1)
+    let near = near_free p.stocked.arena p.deeper (c.as_slice-near.ensures.value ∙ c.free.ensures) in
+    let walked = rw (take_all _ _ c.loop-entry-test.false) at c.loop-entry.invariant in
+    visit_done p.stocked.arena _ p.s_lt_symbols p.s_value near walked c.put.ensures
 
 -- ---- `free`
 
-pub free-run-n-requires : goal.free-run-n-requires
-free-run-n-requires t c =
+pub free-run-requires : goal.free-run-requires
+free-run-requires t c =
     let p = c.requires in
-    let below = kids_below _ _ _ _ _ p.c_lt_symbols _ c.load-y.ensures p.stocked.arena in (
+    let below = kids_below _ _ _ _ _ p.stocked.arena p.c_lt_symbols _ c.load-y.ensures _ c.children.ensures in (
       omega (arith, c.decreases),
-      (p.laid, (p.stocked, ((p.c_lt_symbols, below), lent_empty c.zeros8-seen.ensures p.list_len))),
+      (p.laid, (p.stocked, ((p.c_lt_symbols, below), lent_empty refl p.empty))),
     )
 
 pub free-offer_kids-requires-clause-held : goal.free-offer_kids-requires-clause-held
-free-offer_kids-requires-clause-held t c =
-    (c.run-n.ensures.shows [] (shows_empty c.zeros8-seen.ensures c.requires.list_len)).held
+free-offer_kids-requires-clause-held t c = (c.run.ensures.shows [] (shows_empty refl c.requires.empty)).held
 
 pub free-returns : goal.free-returns
 free-returns t c =
     let p = c.requires in
-    free_done p.stocked.arena _ p.c_lt_symbols _ c.load-y.ensures c.zeros8-seen.ensures p.list_len
-    c.run-n.ensures c.offer_kids.ensures
+    free_done p.stocked.arena _ p.c_lt_symbols _ c.load-y.ensures c.children.ensures refl p.empty c.run.ensures
+    (omega (arith, p.c_lt_symbols, p.stocked.arena.scoped.few)) c.offer_kids.ensures
 
 -- ---- `run`
 
-pub run-loop-k-init : goal.run-loop-k-init
-run-loop-k-init t c = (omega arith, refl, refl, words_begin _)
+pub run-loop-entry-init : goal.run-loop-entry-init
+run-loop-entry-init t c = walk_start
 
-pub run-loop-k-preserved : goal.run-loop-k-preserved
-run-loop-k-preserved t c =
-    let l = c.loop-k in
+pub run-bounds-seen-d : goal.run-bounds-seen-d
+run-bounds-seen-d t c =
     let p = c.requires in
-    let i = c.if-seen-d-eq0 in
-    let next = words_next _ _ l.k in
-    let few : get_or c.args.work.now (c.args.from + l.k) 0 < c.args.g.symbols =
-    omega (arith, p.top_lt_symbols.1.low l.k c.loop-k-test.true, p.top_lt_symbols.0) in (
-      omega (arith, c.loop-k-test.true),
-      i.auto.seen ∙ l.invariant.1,
-      i.auto.list ∙ l.invariant.2,
-      elim i.branch [
-        | run-then-seen-d-eq0 w ↦ rw (w.seen-is, w.list-is, w.at-is) (walk_more _ w.visit-at.ensures _ _ next l.invariant.3)
-        | run-else-seen-d-eq0 w ↦
-            let v = visit_seen p.stocked.arena _ few w.if-seen-d-eq0.false in
-            rw (w.seen-is, w.list-is, w.at-is) (walk_more _ v _ _ next l.invariant.3)
-      ],
+    omega (
+      arith,
+      under_at _ _ p.top_lt_symbols.1 c.loop-entry.entry-index c.loop-entry-test.true,
+      p.top_lt_symbols.0,
+      p.stocked.arena.scoped.few,
     )
+
+pub run-visit-requires : goal.run-visit-requires
+run-visit-requires t c =
+    let p = c.requires in
+    let low = under_at _ _ p.top_lt_symbols.1 c.loop-entry.entry-index c.loop-entry-test.true in (
+      omega (arith, c.decreases, low),
+      (
+        p.laid,
+        (
+          p.stocked,
+          (
+            omega (arith, low, p.top_lt_symbols.0),
+            (walked_lent c.loop-entry.invariant p.lent, c.if-not-seen-d.true),
+          ),
+        ),
+      ),
+    )
+
+pub run-loop-entry-preserved : goal.run-loop-entry-preserved
+run-loop-entry-preserved t c =
+    let p = c.requires in
+    let low = under_at _ _ p.top_lt_symbols.1 c.loop-entry.entry-index c.loop-entry-test.true in
+    elim c.if-not-seen-d.branch [
+      | run-then-not-seen-d w ↦
+          rw (w.seen-is, w.list-is)
+          (walk_next _ _ _ c.loop-entry-test.true refl c.loop-entry.invariant w.visit.ensures)
+      | run-else-not-seen-d w ↦
+          rw (w.seen-is, w.list-is)
+          (walk_next _ _ _ c.loop-entry-test.true refl c.loop-entry.invariant (visit_seen p.stocked.arena _
+          (omega (arith, low, p.top_lt_symbols.0)) w.if-not-seen-d.false))
+    ]
+
+pub run-returns : goal.run-returns
+run-returns t c = rw (take_all _ _ c.loop-entry-test.false) at c.loop-entry.invariant
 
 -- ---- `visit`
 
 pub visit-returns-then-is_passed : goal.visit-returns-then-is_passed
 visit-returns-then-is_passed t c =
-    let p = c.requires in
-    visit-passed p.stocked.arena _ p.s_lt_symbols c.is_passed.ensures c.if-is_passed.true
+    let p = c.requires in visit-passed p.stocked.arena _ p.s_lt_symbols c.is_passed.ensures c.if-is_passed.true
 
 pub visit-put-requires-clause-s_value : goal.visit-put-requires-clause-s_value
 visit-put-requires-clause-s_value t c =
-    let p = c.requires in
-    near_done p.stocked.arena _ p.s_lt_symbols p.s_value c.in-Words.ensures.is c.run-m.ensures p.lent
+    let p = c.requires in near_done p.stocked.arena _ p.s_lt_symbols p.s_value c.in-Some.ensures c.run.ensures p.lent
 
-pub visit-returns-in-Words : goal.visit-returns-in-Words
-visit-returns-in-Words t c =
+pub visit-returns-in-Some : goal.visit-returns-in-Some
+visit-returns-in-Some t c =
     let p = c.requires in
     visit_goes p.stocked.arena _ p.s_lt_symbols c.is_passed.ensures c.if-is_passed.false
-    (visit_done p.stocked.arena _ p.s_lt_symbols p.s_value c.in-Words.ensures.is c.run-m.ensures c.put.ensures)
+    (visit_done p.stocked.arena _ p.s_lt_symbols p.s_value c.in-Some.ensures c.run.ensures c.put.ensures)
 
-pub visit-returns-in-Unstored : goal.visit-returns-in-Unstored
-visit-returns-in-Unstored t c =
+pub visit-returns-in-None : goal.visit-returns-in-None
+visit-returns-in-None t c =
     let p = c.requires in
     visit_goes p.stocked.arena _ p.s_lt_symbols c.is_passed.ensures c.if-is_passed.false c.across.ensures

@@ -1,23 +1,19 @@
 -- `schedule::schedule` meets its contract. Assumes nothing.
+use mathlib.Core.Bool.{false}
+use mathlib.Core.Path.{refl}
 use native.Mathlib.Omega.{arith}
-use Rattle.schedule.proofs.Lending.{lent_empty, none_seen}
+use lib.ListN.{get_or-replicate}
+use Rattle.schedule.proofs.Lending.{lent_empty}
 use Rattle.schedule.proofs.Walking.{schedule_done}
 use Rattle.schedule.proofs.schedule.Goals as goal
 
-pub visit-requires : goal.visit-requires
-visit-requires c =
+pub visit-requires-clause-lent : goal.visit-requires-clause-lent
+visit-requires-clause-lent c = lent_empty refl c.clear.ensures
+
+pub visit-requires-clause-s_value : goal.visit-requires-clause-s_value
+visit-requires-clause-s_value c =
     let p = c.requires in
-    let zeros = c.zeros8-seen.ensures in
-    let unseen = none_seen zeros c.args.root (omega (arith, p.root_lt_symbols.0, p.stocked.arena.scoped.few)) in
-    record {
-      laid = p.laid;
-      stocked = p.stocked;
-      s_lt_symbols = p.root_lt_symbols.0;
-      lent = lent_empty zeros p.order_len;
-      s_value = unseen;
-    }
+    get_or-replicate 512 c.args.root false false (omega (arith, p.root_lt_symbols.0, p.stocked.arena.scoped.few))
 
 pub returns : goal.returns
-returns c =
-    let p = c.requires in
-    schedule_done p.stocked.arena _ _ c.zeros8-seen.ensures p.order_len c.visit.ensures
+returns c = schedule_done c.requires.stocked.arena _ _ refl c.clear.ensures c.visit.ensures

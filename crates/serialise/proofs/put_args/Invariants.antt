@@ -1,4 +1,4 @@
--- `serialise::put_args` in its loops: what stays, and what falls. Assumes nothing.
+-- `serialise::put_args` in its loop: what stays. Assumes nothing.
 use Prim.Native.Nat.{◌+◌, ◌-◌, ◌≤◌}
 use mathlib.Core.Path.{◌≡◌}
 use lib.ListN.{length, drop}
@@ -11,9 +11,5 @@ use Rattle.serialise.proofs.put_args.Given as given
 -- j arguments are written, and what is left of the literal, written from here, gives the whole
 abbrev pub invariant-loop-j : given.invariant-loop-j
 invariant-loop-j l =
-    (l.j ≤ l.n) × (l.id ≡ l.last + l.j) × (l.place ≤ length l.lit) × (length l.out ≡ length l.initial.out) × Left (l.n - l.j) l.lit l.place
-    × (over l.out (l.at + l.place) (arg_lit l.id (args_of (l.n - l.j) (drop l.place l.lit))) ≡ over l.initial.out l.at (arg_lit l.last (args_of l.n l.lit)))
-
-abbrev pub decreases-loop-j : given.decreases-loop-j
-decreases-loop-j l =
-    l.n - l.j
+    (l.place ≤ length l.lit) × (length l.out ≡ length l.initial.out) × Left (l.n - l.j) l.lit l.place
+    × (over l.out (l.at + l.place) (arg_lit (l.last + l.j) (args_of (l.n - l.j) (drop l.place l.lit))) ≡ over l.initial.out l.at (arg_lit l.last (args_of l.n l.lit)))

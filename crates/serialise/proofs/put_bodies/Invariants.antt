@@ -1,5 +1,5 @@
--- `serialise::put_bodies` in its loops: what stays, and what falls. Assumes nothing.
-use Prim.Native.Nat.{◌+◌, ◌-◌, ◌≤◌}
+-- `serialise::put_bodies` in its loop: what stays. Assumes nothing.
+use Prim.Native.Nat.{◌+◌}
 use mathlib.Core.Path.{◌≡◌}
 use lib.ListN.{length}
 use Rattle.model.specs.Tree.{bodies}
@@ -12,10 +12,6 @@ use Rattle.serialise.proofs.put_bodies.Given as given
 -- i records are written, and what is left, written from here, gives the whole
 abbrev pub invariant-loop-i : given.invariant-loop-i
 invariant-loop-i l =
-    (l.i ≤ l.n) × (length l.out ≡ length l.initial.out) × AllWritable l.forest (left l.work l.at l.n l.i)
+    (length l.out ≡ length l.initial.out) × AllWritable l.forest (left l.work l.at l.n l.i)
     × (l.place + total (left_rows l.forest l.work l.at l.n l.i) ≡ l.start + total (planned_rows l.forest l.work l.at l.n))
     × (over l.out l.place (bodies (left_rows l.forest l.work l.at l.n l.i)) ≡ over l.initial.out l.start (bodies (planned_rows l.forest l.work l.at l.n)))
-
-abbrev pub decreases-loop-i : given.decreases-loop-i
-decreases-loop-i l =
-    l.n - l.i

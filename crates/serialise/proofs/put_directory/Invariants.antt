@@ -1,5 +1,5 @@
--- `serialise::put_directory` in its loops: what stays, and what falls. Assumes nothing.
-use Prim.Native.Nat.{◌+◌, ◌*◌, ◌-◌, ◌≤◌}
+-- `serialise::put_directory` in its loop: what stays. Assumes nothing.
+use Prim.Native.Nat.{◌+◌, ◌*◌}
 use mathlib.Core.Path.{◌≡◌}
 use lib.ListN.{length}
 use Rattle.model.specs.Tree.{directory}
@@ -12,11 +12,7 @@ use Rattle.serialise.proofs.put_directory.Given as given
 -- i pairs are written, and the directory of what is left, written from here, gives the whole
 abbrev pub invariant-loop-i : given.invariant-loop-i
 invariant-loop-i l =
-    (l.i ≤ l.n) × (length l.out ≡ length l.initial.out) × AllWritable l.forest (left l.work l.at l.n l.i)
+    (length l.out ≡ length l.initial.out) × AllWritable l.forest (left l.work l.at l.n l.i)
     × (l.offset + total (left_rows l.forest l.work l.at l.n l.i) ≡ 4 + 4 * l.n + total (planned_rows l.forest l.work l.at l.n))
     × (over l.out (4 + 4 * l.i) (directory l.offset (left_rows l.forest l.work l.at l.n l.i))
     ≡ over l.initial.out 4 (directory (4 + 4 * l.n) (planned_rows l.forest l.work l.at l.n)))
-
-abbrev pub decreases-loop-i : given.decreases-loop-i
-decreases-loop-i l =
-    l.n - l.i

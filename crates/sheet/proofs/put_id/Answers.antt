@@ -1,5 +1,5 @@
 -- `sheet::put_id` meets its contract. Assumes nothing.
-use mathlib.Core.Path.{ap}
+use mathlib.Core.Path.{ap, ◌∙◌}
 use Rattle.model.specs.Text.{text}
 use Rattle.model.specs.Lister.{numeral}
 use Rattle.sheet.proofs.Clipping.{clipped_then, clipped_as}
@@ -8,4 +8,5 @@ use Rattle.sheet.proofs.put_id.Goals as goal
 pub returns : goal.returns
 unfolding text
 returns c =
-    clipped_then c.put_text-end.ensures (clipped_as c.put_number.ensures (ap numeral c.id_at.ensures))
+    let id = ap numeral (c.from.ensures ∙ c.id_at.ensures) in
+    clipped_then c.put_text-end.ensures (clipped_as c.put_number.ensures id)

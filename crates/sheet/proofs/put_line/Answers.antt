@@ -8,8 +8,9 @@ pub put_own-owned-requires : goal.put_own-owned-requires
 put_own-owned-requires c =
     record {
       at_in_bounds = clipped_room c.put_opcode-coded.ensures;
-      fits = fits_at c.args.forest.now c.args.i c.requires.well_formed c.requires.i_bound c.shape-shape.ensures c.aux-aux.ensures
-          c.literal_at-lit.ensures;
+      fits =
+          fits_at c.args.forest.now c.args.i c.requires.well_formed c.requires.i_bound c.shape-shape.ensures
+          c.aux-aux.ensures c.literal_at-lit.ensures;
     }
 
 pub put_literal-end-requires : goal.put_literal-end-requires
@@ -20,5 +21,5 @@ pub returns : goal.returns
 returns c =
     let a = c.args in
     line_parts a.i a.depth (rec_at a.forest.now a.i) c.shape-shape.ensures c.opcode.ensures
-    c.aux-aux.ensures c.literal_at-lit.ensures c.put_place-placed.ensures c.put_shape-named.ensures c.put_opcode-coded.ensures
-    c.put_own-owned.ensures c.put_literal-end.ensures c.put.ensures
+    c.aux-aux.ensures c.literal_at-lit.ensures c.put_place-placed.ensures c.put_shape-named.ensures
+    c.put_opcode-coded.ensures c.put_own-owned.ensures c.put_literal-end.ensures c.put.ensures

@@ -14,5 +14,5 @@ pub returns : goal.returns
 unfolding text
 returns c =
     clipped_as
-    (clipped_then c.put_text-end.ensures (clipped_as c.put_number.ensures (ap numeral c.wide.ensures.0)))
+    (clipped_then c.put_text-end.ensures (clipped_as c.put_number.ensures (ap numeral c.from.ensures)))
     (mark_some _ c.if-mark-eq0.false)

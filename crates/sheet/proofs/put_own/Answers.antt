@@ -1,7 +1,9 @@
 -- `sheet::put_own` meets its contract. Assumes nothing.
 use Prim.Native.Nat.{ℕ}
 use mathlib.Core.Path.{sym, ap, subst, ◌∙◌}
+use mathlib.Core.Logic.{⊎_elim}
 use native.Mathlib.Omega.{arith}
+use borrow.Author.Rules.{rules}
 use Rattle.model.specs.Sheet.{args_text}
 use Rattle.shape.specs.Args.{Left}
 use Rattle.shape.proofs.Fitting.{fits_use, fits_def, fits_func, fits_field}
@@ -11,19 +13,17 @@ use Rattle.sheet.proofs.Lines.{own_const, own_use, own_def, own_args, own_field,
 use Rattle.sheet.proofs.put_own.Goals as goal
 
 pub put_id-requires : goal.put_id-requires
-put_id-requires c =
-    (c.requires.at_in_bounds, omega (arith, fits_use _ c.requires.fits.is c.in-7.is))
-
-pub put_id-requires-in-10 : goal.put_id-requires-in-10
-put_id-requires-in-10 c =
-    (c.requires.at_in_bounds, (fits_def _ c.requires.fits.is c.in-10.is).1)
+put_id-requires c = (
+  c.requires.at_in_bounds,
+  ⊎_elim (λ e. omega (arith, fits_use _ c.requires.fits.is e)) (λ e. (fits_def _ c.requires.fits.is e).1) c.in-7.is,
+)
 
 pub put_args-requires : goal.put_args-requires
 put_args-requires c =
     let left = (fits_func _ c.requires.fits.is c.in-12.is).2 in
     record {
       at_in_bounds = c.requires.at_in_bounds;
-      left = subst (λ (n : ℕ). Left n c.args.lit.now 0) (sym c.wide.ensures.0) left;
+      left = subst (λ (n : ℕ). Left n c.args.lit.now 0) (sym c.from.ensures) left;
     }
 
 pub put_field-requires : goal.put_field-requires
@@ -36,17 +36,13 @@ returns-in-0 c op =
 
 pub returns-in-7 : goal.returns-in-7
 returns-in-7 c op =
-    clipped_as c.put_id.ensures (own_use _ op _ _ c.in-7.is)
-
-pub returns-in-10 : goal.returns-in-10
-returns-in-10 c op =
-    clipped_as c.put_id-in-10.ensures (own_def _ op _ _ c.in-10.is)
+    clipped_as c.put_id.ensures (⊎_elim (own_use _ op _ _) (own_def _ op _ _) c.in-7.is)
 
 pub returns-in-12 : goal.returns-in-12
 returns-in-12 c op =
     let a = c.args in
     clipped_as c.put_args.ensures
-    (ap (λ (n : ℕ). args_text (arg_ids_at n a.lit.now)) c.wide.ensures.0 ∙ own_args _ op _ _ c.in-12.is)
+    (ap (λ (n : ℕ). args_text (arg_ids_at n a.lit.now)) c.from.ensures ∙ own_args _ op _ _ c.in-12.is)
 
 pub returns-in-17 : goal.returns-in-17
 returns-in-17 c op =
@@ -55,5 +51,4 @@ returns-in-17 c op =
 pub returns-in_default : goal.returns-in_default
 returns-in_default c op =
     clipped_as (clipped_none _ _ c.requires.at_in_bounds)
-    (own_none _ op _ _ (λ e. omega arith) (λ e. omega arith) (λ e. omega arith) (λ e. omega arith)
-    (λ e. omega arith))
+    (own_none _ op _ _ (λ e. omega arith) (λ e. search rules) (λ e. search rules) (λ e. omega arith) (λ e. omega arith))

@@ -11,4 +11,4 @@ slice_bounds-put_text-end c =
 
 pub returns : goal.returns
 returns c =
-    clipped_as c.put_text.ensures (scratch_text c.put_refusal-k.ensures)
+    rw (← c.from.ensures) (clipped_as c.put_text.ensures (scratch_text c.put_refusal-k.ensures))

@@ -1,4 +1,5 @@
 -- `tables::same_key` meets its contract. Assumes nothing.
+use mathlib.Core.Path.{◌∙◌}
 use Rattle.tables.proofs.Keys.{loaded_slots, kids_differ, recs_decide}
 use Rattle.tables.proofs.same_key.Goals as goal
 
@@ -13,6 +14,7 @@ returns-then-same_kids c =
     c.if-same_kids.true _ _ c.source.ensures c.field.ensures
     c.same_rec.ensures
 
-pub returns : goal.returns
-returns c =
-    kids_differ _ _ _ c.load-y.ensures _ _ _ _ c.same_kids.ensures c.if-same_kids.false
+pub returns-else-same_kids : goal.returns-else-same_kids
+returns-else-same_kids c =
+    c.if-same_kids.false
+    ∙ kids_differ _ _ _ c.load-y.ensures _ _ _ _ c.same_kids.ensures c.if-same_kids.false

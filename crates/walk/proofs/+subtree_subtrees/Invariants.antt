@@ -1,7 +1,5 @@
--- The functions of the cycle `subtree_subtrees` of `walk` in their loops and calls: what stays, and what falls. Assumes nothing.
-use Prim.Native.Nat.{◌+◌, ◌-◌, ◌*◌, ◌≤◌}
-use mathlib.Core.Path.{◌≡◌}
-use lib.ListN.{length}
+-- The functions of the cycle `subtree_subtrees` of `walk` in their loop and calls: what stays, and what falls. Assumes nothing.
+use Prim.Native.Nat.{◌+◌, ◌-◌, ◌*◌}
 use Rattle.walk.proofs.Walking.{Walking}
 use Rattle.walk.proofs.+subtree_subtrees.Given as given
 
@@ -15,8 +13,4 @@ decreases-subtrees l =
 
 abbrev pub invariant-subtrees-loop-left : given.invariant-subtrees-loop-left
 invariant-subtrees-loop-left l =
-    (length l.work ≡ length l.initial.work) × (l.left ≤ l.count) × Walking l.forest l.number l.i l.count l.at l.initial.work l.work l.j l.left l.top
-
-abbrev pub decreases-subtrees-loop-left : given.decreases-subtrees-loop-left
-decreases-subtrees-loop-left l =
-    l.left
+    Walking l.forest l.test l.i l.count l.at l.initial.work l.work l.j l.left l.top

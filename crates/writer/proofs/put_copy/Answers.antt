@@ -1,16 +1,18 @@
 -- `writer::put_copy` meets its contract. Assumes nothing.
 use native.Mathlib.Omega.{arith}
-use mathlib.Core.Path.{◌≡◌, ap}
+use mathlib.Core.Path.{◌≡◌, sym, ap, ◌∙◌}
 use mathlib.Core.List.{List}
 use Prim.Native.Nat.{ℕ}
 use lib.ListN.{length}
+use borrow.Author.Tests.{eqb-true}
+use Rattle.std.proofs.lemmas.List.{nil_from_length}
 use Rattle.model.specs.Bytes.{put16}
 use Rattle.model.specs.Tree.{Row, row_bytes, row_len}
 use Rattle.record.specs.Record.{row_at}
 use Rattle.plan.specs.Plan.{row_for}
 use Rattle.output.specs.Output.{Wrote}
 use Rattle.writer.specs.Writer.{fixed}
-use Rattle.output.proofs.Wrote.{wrote_as, wrote_then}
+use Rattle.output.proofs.Wrote.{wrote_none, wrote_as, wrote_then}
 use Rattle.writer.proofs.put_copy.Goals as goal
 
 -- the fixed bytes, then the literal
@@ -30,11 +32,20 @@ pub put_bytes-requires : goal.put_bytes-requires
 unfolding row_for row_len fixed put16
 put_bytes-requires c =
     let x = c.put_fixed-next in
-    omega (arith, c.requires.i_in_bounds, x.ensures.ends, x.auto.out, ap length c.literal.ensures)
+    omega (arith, c.requires.i_in_bounds, x.ensures.ends, x.auto.out, ap length c.literal-literal.ensures)
+
+pub returns-then-is_empty : goal.returns-then-is_empty
+unfolding row_for
+returns-then-is_empty c =
+    let x = c.put_fixed-next in
+    let none = nil_from_length _ (eqb-true _ 0 (sym c.is_empty.ensures ∙ c.if-is_empty.true)) in
+    copied (row_at c.args.forest.now c.args.i) c.shape-shape.ensures c.opcode-opcode.ensures
+    c.kids-kids.ensures.0 c.aux-aux.ensures c.literal-literal.ensures x.ensures
+    (wrote_as (sym none) (wrote_none x.new.out x.result (omega (arith, x.ensures.fits, x.auto.out))))
 
 pub returns : goal.returns
 unfolding row_for
 returns c =
     copied (row_at c.args.forest.now c.args.i) c.shape-shape.ensures c.opcode-opcode.ensures
-    c.kids-kids.ensures.0 c.aux-aux.ensures c.literal.ensures c.put_fixed-next.ensures
+    c.kids-kids.ensures.0 c.aux-aux.ensures c.literal-literal.ensures c.put_fixed-next.ensures
     c.put_bytes.ensures

@@ -1,5 +1,4 @@
 -- `writer::put_field` meets its contract. Assumes nothing.
-use borrow.Author.Rules.{rules}
 use Rattle.model.specs.Bytes.{put16}
 use Rattle.model.specs.Tree.{row_bytes}
 use Rattle.plan.specs.Plan.{row_for}
@@ -13,18 +12,3 @@ returns c =
     let x = c.put_fixed-b.ensures in
     let y = c.put_byte.ensures in
     wrote_then x y
-
-pub put_fixed-b-requires : goal.put_fixed-b-requires
-unfolding fixed put16
-put_fixed-b-requires c =
-    search rules
-
-pub put_byte-requires : goal.put_byte-requires
-unfolding fixed put16
-put_byte-requires c =
-    search rules
-
-pub shape_of-out : goal.shape_of-out
-unfolding fixed put16
-shape_of-out c =
-    search rules

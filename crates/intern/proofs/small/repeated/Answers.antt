@@ -6,10 +6,4 @@ use Rattle.intern.proofs.small.repeated.Goals as goal
 pub returns : goal.returns
 returns c =
     let k = c.args.k in
-    ap (λ (st : State). record {
-      st = st;
-      number = k.number;
-      place = k.place;
-      next = k.next;
-      branches = k.branches;
-    }) c.count_readings-st.ensures
+    ap (λ (st : State). record k { st = st }) c.count_readings.ensures

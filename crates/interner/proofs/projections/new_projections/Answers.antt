@@ -27,39 +27,39 @@ pub projection-a-requires : goal.projection-a-requires
 projection-a-requires c =
     let p = c.requires in record { laid = c.requires.laid; rep = p.rep; fact = p.fact; projects = one_of p.projects; field_nonzero = (omega arith, omega arith) }
 
-pub returns-then-a-ne0 : goal.returns-then-a-ne0
-returns-then-a-ne0 c =
-    first_refused c.requires.projects c.projection-a.ensures c.args.field c.if-a-ne0.true
+pub returns-in_default : goal.returns-in_default
+returns-in_default c =
+    first_refused c.requires.projects c.projection-a.ensures c.args.field c.in_default.is
 
 pub projection-b-requires : goal.projection-b-requires
 projection-b-requires c =
     let h = c.projection-a.ensures in
     let p = c.requires in
     let later = open_later c.args.t c.args.st.entries p.fact _ h.leaves.entries in
-    let next = projects_next p.projects h c.if-a-ne0.false p.rep in record { laid = c.requires.laid; rep = h.rep; fact = later; projects = next; field_nonzero = (omega arith, omega arith) }
+    let next = projects_next p.projects h c.in-Ok.is p.rep in record { laid = c.requires.laid; rep = h.rep; fact = later; projects = next; field_nonzero = (omega arith, omega arith) }
 
-pub returns-then-b-ne0 : goal.returns-then-b-ne0
-returns-then-b-ne0 c =
+pub returns-in_default-symbol : goal.returns-in_default-symbol
+returns-in_default-symbol c =
     let p = c.requires in
-    second_refused p.projects c.projection-a.ensures c.if-a-ne0.false p.rep c.projection-b.ensures
-    c.args.field c.if-b-ne0.true
+    second_refused p.projects c.projection-a.ensures c.in-Ok.is p.rep c.projection-b.ensures
+    c.args.field c.in_default-symbol.is
 
 pub remember-requires : goal.remember-requires
 remember-requires c =
     let p = c.requires in
     let k = c.projection-b.ensures in let it = remember_asks k.rep
-    (unpaired p.projects c.projection-a.ensures c.if-a-ne0.false p.rep k c.if-b-ne0.false p.held_value) in record { memo_bound = it.0; p_bound = it.1 }
+    (unpaired p.projects c.projection-a.ensures c.in-Ok.is p.rep k c.in-Ok-symbol.is p.held_value) in record { memo_bound = it.0; p_bound = it.1 }
 
 pub returns : goal.returns
 returns c =
     let p = c.requires in
-    both_made p.projects c.projection-a.ensures c.if-a-ne0.false p.rep c.projection-b.ensures c.if-b-ne0.false
+    both_made p.projects c.projection-a.ensures c.in-Ok.is p.rep c.projection-b.ensures c.in-Ok-symbol.is
     p.held_value c.args.field p.fact c.remember.ensures.0 c.remember.ensures.1
 
 pub shape_of-work : goal.shape_of-work
 shape_of-work c =
     let p = c.requires in
     let made =
-    both_made p.projects c.projection-a.ensures c.if-a-ne0.false p.rep c.projection-b.ensures c.if-b-ne0.false
+    both_made p.projects c.projection-a.ensures c.in-Ok.is p.rep c.projection-b.ensures c.in-Ok-symbol.is
     p.held_value c.args.field p.fact c.remember.ensures.0 c.remember.ensures.1 in
     made.leaves.frame.long

@@ -1,23 +1,12 @@
 -- `shape::parts::all_bits` meets its contract. Assumes nothing.
-use mathlib.Core.Path.{refl}
-use native.Mathlib.Omega.{arith}
-use Rattle.shape.proofs.Part.{bits-more, bits-not, bits_all}
+use Rattle.std.proofs.Common.{rules, tests, ltb, sym, ◌∙◌}
+use Rattle.std.proofs.lemmas.Iterator.{YieldsList-from_slice}
+use Rattle.std.proofs.lemmas.Iterator.Search.{all_from_yields_List}
+use Rattle.shape.proofs.Part.{bits_is}
 use Rattle.shape.proofs.parts.all_bits.Goals as goal
-
-pub loop-i-preserved : goal.loop-i-preserved
-loop-i-preserved c = (
-  omega arith,
-  bits-more _ _ c.loop-i.invariant.1 c.loop-i-test.true c.if-lit-i-ge2.false,
-)
-
-pub loop-i-init : goal.loop-i-init
-loop-i-init c =
-    (omega arith, refl)
-
-pub returns-then-lit-i-ge2 : goal.returns-then-lit-i-ge2
-returns-then-lit-i-ge2 c =
-    bits-not _ _ c.loop-i.invariant.1 c.loop-i-test.true c.if-lit-i-ge2.true
 
 pub returns : goal.returns
 returns c =
-    bits_all _ _ c.loop-i.invariant.1 c.loop-i-test.false
+    let bytes = YieldsList-from_slice c.args.lit.now cc in
+    all_from_yields_List (λ b. ltb b 2) _ _ _ c.all.ensures.ran bytes (λ x b q k. search (rules, tests))
+    ∙ sym (bits_is _)

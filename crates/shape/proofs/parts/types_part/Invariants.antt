@@ -1,13 +1,8 @@
--- `shape::parts::types_part` in its loops: what stays, and what falls. Assumes nothing.
-use Prim.Native.Nat.{◌+◌, ◌-◌}
-use Rattle.model.specs.Shape.{a_type}
-use Rattle.shape.proofs.Part.{Reading}
-use Rattle.shape.proofs.parts.types_part.Given as given
+-- `shape::parts::types_part` in its loop: what is left holds the types that are left. Assumes nothing.
+use Rattle.std.proofs.Common.{◌≡◌, ◌-◌}
+use Rattle.model.specs.Shape.{a_type, times}
+use Rattle.shape.proofs.parts.types_part.Given as goal
 
-abbrev pub invariant-loop-k : given.invariant-loop-k
-invariant-loop-k l =
-    Reading a_type l.lit (l.at + 1) l.n l.k l.end
-
-abbrev pub decreases-loop-k : given.decreases-loop-k
-decreases-loop-k l =
-    l.n - l.k
+abbrev pub invariant-loop : goal.invariant-loop
+invariant-loop l =
+    times (l.end - l.counter) a_type l.rest ≡ times l.initial.end a_type l.initial.rest

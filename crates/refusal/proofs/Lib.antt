@@ -1,0 +1,2 @@
+-- Laws of refusals. Assumes nothing.
+pub mod Passing
