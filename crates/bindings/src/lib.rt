@@ -8,13 +8,14 @@ ghost use Rattle.model.specs.Forest.{record_count};
 ghost use Rattle.model.specs.Binding.{args_of};
 ghost use Rattle.model.specs.Intern.{resolve};
 ghost use Rattle.laws.specs.Range.{range};
-ghost use Rattle.shape.specs.Args.{Left};
-ghost use Rattle.walk.specs.Walk.{rec_at, WellFormed};
+ghost use Rattle.shape.specs.Reading.{AllArgs};
+ghost use Rattle.walk.specs.Walk.{rec_at};
 ghost use Rattle.regions.specs.Regions.{WORDS, BINDINGS};
 ghost use Rattle.bindings.specs.Bindings.{env_of, bound, arg_bindings, bound_all};
 ghost use Rattle.bindings.specs.Made.{ArgsBound, DefBound};
 
-use shape::VAL_DEF;
+use shape::{Args, VAL_DEF};
+use walk::Formed;
 
 // The symbol of an id among the first n entries, by the newest that has it. Rules out: by the oldest; the id itself.
 #[tactic(auto, using(crate::proofs::Laws::resolving))]
@@ -43,49 +44,42 @@ fn bind(work: &mut [u32], k: usize, id: u32, symbol: u32)
 // ---- what a lambda and a definition bind
 
 // Binds the n arguments of a literal to the symbols from `first` on, above top entries.
-fn bind_all(lit: &[u8], work: &mut [u32], n: usize, top: usize, first: u32)
-    requires left { Left n lit.now 0 }
+#[tactic(auto, using(crate::proofs::Args::binding))]
+fn bind_all(lit: &[u8], work: &mut [u32], n: u8, top: usize, first: u32)
+    requires all { AllArgs n lit.now }
     requires n_bound { (n ≤ 15) × (top + n ≤ 1200) × (WORDS ≤ length work.old) × (first ≤ 512) }
     ensures { work.new
         ≡ bound_all work.old top (arg_bindings (args_of n lit.now) (range first n)) }
 {
-    let mut at = 0;
     let mut symbol = first;
-    for k in (0..n).rev() {
-        let id = shape::id_at(lit, at);
-        bind(work, top + k, id, symbol);
-        at = shape::arg_end(lit, at);
+    for (k, arg) in (0..usize::from(n)).rev().zip(Args::new(lit, n)) {
+        bind(work, top + k, arg.id, symbol);
         symbol += 1;
     }
 }
 
 // Binds the arguments of lambda i to the symbols from `first` on, above top entries, the first argument newest; gives
 // how many entries there are then. Rules out: the last argument newest; every argument bound to the first symbol.
-pub fn bind_args(forest: &[u8], work: &mut [u32], i: usize, top: usize, first: u32) -> usize
-    requires well_formed { WellFormed forest.now }
-    requires i_bound { (i < record_count forest.now) × ((rec_at forest.now i).shape ≡ FuncValue) }
+pub fn bind_args(forest: &Formed, work: &mut [u32], i: usize, top: usize, first: u32) -> usize
+    requires i_bound { (i < record_count forest.now.laid) × ((rec_at forest.now.laid i).shape ≡ FuncValue) }
     requires top_bound { (top + 15 ≤ 1200) × (WORDS ≤ length work.old) × (first ≤ 512) }
-    ensures { ArgsBound forest.now i top first work.old work.new result }
+    ensures { ArgsBound forest.now.laid i top first work.old work.new result }
 {
-    let n = usize::from(record::aux(forest, i));
-    let lit = record::literal(forest, i);
-    bind_all(lit, work, n, top, first);
-    top + n
+    let n = forest.laid.aux(i);
+    bind_all(forest.laid.literal(i), work, n, top, first);
+    top + usize::from(n)
 }
 
 // Binds what record i's subtree, whose symbol is given, binds in its later siblings: a definition's id, above top
 // entries, and otherwise nothing; gives how many entries there are then.
 // Rules out: a lambda's arguments bound; the symbol under another record's id.
-pub fn bind_def(forest: &[u8], work: &mut [u32], i: usize, top: usize, symbol: u32) -> usize
-    requires well_formed { WellFormed forest.now }
-    requires i_bound { (i < record_count forest.now) × (top < 1200) × (WORDS ≤ length work.old) }
-    ensures { DefBound forest.now i top symbol work.old work.new result }
+pub fn bind_def(forest: &Formed, work: &mut [u32], i: usize, top: usize, symbol: u32) -> usize
+    requires i_bound { (i < record_count forest.now.laid) × (top < 1200) × (WORDS ≤ length work.old) }
+    ensures { DefBound forest.now.laid i top symbol work.old work.new result }
 {
-    if record::shape(forest, i) != VAL_DEF {
+    if forest.laid.shape(i) != VAL_DEF {
         return top;
     }
-    let lit = record::literal(forest, i);
-    let id = shape::id_at(lit, 0);
-    bind(work, top, id, symbol);
+    bind(work, top, shape::id(forest.laid.literal(i)), symbol);
     top + 1
 }

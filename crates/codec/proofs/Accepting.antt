@@ -1,7 +1,7 @@
 -- Checks in their order: the first that fails is the answer.
 -- In order: 7 to 10 at once; what an accepted forest has.
 -- Assumes nothing.
-use Prim.Native.Nat.{ℕ}
+use Prim.Native.Nat.{ℕ, ◌≤◌}
 use mathlib.Core.Path.{◌≡◌, sym, ◌∙◌}
 use Rattle.std.specs.Prelude.{None}
 use mathlib.Core.List.{List}
@@ -9,18 +9,20 @@ use Rattle.model.specs.Answer.{good, unless, checked}
 use Rattle.model.specs.Lists.{first}
 use Rattle.model.specs.Tree.{Trees}
 use Rattle.model.specs.Faults.{faults_in}
-use Rattle.model.specs.Forest.{trees_of, check7}
+use Rattle.model.specs.Forest.{record_count, trees_of, check7}
 use Rattle.model.specs.Binding.{check8, check9, check10}
 use Rattle.model.specs.Accept.{checks, accept}
 use Rattle.laws.proofs.Header.{header_of}
 use Rattle.laws.proofs.Frame.{frame_none, frame_then}
 use Rattle.laws.proofs.Checks.{checked_good}
 use Rattle.record.specs.Record.{Laid}
+use Rattle.walk.specs.Walk.{WellFormed}
 use Rattle.refusal.proofs.Passing.{passed, failed}
 use Rattle.walk.specs.declared.Test.TheVariants.{Any, Depth, Definitions, Bindings, Uses}
 use Rattle.walk.specs.Faults.{start, check_by}
 use Rattle.walk.proofs.Checks.{check_7, check_8, check_9, check_10}
 use Rattle.walk.proofs.Any.{any_none}
+use Rattle.codec.specs.Accepted.{Passes}
 use Rattle.codec.specs.Codec.{Shaped}
 
 -- ---- all of 7 to 10 at once
@@ -41,20 +43,6 @@ all_passed bs h e =
       sym (check_9 (trees_of bs)) ∙ any_none Bindings (trees_of bs) e,
       sym (check_10 (trees_of bs)) ∙ any_none Uses (trees_of bs) e,
     )
-
--- what the functions that answer hang on
-pub ruleset answers = (
-  passed,
-  failed,
-  header_of,
-  check_7,
-  check_8,
-  check_9,
-  check_10,
-  all_passed,
-  frame_none,
-  frame_then,
-)
 
 -- ---- an accepted forest, for those who go on with one
 
@@ -83,3 +71,44 @@ accept-passed bs ts e =
       bound = eight.1.1.0;
       trees = w.1;
     }
+
+-- ---- accepted forests
+
+pub passes_accepts : (bs : List ℕ) → WellFormed bs → Passes bs → accept bs ≡ good (trees_of bs)
+unfolding accept checks checked unless
+passes_accepts bs h p =
+    rw (
+      h.laid.header,
+      h.laid.directory,
+      h.fit,
+      p.agree,
+      h.closed,
+      p.shallow,
+      p.placed,
+      p.fresh,
+      p.bound,
+    )
+
+pub accepts_passes : (bs : List ℕ) → good (trees_of bs) ≡ accept bs → Passes bs
+accepts_passes bs e =
+    let w = accept-passed bs (trees_of bs) (sym e) in
+    record { agree = w.shaped.agree; shallow = w.shallow; placed = w.placed; fresh = w.fresh; bound = w.bound }
+
+pub few_records : (bs : List ℕ) → WellFormed bs → record_count bs ≤ 256
+few_records bs h = (header_of bs h.laid.header).records_most
+
+-- what the functions that answer hang on
+pub ruleset answers = (
+  few_records,
+  accepts_passes,
+  passed,
+  failed,
+  header_of,
+  check_7,
+  check_8,
+  check_9,
+  check_10,
+  all_passed,
+  frame_none,
+  frame_then,
+)

@@ -1,2 +1,3 @@
 -- What a check of a forest answers. Assumes nothing.
+pub mod Accepted
 pub mod Codec

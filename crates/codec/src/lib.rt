@@ -3,15 +3,19 @@
 // In order: 2; 3; 4; 5; 6; all of them.
 #![tactic(auto)]
 
-ghost use Rattle.std.specs.Prelude.{◌≡◌, ◌+◌, ◌*◌, ◌<◌, ◌≤◌, length, IfSome};
+mod accepted;
+
+ghost use Rattle.std.specs.Prelude.{◌≡◌, ◌+◌, ◌*◌, ◌<◌, ◌≤◌, length, IfSome, IfOk};
 ghost use Rattle.model.specs.Forest as model;
 ghost use Rattle.model.specs.Shape as table;
-ghost use Rattle.record.specs.Record.{Laid, row_at};
+ghost use Rattle.record.specs.Record.{row_at};
 ghost use Rattle.regions.specs.Regions.{IDS, end};
-ghost use Rattle.codec.specs.Codec.{bad_pair, Layout, Shaped, Answered, Judged};
+ghost use Rattle.codec.specs.Codec.{bad_pair, Layout, Answered, Judged};
 
+pub use accepted::Accepted;
+use record::Forest;
 use refusal::{Check, Refusal};
-use walk::Test;
+use walk::{Formed, Test};
 
 // Check 2: the forest's length, and the header's counts.
 // Rules out: a place for 65,535 bytes whose counts are right; nothing for 257 records.
@@ -60,86 +64,83 @@ fn check3(forest: &[u8]) -> Option<usize>
 }
 
 // Whether record i fits its shape.
-fn fits(forest: &[u8], i: usize) -> bool
-    requires laid { Laid forest.now }
+fn fits(forest: &Forest, i: usize) -> bool
     requires i_bound { i < model.record_count forest.now }
     ensures { result ≡ table.fits (row_at forest.now i) }
 {
     shape::fits(
-        record::shape(forest, i),
-        record::kids(forest, i),
-        record::aux(forest, i),
-        record::literal(forest, i),
+        forest.shape(i),
+        forest.kids(i),
+        forest.aux(i),
+        forest.literal(i),
     )
 }
 
 // Check 4: records against their shapes. Rules out: the last record that does not fit; nothing for shape 27.
 #[tactic(auto, using(crate::proofs::Rows::searching))]
-fn check4(forest: &[u8]) -> Option<usize>
-    requires { Laid forest.now }
+fn check4(forest: &Forest) -> Option<usize>
     ensures value { result ≡ model.check4 forest.now }
     ensures low { IfSome result (λ p. p ≤ 256) }
 {
-    (0..record::record_count(forest)).find(|&i| !fits(forest, i))
+    (0..forest.record_count()).find(|&i| !fits(forest, i))
 }
 
 // Whether record i's opcode agrees with its shape.
-fn agrees(forest: &[u8], i: usize) -> bool
-    requires laid { Laid forest.now }
+fn agrees(forest: &Forest, i: usize) -> bool
     requires i_bound { i < model.record_count forest.now }
     ensures { result ≡ table.agrees (row_at forest.now i).rec }
 {
-    shape::agrees(record::shape(forest, i), record::opcode(forest, i))
+    shape::agrees(forest.shape(i), forest.opcode(i))
 }
 
 // Check 5: opcodes against shapes.
 // Rules out: the last record that does not agree; nothing for opcode 00 with shape 2.
 #[tactic(auto, using(crate::proofs::Rows::searching))]
-fn check5(forest: &[u8]) -> Option<usize>
-    requires { Laid forest.now }
+fn check5(forest: &Forest) -> Option<usize>
     ensures value { result ≡ model.check5 forest.now }
     ensures low { IfSome result (λ p. p ≤ 256) }
 {
-    (0..record::record_count(forest)).find(|&i| !agrees(forest, i))
+    (0..forest.record_count()).find(|&i| !agrees(forest, i))
 }
 
 // Check 6: the trees close. Rules out: the last record for one left over; the tree count where records lack.
 #[tactic(auto, using(crate::proofs::Closing::closing))]
-fn check6(forest: &[u8]) -> Option<usize>
-    requires { Laid forest.now }
+fn check6(forest: &Forest) -> Option<usize>
     ensures value { result ≡ model.check6 forest.now }
     ensures low { IfSome result (λ p. p ≤ 256) }
 {
-    let n = record::record_count(forest);
-    let mut left = record::tree_count(forest);
+    let n = forest.record_count();
+    let mut left = forest.tree_count();
     for i in 0..n {
         if left == 0 {
             return Some(i);
         }
-        left = left - 1 + record::kids(forest, i);
+        left = left - 1 + forest.kids(i);
     }
     if left == 0 { None } else { Some(n) }
 }
 
-// Checks 2 to 6, in order.
+// Checks 2 to 6, in order, of these bytes: the forest, well-formed, or the first check that fails.
 #[tactic(auto, using(crate::proofs::Accepting::answers), unfolding(model::specs::Accept::accept, model::specs::Accept::checks, model::specs::Answer::checked, model::specs::Answer::unless))]
-fn layout(forest: &[u8]) -> Result<(), Refusal>
-    ensures { Layout forest.now result }
+fn layout(bytes: &[u8]) -> Result<Formed, Refusal>
+    ensures { Layout bytes.now result }
 {
-    Refusal::at(Check::Header, check2(forest))?;
-    Refusal::at(Check::Directory, check3(forest))?;
-    Refusal::at(Check::Shapes, check4(forest))?;
-    Refusal::at(Check::Opcodes, check5(forest))?;
-    Refusal::at(Check::Closing, check6(forest))
+    Refusal::at(Check::Header, check2(bytes))?;
+    Refusal::at(Check::Directory, check3(bytes))?;
+    let laid = Forest::new(bytes);
+    Refusal::at(Check::Shapes, check4(&laid))?;
+    Refusal::at(Check::Opcodes, check5(&laid))?;
+    Refusal::at(Check::Closing, check6(&laid))?;
+    Ok(Formed { laid })
 }
 
 // The first of checks 7 to 10 that fails, of a forest that passes checks 2 to 6: one walk for each, in order.
 // Rules out: 9 where 8 fails in a later record; a place of another check.
 #[tactic(auto, using(crate::proofs::Accepting::answers), unfolding(model::specs::Accept::accept, model::specs::Accept::checks, model::specs::Answer::checked, model::specs::Answer::unless))]
-fn fault(forest: &[u8], work: &mut [u32]) -> Result<(), Refusal>
-    requires shaped { Shaped forest.now }
+fn fault(forest: &Formed, work: &mut [u32]) -> Result<(), Refusal>
+    requires agree { model.check5 forest.now.laid ≡ None }
     requires end_in_bounds { end IDS ≤ length work.old }
-    ensures { Answered forest.now work.old work.new result }
+    ensures { Answered forest.now.laid work.old work.new result }
 {
     Refusal::at(Check::Depth, walk::trees(forest, work, Test::Depth))?;
     Refusal::at(
@@ -153,10 +154,10 @@ fn fault(forest: &[u8], work: &mut [u32]) -> Result<(), Refusal>
 // Checks 7 to 10, in order, of a forest that passes checks 2 to 6. One walk tests all four, and where it finds nothing
 // no other is needed. Rules out: nothing where 10 alone fails; 10 where it fails in a record before one that fails 7.
 #[tactic(auto, using(crate::proofs::Accepting::answers))]
-fn bindings(forest: &[u8], work: &mut [u32]) -> Result<(), Refusal>
-    requires shaped { Shaped forest.now }
+fn bindings(forest: &Formed, work: &mut [u32]) -> Result<(), Refusal>
+    requires agree { model.check5 forest.now.laid ≡ None }
     requires end_in_bounds { end IDS ≤ length work.old }
-    ensures { Answered forest.now work.old work.new result }
+    ensures { Answered forest.now.laid work.old work.new result }
 {
     match walk::trees(forest, work, Test::Any) {
         Some(_) => fault(forest, work),
@@ -164,15 +165,17 @@ fn bindings(forest: &[u8], work: &mut [u32]) -> Result<(), Refusal>
     }
 }
 
-// Checks 2 to 10, "in that order, each over the whole forest before the next": nothing, or the first that fails with
-// its place. After a refusal by 2 to 6 no word has changed; else the words of IDS held the ids in force and may hold
-// anything, and the others are as they were.
-// Rules out: 9 where 8 fails in a later record; nothing where a definition's value uses it.
+// Checks 2 to 10 of these bytes, "in that order, each over the whole forest before the next": the forest, accepted, or
+// the first that fails with its place. After a refusal by 2 to 6 no word has changed; else the words of IDS held the
+// ids in force and may hold anything, and the others are as they were.
+// Rules out: 9 where 8 fails in a later record; a forest where a definition's value uses it; another forest.
 #[tactic(auto, using(crate::proofs::Accepting::answers))]
-pub fn check(forest: &[u8], work: &mut [u32]) -> Result<(), Refusal>
+pub fn check<'a>(bytes: &'a [u8], work: &mut [u32]) -> Result<Accepted<'a>, Refusal>
     requires { end IDS ≤ length work.old }
-    ensures { Judged forest.now work.old work.new result }
+    ensures judged { Judged bytes.now work.old work.new result }
+    ensures forest { IfOk result (λ f. f.formed.laid ≡ bytes.now) }
 {
-    layout(forest)?;
-    bindings(forest, work)
+    let formed = layout(bytes)?;
+    bindings(&formed, work)?;
+    Ok(Accepted { formed })
 }

@@ -1,16 +1,13 @@
--- A symbol that is there already: the last of some pending children, or what an id stands for. In order: the last; that
--- it is a symbol, for callers; an id.
+-- A symbol that is there already: the last of some pending children. In order: the last; that it is a symbol, for
+-- callers.
 -- Assumes nothing.
 use Prim.Native.Nat.{ℕ, zero, suc, ◌+◌, ◌-◌, ◌<◌}
-use mathlib.Core.Path.{◌≡◌, ap, ◌∙◌}
+use mathlib.Core.Path.{◌≡◌, ◌∙◌}
 use mathlib.Core.List.{List}
 use native.Mathlib.Omega.{arith}
-use lib.ListN.{get_or, drop}
+use lib.ListN.{get_or}
 use Rattle.regions.specs.Regions.{PENDING}
-use Rattle.model.specs.Bytes.{u32}
 use Rattle.model.specs.Lists.{last}
-use Rattle.model.specs.Tree.{Rec}
-use Rattle.model.specs.Binding.{id_of}
 use Rattle.symbols.specs.Words.{words_from, pending_from}
 
 -- ---- the last
@@ -32,9 +29,3 @@ pub last_low : (ws : List ℕ) (held count n : ℕ) → 0 < count →
     ((k : ℕ) → k < count → get_or ws (PENDING.first + held + k) 0 < n) → last (pending_from ws held count) < n
 last_low ws held zero n lt h = absurd (omega arith)
 last_low ws held (suc m) n lt h = rw (last_word ws (PENDING.first + held) m) (h m (omega arith))
-
--- ---- an id
-
-pub use_id : (r : Rec) (lit : List ℕ) (id : ℕ) → id ≡ u32 (drop 0 lit) → lit ≡ r.lit → id ≡ id_of r
-unfolding id_of
-use_id r lit id e f = e ∙ ap u32 f

@@ -5,6 +5,7 @@ use Prim.Native.Nat.{ℕ, ◌<◌}
 use mathlib.Core.Path.{◌≡◌, refl, sym, ap, ◌∙◌, subst}
 use mathlib.Core.Bool.{Bool, true, false}
 use mathlib.Core.List.{List, []}
+use Rattle.std.specs.Prelude.{None}
 use native.Mathlib.Omega.{arith}
 use borrow.Author.Tests.{eq-eqb, ne_eqb, eqb-true, eqb-false}
 use lib.Dec.{eqb}
@@ -18,7 +19,7 @@ use Rattle.walk.specs.Walk.{WellFormed}
 use Rattle.walk.proofs.Bridge.{row_fits}
 use Rattle.key.specs.declared.Node.{Node}
 use Rattle.key.specs.declared.Node.TheVariants.{Const, Unparsed, Lambda}
-use Rattle.key.specs.Key.{choose, parts_of}
+use Rattle.key.specs.Key.{node_field, branches_of, first_of, second_of, choose, parts_of}
 use Rattle.symbols.specs.Words.{pending_from}
 use Rattle.symbols.specs.Symbols.{key_rec}
 use Rattle.tables.specs.declared.Tables.{Tables}
@@ -27,9 +28,9 @@ use Rattle.interner.specs.declared.Step.{Step}
 use Rattle.symbols.specs.Sourced.{Sourced}
 use Rattle.interner.specs.State.{abs_of, Rep}
 use Rattle.interner.specs.Step.{Answers, BodyOf, Fresh, Ready, finish_of}
-use Rattle.concluding.specs.declared.Branches.{Branches}
-use Rattle.concluding.specs.declared.Branches.TheVariants.{Zero, One, Two}
-use Rattle.concluding.specs.Concluding.{op_node, branches_of, general_node, Concludes, Branched}
+use Rattle.key.specs.declared.Branches.{Branches}
+use Rattle.key.specs.declared.Branches.TheVariants.{Zero, One, Two}
+use Rattle.concluding.specs.Concluding.{op_node, general_node, Concludes, Branched}
 use Rattle.interner.proofs.Sharing.{answers_as}
 
 -- ---- a record's node, by its shape
@@ -66,13 +67,12 @@ module _ (r : Row) (h : fits r ≡ true) where
 
 module _ {bs ws : List ℕ} {st : State} {i cur inner held count : ℕ}
     (h : Concludes bs ws st i cur inner held count) where
-  fresh_from : (node : Node) → (parts_of node).source ≡ i → (parts_of node).field ≡ 0 → (parts_of node).branches < 4 →
+  fresh_from : (node : Node) → (parts_of node).source ≡ i → node_field node ≡ None →
       (parts_of node).first < 4096 → (parts_of node).second < 4096 → Sourced bs node count →
       Fresh bs ws st cur node held count
-  fresh_from node source field branches first second sourced = record {
+  fresh_from node source field first second sourced = record {
     from = omega (arith, h.from);
-    field = omega arith;
-    branches = branches;
+    field = rw field tt;
     first = first;
     second = second;
     current = h.current;
@@ -87,26 +87,20 @@ module _ {bs ws : List ℕ} {st : State} {i cur inner held count : ℕ}
 abbrev shape_of : List ℕ → ℕ → ℕ
 shape_of bs i = (row_at bs i).rec.shape
 
+branched_low : (b : Branches) → Branched b → (first_of b < 4096) × (second_of b < 4096)
+branched_low Zero br = (omega arith, omega arith)
+branched_low (One a) br = (br, omega arith)
+branched_low (Two a b) br = br
+
 op_ready : {bs ws : List ℕ} {st : State} {i cur held count : ℕ} → Concludes bs ws st i cur cur held count →
     (b : Branches) → Branched b → Ready bs ws st cur (op_node i b) held count
-op_ready {i = i} h Zero br = record {
-  fresh = fresh_from h (op_node i Zero) refl refl (omega arith) (omega arith) (omega arith)
-      (record { plain = λ e. h.children; made = λ z. absurd (z refl) });
-  keyed = tt;
-  forced = h.forced;
-}
-op_ready {i = i} h (One a) br = record {
-  fresh = fresh_from h (op_node i (One a)) refl refl (omega arith) br (omega arith)
-      (record { plain = λ e. h.children; made = λ z. absurd (z refl) });
-  keyed = tt;
-  forced = h.forced;
-}
-op_ready {i = i} h (Two a b) br = record {
-  fresh = fresh_from h (op_node i (Two a b)) refl refl (omega arith) br.0 br.1
-      (record { plain = λ e. h.children; made = λ z. absurd (z refl) });
-  keyed = tt;
-  forced = h.forced;
-}
+op_ready {i = i} h b br =
+    let low = branched_low b br in
+    record {
+      fresh = fresh_from h (op_node i b) refl refl low.0 low.1 h.children;
+      keyed = tt;
+      forced = h.forced;
+    }
 
 pub general_ready : {bs ws : List ℕ} {st : State} {i cur held count : ℕ} (b : Branches) {node : Node} →
     node ≡ general_node (shape_of bs i) i b → WellFormed bs → Concludes bs ws st i cur cur held count → Branched b →
@@ -116,12 +110,12 @@ general_ready {bs} {ws} {st} {i} {cur} {held} {count} b is sound h br =
     subst (λ (n : Node). Ready bs ws st cur n held count) (sym is)
     (node_cases (shape_of bs i) i b (λ n. Ready bs ws st cur n held count)
     (λ e. let k = const_kids (row_at bs i) fit e in record {
-      fresh = fresh_from h (const_node i) refl refl (omega arith) (omega arith) (omega arith) (k, sym h.children ∙ k);
+      fresh = fresh_from h (const_node i) refl refl (omega arith) (omega arith) (k, sym h.children ∙ k);
       keyed = tt;
       forced = h.forced;
     })
     (λ n e. let k = unparsed_kids (row_at bs i) fit e in record {
-      fresh = fresh_from h (unparsed_node i) refl refl (omega arith) (omega arith) (omega arith)
+      fresh = fresh_from h (unparsed_node i) refl refl (omega arith) (omega arith)
           (k, sym h.children ∙ k);
       keyed = tt;
       forced = h.forced;
@@ -129,20 +123,15 @@ general_ready {bs} {ws} {st} {i} {cur} {held} {count} b is sound h br =
     (λ n m. op_ready h b br))
 
 module _ (bs ws : List ℕ) (t : Tables) (st : State) (i cur held count : ℕ) (b : Branches) where
-  abbrev of_branches : Branches → Out
-  of_branches z =
-      finish i cur (row_at bs i).rec (pending_from ws held count) [] (node_of (row_at bs i).rec (branches_of z))
+  abbrev general_of : Out
+  general_of =
+      finish i cur (row_at bs i).rec (pending_from ws held count) [] (node_of (row_at bs i).rec (branches_of b))
       (abs_of bs ws t st)
 
-  abbrev general_of : Out
-  general_of = of_branches b
-
-  op_is : (b : Branches) → (shape_of bs i ≡ 0 → ⊥) → (shape_of bs i ≡ 1 → ⊥) →
-      finish_of bs ws t st cur (op_node i b) held count ≡ of_branches b
+  op_is : (shape_of bs i ≡ 0 → ⊥) → (shape_of bs i ≡ 1 → ⊥) →
+      finish_of bs ws t st cur (op_node i b) held count ≡ general_of
   unfolding key_rec node_of
-  op_is Zero n m = rw (ne_eqb (shape_of bs i) 0 n, ne_eqb (shape_of bs i) 1 m, node_of)
-  op_is (One a) n m = rw (ne_eqb (shape_of bs i) 0 n, ne_eqb (shape_of bs i) 1 m, node_of)
-  op_is (Two a b) n m = rw (ne_eqb (shape_of bs i) 0 n, ne_eqb (shape_of bs i) 1 m, node_of)
+  op_is n m = rw (ne_eqb (shape_of bs i) 0 n, ne_eqb (shape_of bs i) 1 m, node_of)
 
   general_is : finish_of bs ws t st cur (general_node (shape_of bs i) i b) held count ≡ general_of
   unfolding key_rec node_of
@@ -150,7 +139,7 @@ module _ (bs ws : List ℕ) (t : Tables) (st : State) (i cur held count : ℕ) (
       node_cases (shape_of bs i) i b (λ n. finish_of bs ws t st cur n held count ≡ general_of)
       (λ e. rw (eq-eqb (shape_of bs i) 0 e, node_of))
       (λ n e. rw (ne_eqb (shape_of bs i) 0 n, eq-eqb (shape_of bs i) 1 e, node_of))
-      (λ n m. op_is b n m)
+      op_is
 
   pub general_answers : {node : Node} → node ≡ general_node (shape_of bs i) i b → {ws' : List ℕ} {r : Step} →
       Answers bs ws t st (finish_of bs ws t st cur node held count) ws' r → Answers bs ws t st general_of ws' r
@@ -163,7 +152,7 @@ pub lambda_ready : {bs ws : List ℕ} {st : State} {i cur held first body : ℕ}
     BodyOf ws st.scopes cur body (range first (row_at bs i).rec.aux) →
     Ready bs ws st cur (Lambda (record { source = i; first = first; body = body })) held 1
 lambda_ready {i = i} {first = first} {body = body} rep h p b = record {
-  fresh = fresh_from h (Lambda (record { source = i; first = first; body = body })) refl refl (omega arith) p.1
+  fresh = fresh_from h (Lambda (record { source = i; first = first; body = body })) refl refl p.1
       (omega (arith, b.low, rep.arena.scoped.few_scopes)) (p.0, refl);
   keyed = b;
   forced = h.forced;

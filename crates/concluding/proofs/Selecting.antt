@@ -31,7 +31,7 @@ use Rattle.interner.specs.declared.State.{State}
 use Rattle.interner.specs.declared.Step.{Step}
 use Rattle.interner.specs.State.{abs_of, Rep}
 use Rattle.interner.specs.Step.{Answers, Projects}
-use Rattle.concluding.specs.Concluding.{field_at, reads_again, Selects, HasSymbol, Input}
+use Rattle.concluding.specs.Concluding.{field_at, reads_again, Selects, Input}
 use Rattle.interner.proofs.Sharing.{answers_as}
 
 -- ---- its input
@@ -57,7 +57,7 @@ module _ {bs ws : List ℕ} {st : State} {i cur held : ℕ} (rep : Rep bs ws st)
     stored = record {
       few = omega (arith, pend_low, rep.arena.scoped.few);
       from = (rep.arena.sound pend pend_low).from;
-      words = rep.arena.scoped.words;
+      words = rep.words;
     };
   }
 
@@ -75,11 +75,6 @@ module _ {bs ws : List ℕ} {st : State} {i cur held : ℕ} (rep : Rep bs ws st)
   }
 
 -- ---- whether it is read again
-
-pub symbol_from : {bs ws : List ℕ} {s : ℕ} {y : Symbol} {p : Parts} → HasSymbol bs ws s → y ≡ symbol_at ws s →
-    p ≡ parts_of y.node → p.source < record_count bs
-symbol_from {ws = ws} {s} {p = p} h e f =
-    let g : p.source ≡ (parts_of (symbol_at ws s).node).source = rw (f, e) in omega (arith, g, h.from)
 
 -- the shape of a symbol is that of the record that it was made for
 pub symbol_shape : (bs ws : List ℕ) (s n : ℕ) {y : Symbol} {p : Parts} → s < n → y ≡ symbol_at ws s →

@@ -1,7 +1,7 @@
 -- What a record gives once its children's symbols are pending: bs are the forest's bytes, ws the work words. In order:
 -- thunks and nodes; what a symbol asks; a SelectField; a use.
 -- Assumes nothing.
-use Rattle.std.specs.Prelude.{ℕ, ◌+◌, ◌*◌, ◌<◌, ◌≤◌, ◌≡◌, Bool, ◌&&◌, ◌||◌, List, [], ◌∷◌, eqb, length, get_or}
+use Rattle.std.specs.Prelude.{ℕ, ◌+◌, ◌*◌, ◌<◌, ◌≤◌, ◌≡◌, Bool, ◌&&◌, ◌||◌, List, None, eqb, length, get_or}
 use Rattle.regions.specs.Regions.{SLOTS, PENDING, BINDINGS, WORDS}
 use Rattle.model.specs.Forest.{record_count}
 use Rattle.model.specs.Intern.{union_deps, sym_at}
@@ -14,22 +14,14 @@ use Rattle.symbols.specs.Symbols.{syms_of}
 use Rattle.scopes.specs.Scopes.{scopes_of}
 use Rattle.interner.specs.declared.State.{State}
 use Rattle.interner.specs.Levels.{InForce}
-use Rattle.concluding.specs.declared.Branches.{Branches}
-use Rattle.concluding.specs.declared.Branches.TheVariants.{Zero, One, Two}
+use Rattle.key.specs.declared.Branches.{Branches}
+use Rattle.key.specs.declared.Branches.TheVariants.{Zero, One, Two}
 
 -- ---- thunks and nodes
 
--- the scopes of a record's thunks, in order
-abbrev pub branches_of : Branches → List ℕ
-branches_of Zero = []
-branches_of (One a) = a ∷ []
-branches_of (Two a b) = a ∷ b ∷ []
-
 -- the node of record i with these thunks
 abbrev pub op_node : ℕ → Branches → Node
-op_node i Zero = Op (record { source = i; field = 0; branches = 0; first = 0; second = 0 })
-op_node i (One a) = Op (record { source = i; field = 0; branches = 1; first = a; second = 0 })
-op_node i (Two a b) = Op (record { source = i; field = 0; branches = 2; first = a; second = b })
+op_node i b = Op (record { source = i; field = None; branches = b })
 
 -- the node of record i, by its shape
 abbrev pub general_node : ℕ → ℕ → Branches → Node

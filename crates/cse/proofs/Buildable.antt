@@ -2,14 +2,13 @@
 -- (`Rep`) and from the theorems on interning.
 -- In order: a node's scopes and arguments; no node stands for a use; counting; building, in words that agree.
 -- Assumes nothing.
-use Prim.Native.Nat.{ℕ, zero, suc, ◌+◌, ◌-◌, ◌<◌, ◌≤◌}
-use mathlib.Core.Path.{◌≡◌, refl, sym, ap, ◌∙◌, subst}
-use mathlib.Core.Logic.{inl, inr}
+use Prim.Native.Nat.{ℕ, ◌+◌, ◌-◌, ◌<◌, ◌≤◌}
+use mathlib.Core.Path.{◌≡◌, sym, ap, ◌∙◌, subst}
 use Rattle.std.specs.Prelude.{None}
-use mathlib.Core.List.{List, [], ◌∷◌}
+use mathlib.Core.List.{List}
 use native.Mathlib.Omega.{arith}
-use lib.ListN.{length, take}
-use Rattle.regions.specs.Regions.{SLOTS}
+use lib.ListN.{length}
+use Rattle.regions.specs.Regions.{SLOTS, WORDS}
 use Rattle.model.specs.Answer.{good}
 use Rattle.model.specs.Tree.{Rec}
 use Rattle.model.specs.Shape.{shapes}
@@ -56,15 +55,6 @@ args_under s first n h l =
     let x = first + (n - 1) in
     omega (arith, h x (in_range first n x (omega arith) (omega arith)))
 
-first_under : (m b x y : ℕ) → Under m (take b (x ∷ y ∷ [])) → 0 < b → x < m
-first_under m zero x y h l = absurd (omega arith)
-first_under m (suc b) x y h l = h x (inl refl)
-
-second_under : (m b x y : ℕ) → Under m (take b (x ∷ y ∷ [])) → 1 < b → y < m
-second_under m zero x y h l = absurd (omega arith)
-second_under m (suc zero) x y h l = absurd (omega arith)
-second_under m (suc (suc b)) x y h l = h y (inr (inl refl))
-
 module _ (bs : List ℕ) (fit : check4 bs ≡ None) (m s count : ℕ) (ks : List ℕ) where
   opens_node : (nd : Node) → (parts_of nd).source < record_count bs → Sourced bs nd count →
       NodeSound Any s m (rec_of bs nd) ks (model_node bs nd) → Opens bs m s nd
@@ -85,10 +75,7 @@ module _ (bs : List ℕ) (fit : check4 bs ≡ None) (m s count : ℕ) (ks : List
         few = parts.aux_is;
         args = parts.right_is;
       }
-  opens_node (Op o) low from h = record {
-    first = first_under m o.branches o.first o.second h.0;
-    second = second_under m o.branches o.first o.second h.0;
-  }
+  opens_node (Op o) low from h = h.0
 
 -- ---- no node stands for a use
 
@@ -109,10 +96,10 @@ module _ (bs : List ℕ) (fin : List Sym) (scs : List Scope) (s : ℕ) where
 
 -- ---- counting
 
-pub arena_countable : {bs ws : List ℕ} {n m : ℕ} → Arena bs ws n m → Countable ws n
-arena_countable a = record {
+pub arena_countable : {bs ws : List ℕ} {n m : ℕ} → WORDS ≤ length ws → Arena bs ws n m → Countable ws n
+arena_countable words a = record {
   few = a.scoped.few;
-  words = a.scoped.words;
+  words = words;
   kids = λ i l. let s = a.sound i l in record { slots = s.slots; lower = s.lower };
 }
 

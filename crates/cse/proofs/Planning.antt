@@ -1,12 +1,12 @@
 -- From counting and planning to a planned tree, and to symbols that are held. Assumes nothing.
 use Prim.Native.Nat.{ℕ, ◌+◌, ◌≤◌, ◌<◌}
-use mathlib.Core.Path.{◌≡◌, sym, ◌∙◌, subst}
+use mathlib.Core.Path.{◌≡◌, ◌∙◌, subst}
 use mathlib.Core.List.{List}
-use Rattle.std.specs.Prelude.{Result, Ok, Err, Option, None, Some, MatchOption, IfSome}
+use Rattle.std.specs.Prelude.{Option, None, Some, MatchOption, IfSome}
 use native.Mathlib.Omega.{arith}
 use lib.ListN.{length}
 use Rattle.regions.specs.Regions.{SYMBOLS, SLOTS, USES, WORDS}
-use Rattle.model.specs.Tree.{Tree, size, depth, rows}
+use Rattle.model.specs.Tree.{Tree, size, rows}
 use Rattle.model.specs.Materialize.{materialize}
 use Rattle.model.specs.Answer.{good}
 use Rattle.model.specs.Forest.{trees_of}
@@ -22,17 +22,11 @@ use Rattle.interner.specs.declared.State.{State}
 use Rattle.tables.specs.Tables.{new_tables}
 use Rattle.interner.specs.State.{abs_of, Rep}
 use Rattle.gate.specs.Gate.{Reached}
-use Rattle.graph.specs.declared.Graph.{Graph}
 use Rattle.graph.specs.Graph.{Arena}
 use Rattle.graph.proofs.Laws.{Still, still_above, arena_agree}
-use Rattle.plan.specs.Plan.{plan_from, rows_for}
 use Rattle.planner.specs.declared.Plan.{Plan}
-use Rattle.planner.specs.Grew.{Grew, Over, Grown}
-use Rattle.planner.proofs.Growing.{grows_kept}
-use Rattle.materialize.specs.Materialize.{Counted, Materialized}
-use Rattle.refusal.specs.declared.Refusal.{Refusal}
-use Rattle.cse.specs.declared.Written.{Written}
-use Rattle.cse.specs.Call.{PlanOf, PlanWritable, Planned, Held, Counts, HeldAfter}
+use Rattle.materialize.specs.Materialize.{Counted, PlannedAs, Materialized}
+use Rattle.cse.specs.Call.{PlanOf, PlanWritable, Planned, Held}
 
 -- words ws₁ with the uses counted, and ws₂ with the tree planned too
 module _ (bs ws : List ℕ) (st : State) (rep : Rep bs ws st) (root : ℕ) (ws₁ : List ℕ)
@@ -46,45 +40,40 @@ module _ (bs ws : List ℕ) (st : State) (rep : Rep bs ws st) (root : ℕ) (ws�
   scopes_same : scopes_of ws₁ st.scopes ≡ scopes_of ws st.scopes
   scopes_same = scopes_agree ws ws₁ st.scopes still.scopes
 
-  -- how many symbols and scopes there are
-  abbrev graph : Graph
-  graph = record { symbols = st.symbols; scopes = st.scopes }
-
-  pub uses_counted : Counted bs ws₁ graph root
+  pub uses_counted : Counted bs ws₁ st.symbols st.scopes root
   uses_counted s l = rw syms_same (reached.uses bs (scopes_of ws₁ st.scopes) s l)
 
   module _ (ws₂ : List ℕ) (r : Option Plan) (long : WORDS ≤ length ws₂)
-      (grown : Materialized bs ws₁ graph root ws₂ r) where
+      (done : Materialized bs ws₁ st.symbols st.scopes root ws₂ r) where
     tree_same : materialize (syms_of bs ws₁ st.symbols) (scopes_of ws₁ st.scopes) root
         ≡ tree_of (root, abs_of bs ws new_tables st)
     unfolding tree_of
     tree_same = rw (syms_same, scopes_same)
 
     pub planned_tree : Planned bs ws ws₂ (root, abs_of bs ws new_tables st) r
-    unfolding plan_from rows_for
     planned_tree = record {
-      tree = (go r g.is).0;
-      ready = (go r g.is).1;
+      tree = (go r is).0;
+      ready = (go r is).1;
       kept = frame_then SYMBOLS.first WORDS ws ws₁ ws₂
           (frame_wider _ _ _ _ ws ws₁ reached.kept (omega arith) (omega arith))
-          (frame_wider _ _ _ _ ws₁ ws₂ (grows_kept grown) (omega arith) (omega arith));
+          (frame_wider _ _ _ _ ws₁ ws₂ done.kept (omega arith) (omega arith));
     }
       where
-        none : Plan
-        none = record { rows = 0; deepest = 0 }
-
         t : Tree
         t = tree_of (root, abs_of bs ws new_tables st)
 
-        g : Grown bs ws₁ none 0 t ws₂ r
-        g = subst (λ (x : Tree). Grown bs ws₁ none 0 x ws₂ r) tree_same grown
+        Is : Tree → Option Plan → Type 0
+        Is x o = MatchOption o (256 < length (rows x)) (λ p. PlannedAs bs ws₁ x ws₂ p)
 
-        go : (r : Option Plan) → MatchOption r (Over ws₁ none (rows t) ws₂) (λ p. Grew bs ws₁ none (rows t) (0 + depth t) ws₂ p)
-            → MatchOption r (256 < size t) (λ p. PlanOf bs ws₂ t p) × IfSome r (λ p. PlanWritable bs ws₂ p)
-        go None h = (omega (arith, h.more, size_rows t), tt)
+        is : Is t r
+        is = subst (λ (x : Tree). Is x r) tree_same done.planned
+
+        go : (o : Option Plan) → Is t o
+            → MatchOption o (256 < size t) (λ p. PlanOf bs ws₂ t p) × IfSome o (λ p. PlanWritable bs ws₂ p)
+        go None h = (omega (arith, h, size_rows t), tt)
         go (Some p) h = (
-          record { count = omega (arith, h.count, size_rows t); plan = h.plan; deepest = omega (arith, h.deepest) },
-          record { words = long; few = h.few; writable = h.writable tt },
+          record { count = h.count ∙ size_rows t; plan = h.plan; deepest = h.deepest },
+          record { words = long; few = h.few; writable = h.writable },
         )
 
     -- planning leaves symbols, scopes and uses as they are
@@ -94,8 +83,9 @@ module _ (bs ws : List ℕ) (st : State) (rep : Rep bs ws st) (root : ℕ) (ws�
         let a : Arena bs ws₁ st.symbols st.scopes =
         arena_agree still bs (λ i l. (rep.arena.sound i l).slots) rep.arena in
         let still₂ : Still ws₁ ws₂ SLOTS.size st.symbols st.scopes =
-        still_above (grows_kept grown) (omega arith) (omega arith) a.scoped in
+        still_above done.kept (omega arith) (omega arith) a.scoped in
         record {
+          words = long;
           made = (root, abs_of bs ws new_tables st);
           accepted = accepted;
           interns = interns;
@@ -103,9 +93,5 @@ module _ (bs ws : List ℕ) (st : State) (rep : Rep bs ws st) (root : ℕ) (ws�
           arena = arena_agree still₂ bs (λ i l. (a.sound i l).slots) a;
           syms = syms_agree bs ws₁ ws₂ SLOTS.size still₂.slots st.symbols still₂.own a.sound ∙ syms_same;
           uses = λ s l.
-              (grows_kept grown).after (USES.first + s) (omega arith) ∙ reached.uses bs (scopes_of ws st.scopes) s l;
+              done.kept.after (USES.first + s) (omega arith) ∙ reached.uses bs (scopes_of ws st.scopes) s l;
         }
-
-pub held_by : {bs ws : List ℕ} (n : ℕ) (r : Result Written Refusal) → Counts n r → Held bs ws n → HeldAfter bs ws r
-held_by {bs} {ws} n (Ok w) e h = subst (Held bs ws) (sym e) h
-held_by n (Err d) e h = tt

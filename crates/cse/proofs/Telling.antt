@@ -2,10 +2,10 @@
 -- a place; a tree from its plan; the call.
 -- Assumes nothing.
 use Prim.Native.Nat.{ℕ, ◌≤◌, ◌<◌}
-use mathlib.Core.Path.{◌≡◌, refl, sym, ap, ◌∙◌}
+use mathlib.Core.Path.{◌≡◌, refl, sym, ap, subst, ◌∙◌}
 use mathlib.Core.Bool.{Bool, true, false, ◌||◌}
 use mathlib.Core.Logic.{◌⊎◌, ⊎_elim}
-use Rattle.std.specs.Prelude.{Some, None, Ok, Err}
+use Rattle.std.specs.Prelude.{Some, None, Result, Ok, Err}
 use mathlib.Core.List.{List, append-nil}
 use native.Mathlib.Omega.{arith}
 use borrow.Author.Tests.{lt-ltb, le-ltb}
@@ -175,6 +175,11 @@ module _ (c : Call) where
   pub written-measured : (o : ℕ × State) → interned c.forest ≡ good o → written c ≡ measured c.room o
   unfolding written ◌>>=◌
   written-measured o e = rw e
+
+  -- what a tree's answer tells, the call's does
+  pub written_tells : (o : ℕ × State) → interned c.forest ≡ good o → {out out' : List ℕ} {r : Result Written Refusal} →
+      Tells (measured c.room o) out r out' → Tells (written c) out r out'
+  written_tells o e {out} {out'} {r} = subst (λ (a : answer.Answer call.Written). Tells a out r out') (sym (written-measured o e))
 
   pub run_few : c.words < WORDS → run c ≡ refused 1 0
   unfolding run lent_checks check1 checked unless ◌>>=◌

@@ -75,6 +75,7 @@ pub record Planned (bs ws ws' : List ℕ) (o : ℕ × State) (r : Option Plan) :
 
 -- the n symbols of an accepted forest, as interning made them, their scopes, and their uses from the root
 pub record Held (bs ws : List ℕ) (n : ℕ) : Type 0 where
+  pub words : WORDS ≤ length ws
   pub made : ℕ × State
   pub accepted : accept bs ≡ good (trees_of bs)
   pub interns : interned bs ≡ good made

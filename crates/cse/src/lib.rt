@@ -5,21 +5,19 @@
 
 ghost use Rattle.std.specs.Prelude.{◌≡◌, ℕ, ◌≤◌, length};
 ghost use Rattle.model.specs.Answer.{good};
-ghost use Rattle.model.specs.Accept.{accept};
-ghost use Rattle.model.specs.Forest.{trees_of};
 ghost use Rattle.model.specs.Call.{call_of, tree_of, interned, measured, written, numbers, out_after, work_after};
 ghost use Rattle.model.specs.Intern as intern;
 ghost use Rattle.model.specs.Demand3.{Demanded, Demand3};
-ghost use Rattle.record.specs.Record.{Laid};
 ghost use Rattle.regions.specs.Regions.{WORDS};
 ghost use Rattle.tables.specs.Tables.{new_tables};
 ghost use Rattle.interner.specs.State.{abs_of, Rep};
 ghost use Rattle.cse.specs.Call.{five, numbers_in, Tells, cleared, LentOnly, PlanOf, PlanWritable, Planned};
 ghost use Rattle.cse.specs.Call.{Held, Counts, HeldAfter};
 
-use graph::Graph;
+use codec::Accepted;
 use interner::State;
 use planner::Plan;
+use record::Forest;
 use refusal::{Check, Refusal};
 
 // What the call gives for a tree that it wrote: how many bytes, and how many symbols and readings there were.
@@ -47,13 +45,12 @@ fn clear(work: &mut [u32])
 // The planned tree's bytes over the output's start, once it is known that they fit: 13 and 14 come before any byte.
 // Rules out: 14 where 13 applies too; a byte written of a tree that is refused.
 fn write(
-    forest: &[u8],
+    forest: &Forest,
     work: &[u32],
     p: Plan,
     st: State,
     out: &mut [u8],
 ) -> Result<Written, Refusal>
-    requires laid { Laid forest.now }
     requires plan_writable { PlanWritable forest.now work.now p }
     ensures by_index { (o : ℕ × intern.State) → PlanOf forest.now work.now (tree_of o) p
         → length o.1.syms ≡ st.symbols → o.1.readings ≡ st.readings
@@ -80,38 +77,33 @@ fn write(
 
 // The tree of the root's symbol planned, its uses counted first.
 // Rules out: a plan by the uses of symbols that the root does not reach; the tree of another symbol.
-fn planned(forest: &[u8], work: &mut [u32], st: State, root: usize) -> Option<Plan>
-    requires forest_value { accept forest.now ≡ good (trees_of forest.now) }
-    requires rep { Rep forest.now work.old st }
-    requires forest_value_2 { interned forest.now ≡ good (root, abs_of forest.now work.old new_tables st) }
-    ensures planned { Planned forest.now work.old work.new
-        (root, abs_of forest.now work.old new_tables st) result }
-    ensures held { Held forest.now work.new st.symbols }
+fn planned(forest: &Accepted, work: &mut [u32], st: State, root: usize) -> Option<Plan>
+    requires rep { Rep forest.now.formed.laid work.old st }
+    requires root_made { interned forest.now.formed.laid ≡ good (root, abs_of forest.now.formed.laid work.old new_tables st) }
+    ensures planned { Planned forest.now.formed.laid work.old work.new
+        (root, abs_of forest.now.formed.laid work.old new_tables st) result }
+    ensures held { Held forest.now.formed.laid work.new st.symbols }
 {
     let symbols = st.symbols as usize;
     gate::reach_and_count(work, symbols, root);
-    let g = Graph {
-        symbols,
-        scopes: st.scopes as usize,
-    };
-    materialize::materialize(forest, work, g, root)
+    let scopes = st.scopes as usize;
+    materialize::materialize(&forest.formed.laid, work, symbols, scopes, root)
 }
 
 // An accepted forest: its symbols are made, then its tree is planned, then it is written.
 // Rules out: 13 where interning meets 11; symbols or readings of the written tree instead of the forest's.
-fn accepted(forest: &[u8], out: &mut [u8], work: &mut [u32]) -> Result<Written, Refusal>
-    requires forest_value { accept forest.now ≡ good (trees_of forest.now) }
+fn accepted(forest: &Accepted, out: &mut [u8], work: &mut [u32]) -> Result<Written, Refusal>
     requires in_bounds { WORDS ≤ length work.old }
-    ensures tells { Tells (written (call_of forest.now out.old work.old))
+    ensures tells { Tells (written (call_of forest.now.formed.laid out.old work.old))
         out.old result out.new }
     ensures lent_only { LentOnly work.old work.new }
-    ensures held_after { HeldAfter forest.now work.new result }
+    ensures held_after { HeldAfter forest.now.formed.laid work.new result }
 {
     let step = intern::forest(forest, work);
     let root = step.symbol?;
     let st = step.st;
     match planned(forest, work, st, root as usize) {
-        Some(p) => write(forest, work, p, st, out),
+        Some(p) => write(&forest.formed.laid, work, p, st, out),
         None => Err(NO_ROOM),
     }
 }
@@ -126,8 +118,8 @@ pub fn pass(forest: &[u8], out: &mut [u8], work: &mut [u32]) -> Result<Written, 
     ensures lent_only { LentOnly work.old work.new }
     ensures held_after { HeldAfter forest.now work.new result }
 {
-    codec::check(forest, work)?;
-    accepted(forest, out, work)
+    let checked = codec::check(forest, work)?;
+    accepted(&checked, out, work)
 }
 
 // The main call. On success the output begins with the bytes of the tree that the definitions give for the forest; on

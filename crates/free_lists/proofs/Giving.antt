@@ -23,7 +23,8 @@ use Rattle.symbols.proofs.Laws.{kids_at_lem}
 use Rattle.scopes.specs.declared.Rel.{Rel}
 use Rattle.scopes.specs.declared.Rel.TheVariants.{Local, Deeper, Outside}
 use Rattle.scopes.specs.Relation.{rel_in}
-use Rattle.graph.specs.Graph.{graph_of, Tests, Related}
+use Rattle.graph.specs.declared.held.Graph as code
+use Rattle.graph.specs.Tests.{held_in, Tests, Related}
 use Rattle.graph.proofs.Laws.{scope_of}
 use Rattle.outsiders.specs.Outsiders.{offered, Held, Listed}
 use Rattle.outsiders.proofs.Lists.{next, held_union, listed_none, listed_then, listed_as}
@@ -54,128 +55,128 @@ gives-last ws cs ds d g o =
     ∙ (ap (if_body ws cs g d) (sym (each_body g cs f ds o))
     ∙ sym (each_body g cs f (d ∷ []) (each f (body_only g cs ds) o))))
 
-module _ {bs ws : List ℕ} {n m : ℕ} (cs : ℕ) {list : List ℕ} where
-  pub gives_none : Held n list → Listed bs ws n m (gives ws cs []) list list
+module _ {bs : List ℕ} {k : code.Graph} (cs : ℕ) {list : List ℕ} where
+  pub gives_none : Held k.symbols list → Listed bs k (gives k.words.now cs []) list list
   unfolding each body_only
   gives_none h = listed_none h
 
   pub gives_next : (run : List ℕ) (j d : ℕ) → j < length run → d ≡ get_or run j 0 → {l l' : List ℕ} →
-      Listed bs ws n m (gives ws cs (take j run)) list l → Listed bs ws n m (gives ws cs (d ∷ [])) l l' →
-      Listed bs ws n m (gives ws cs (take (j + 1) run)) list l'
+      Listed bs k (gives k.words.now cs (take j run)) list l → Listed bs k (gives k.words.now cs (d ∷ [])) l l' →
+      Listed bs k (gives k.words.now cs (take (j + 1) run)) list l'
   gives_next run j d lt e p q =
-      listed_as (listed_then p q) (λ slots o. let g = graph_of bs ws n m slots in
-      sym (ap (λ (z : List ℕ). gives ws cs z g o) (next run j d lt e) ∙ gives-last ws cs (take j run) d g o))
+      listed_as (listed_then p q) (λ slots o. let g = held_in k bs slots in
+      sym (ap (λ (z : List ℕ). gives k.words.now cs z g o) (next run j d lt e) ∙ gives-last k.words.now cs (take j run) d g o))
 
 -- ---- what one gives, by its list
 
-module _ (ws : List ℕ) (d : ℕ) (filed : Filed ws (d + 1)) where
-  listed_low : Under d (list_at ws d)
+module _ (k : code.Graph) (d : ℕ) (filed : Filed k.words.now (d + 1)) where
+  listed_low : Under d (list_at k.words.now d)
   listed_low = filed.low d (omega arith)
 
   -- by where it lies
   abbrev given : ℕ → Graph → model.Rel → List ℕ → List ℕ
   given cs g ρ o = elim ρ [
-    | model.local ↦ union o (list_at ws d)
-    | model.deeper ↦ outsiders g cs (list_at ws d) (gives ws cs (list_at ws d) g o)
+    | model.local ↦ union o (list_at k.words.now d)
+    | model.deeper ↦ outsiders g cs (list_at k.words.now d) (gives k.words.now cs (list_at k.words.now d) g o)
     | model.outside ↦ o
   ]
 
   given_is : (cs : ℕ) (g : Graph) (o : List ℕ) (ρ : model.Rel) → rel_of g d cs ≡ ρ →
-      give g (list_at ws) cs d o ≡ given cs g ρ o
+      give g (list_at k.words.now) cs d o ≡ given cs g ρ o
   unfolding give_step
-  given_is cs g o ρ q = give_opens g (list_at ws) cs d o listed_low ∙ ap (λ (z : model.Rel). given cs g z o) q
+  given_is cs g o ρ q = give_opens g (list_at k.words.now) cs d o listed_low ∙ ap (λ (z : model.Rel). given cs g z o) q
 
   one_is : (cs : ℕ) (g : Graph) (o : List ℕ) (a : Bool) → a ≡ is_arg (sym_of g d).node → (ρ : model.Rel) →
-      ρ ≡ rel_of g d cs → gives ws cs (d ∷ []) g o ≡ unless (a || is_outside ρ) (given cs g ρ) o
+      ρ ≡ rel_of g d cs → gives k.words.now cs (d ∷ []) g o ≡ unless (a || is_outside ρ) (given cs g ρ) o
   unfolding each
   one_is cs g o a p ρ q =
-      each_body g cs (give g (list_at ws) cs) (d ∷ []) o
-      ∙ (ap₂ (λ (x : Bool) (z : model.Rel). unless (x || is_outside z) (give g (list_at ws) cs d) o) (sym p) (sym q)
+      each_body g cs (give g (list_at k.words.now) cs) (d ∷ []) o
+      ∙ (ap₂ (λ (x : Bool) (z : model.Rel). unless (x || is_outside z) (give g (list_at k.words.now) cs d) o) (sym p) (sym q)
       ∙ go (a || is_outside ρ))
     where
-      go : (b : Bool) → unless b (give g (list_at ws) cs d) o ≡ unless b (given cs g ρ) o
+      go : (b : Bool) → unless b (give g (list_at k.words.now) cs d) o ≡ unless b (given cs g ρ) o
       go true = refl
       go false = given_is cs g o ρ (sym q)
 
-  module _ (run : List ℕ) (is : run ≡ list_at ws d) where
+  module _ (run : List ℕ) (is : run ≡ list_at k.words.now d) where
     pub run_low : Under d run
     run_low = rw is listed_low
 
     pub run_inside : {n : ℕ} → d < n → Under n run
     run_inside lt a i = omega (arith, run_low a i)
 
-    module _ (bs : List ℕ) (n m cs : ℕ) (list : List ℕ) where
+    module _ (bs : List ℕ) (cs : ℕ) (list : List ℕ) where
       -- nothing changes
-      nothing : ((slots o : List ℕ) → gives ws cs (d ∷ []) (graph_of bs ws n m slots) o ≡ o) → Held n list →
-          Listed bs ws n m (gives ws cs (d ∷ [])) list list
+      nothing : ((slots o : List ℕ) → gives k.words.now cs (d ∷ []) (held_in k bs slots) o ≡ o) → Held k.symbols list →
+          Listed bs k (gives k.words.now cs (d ∷ [])) list list
       nothing none h = listed_as (listed_none h) (λ slots o. sym (none slots o))
 
       -- its list is empty
-      pub gives_empty : length run ≡ 0 → Held n list → Listed bs ws n m (gives ws cs (d ∷ [])) list list
+      pub gives_empty : length run ≡ 0 → Held k.symbols list → Listed bs k (gives k.words.now cs (d ∷ [])) list list
       unfolding union outsiders each body_only
       gives_empty none h =
-          nothing (λ slots o. let g = graph_of bs ws n m slots in
+          nothing (λ slots o. let g = held_in k bs slots in
           one_is cs g o (is_arg (sym_of g d).node) refl (rel_of g d cs) refl
           ∙ go g o (is_arg (sym_of g d).node || is_outside (rel_of g d cs)) (rel_of g d cs)) h
         where
           at : (g : Graph) (o : List ℕ) (ρ : model.Rel) → given cs g ρ o ≡ o
           at g o model.local = ap (union o) (sym is ∙ nil_from_length run none)
           at g o model.deeper =
-              ap (λ (z : List ℕ). outsiders g cs z (gives ws cs z g o)) (sym is ∙ nil_from_length run none)
+              ap (λ (z : List ℕ). outsiders g cs z (gives k.words.now cs z g o)) (sym is ∙ nil_from_length run none)
           at g o model.outside = refl
 
           go : (g : Graph) (o : List ℕ) (b : Bool) (ρ : model.Rel) → unless b (given cs g ρ) o ≡ o
           go g o true ρ = refl
           go g o false ρ = at g o ρ
 
-      module _ (a : Bool) (arg : Tests ws n m (λ h. is_arg (sym_of h d).node) a) where
-        pub gives_arg : a ≡ true → Held n list → Listed bs ws n m (gives ws cs (d ∷ [])) list list
+      module _ (a : Bool) (arg : Tests k (λ h. is_arg (sym_of h d).node) a) where
+        pub gives_arg : a ≡ true → Held k.symbols list → Listed bs k (gives k.words.now cs (d ∷ [])) list list
         gives_arg t =
-            nothing (λ slots o. let g = graph_of bs ws n m slots in
+            nothing (λ slots o. let g = held_in k bs slots in
             one_is cs g o true (sym t ∙ arg bs slots) (rel_of g d cs) refl)
 
-        module _ (no : a ≡ false) (r : Rel) (rel : Related ws n m d cs r) where
-          placed : (R : Rel) → r ≡ R → (slots o : List ℕ) → gives ws cs (d ∷ []) (graph_of bs ws n m slots) o
-              ≡ unless (is_outside (rel_in R)) (given cs (graph_of bs ws n m slots) (rel_in R)) o
+        module _ (no : a ≡ false) (r : Rel) (rel : Related k d cs r) where
+          placed : (R : Rel) → r ≡ R → (slots o : List ℕ) → gives k.words.now cs (d ∷ []) (held_in k bs slots) o
+              ≡ unless (is_outside (rel_in R)) (given cs (held_in k bs slots) (rel_in R)) o
           placed R t slots o =
-              one_is cs (graph_of bs ws n m slots) o false (sym no ∙ arg bs slots) (rel_in R)
+              one_is cs (held_in k bs slots) o false (sym no ∙ arg bs slots) (rel_in R)
               (ap rel_in (sym t) ∙ rel bs slots)
 
-          pub gives_outside : r ≡ Outside → Held n list → Listed bs ws n m (gives ws cs (d ∷ [])) list list
+          pub gives_outside : r ≡ Outside → Held k.symbols list → Listed bs k (gives k.words.now cs (d ∷ [])) list list
           gives_outside t = nothing (placed Outside t)
 
-          pub gives_local : r ≡ Local → {l : List ℕ} → Held n list → d < n → l ≡ union list run →
-              Listed bs ws n m (gives ws cs (d ∷ [])) list l
+          pub gives_local : r ≡ Local → {l : List ℕ} → Held k.symbols list → d < k.symbols → l ≡ union list run →
+              Listed bs k (gives k.words.now cs (d ∷ [])) list l
           gives_local t h lt e = record {
-            held = rw e (held_union n list run h (run_inside lt));
+            held = rw e (held_union k.symbols list run h (run_inside lt));
             is = λ slots. e ∙ (ap (union list) is ∙ sym (placed Local t slots list));
           }
 
-          pub gives_deeper : r ≡ Deeper → {l l' : List ℕ} → Listed bs ws n m (gives ws cs run) list l →
-              Listed bs ws n m (offered cs run) l l' → Listed bs ws n m (gives ws cs (d ∷ [])) list l'
+          pub gives_deeper : r ≡ Deeper → {l l' : List ℕ} → Listed bs k (gives k.words.now cs run) list l →
+              Listed bs k (offered cs run) l l' → Listed bs k (gives k.words.now cs (d ∷ [])) list l'
           gives_deeper t p q =
-              listed_as (listed_then p q) (λ slots o. let g = graph_of bs ws n m slots in
-              ap (λ (z : List ℕ). outsiders g cs z (gives ws cs z g o)) is ∙ sym (placed Deeper t slots o))
+              listed_as (listed_then p q) (λ slots o. let g = held_in k bs slots in
+              ap (λ (z : List ℕ). outsiders g cs z (gives k.words.now cs z g o)) is ∙ sym (placed Deeper t slots o))
 
 -- ---- a list gathered
 
-module _ {bs ws : List ℕ} {n m c : ℕ} (lt : c < n) {y : Symbol} (loaded : y ≡ symbol_at ws c) where
-  pub gathered : {run : List ℕ} → run ≡ slots_from ws y.kids y.count → {l l₁ l₂ : List ℕ} → l ≡ [] →
-      Listed bs ws n m (gives ws y.scope run) l l₁ →
-      Listed bs ws n m (λ h. outsiders h y.scope (local_dep_order (sym_of h c))) l₁ l₂ →
-      Listed bs ws n m (λ h _. gather_step h (list_at ws) c) [] l₂
+module _ {bs : List ℕ} {k : code.Graph} {c : ℕ} (lt : c < k.symbols) {y : Symbol} (loaded : y ≡ symbol_at k.words.now c) where
+  pub gathered : {run : List ℕ} → run ≡ slots_from k.words.now y.kids y.count → {l l₁ l₂ : List ℕ} → l ≡ [] →
+      Listed bs k (gives k.words.now y.scope run) l l₁ →
+      Listed bs k (λ h. outsiders h y.scope (local_dep_order (sym_of h c))) l₁ l₂ →
+      Listed bs k (λ h _. gather_step h (list_at k.words.now) c) [] l₂
   unfolding gather_step
   gathered r e p q =
       let both = rw e at (listed_then p q) in
       record {
         held = both.held;
         is = λ slots.
-            let g = graph_of bs ws n m slots in
+            let g = held_in k bs slots in
             let sc : y.scope ≡ (sym_of g c).scope =
-            ap (λ (z : Symbol). z.scope) loaded ∙ sym (scope_of bs ws n m slots c lt) in
-            let ks : slots_from ws y.kids y.count ≡ (sym_of g c).kids =
-            ap (λ (z : Symbol). slots_from ws z.kids z.count) loaded ∙ sym (kids_at_lem bs ws n c lt) in
+            ap (λ (z : Symbol). z.scope) loaded ∙ sym (scope_of bs k.words.now k.symbols k.scopes slots c lt) in
+            let ks : slots_from k.words.now y.kids y.count ≡ (sym_of g c).kids =
+            ap (λ (z : Symbol). slots_from k.words.now z.kids z.count) loaded ∙ sym (kids_at_lem bs k.words.now k.symbols c lt) in
             both.is slots
-            ∙ ap₂ (λ (z : ℕ) (ds : List ℕ). outsiders g z (local_dep_order (sym_of g c)) (gives ws z ds g [])) sc
+            ∙ ap₂ (λ (z : ℕ) (ds : List ℕ). outsiders g z (local_dep_order (sym_of g c)) (gives k.words.now z ds g [])) sc
             (r ∙ ks);
       }

@@ -23,7 +23,6 @@ use Rattle.scopes.proofs.Laws.{outwards}
 use Rattle.scopes.proofs.Climb.{ancestor_hit, ancestor_miss, classify_local, classify_deeper}
 use Rattle.graph.specs.Graph.{Scoped, Arena, graph_of}
 use Rattle.graph.proofs.Laws.{scope_of, kids_low}
-use Rattle.outsiders.specs.Outsiders.{Listed}
 use Rattle.free_lists.specs.FreeLists.{end_at, list_at, Lists, with_list, Filed}
 use Rattle.free_lists.proofs.Filed.{stored_past, filed, filed_gathers}
 use Rattle.free_lists.proofs.Laws.{with_past, with_room}
@@ -39,9 +38,9 @@ module _ (bs ws : List ℕ) (c m : ℕ) (arena : Arena bs ws (c + 1) m) (h : Lis
   pub files : Filed ws c
   files = filed h few (kids_low bs ws (c + 1) m arena [])
 
-  pub worked : (list : List ℕ) → Listed bs ws (c + 1) m (λ g _. gather_step g (list_at ws) c) [] list →
+  pub worked : (list : List ℕ) → list ≡ gather_step (graph bs ws c m) (list_at ws) c →
       list ≡ free_vars (graph bs ws c m) c
-  worked list l = l.is [] ∙ filed_gathers h few (kids_low bs ws (c + 1) m arena [])
+  worked list is = is ∙ filed_gathers h few (kids_low bs ws (c + 1) m arena [])
 
 -- ---- none of a symbol in the outermost scope
 

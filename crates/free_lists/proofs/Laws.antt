@@ -17,7 +17,7 @@ use Rattle.model.specs.Schedule.{free_vars}
 use Rattle.laws.specs.Frame.{Agree, Frame}
 use Rattle.laws.proofs.Frame.{frame_store, frame_then}
 use Rattle.laws.proofs.Runs.{sets_before, sets_after, sets_more}
-use Rattle.regions.specs.Regions.{WORDS, FREE_ENDS, FREE_LISTS, end}
+use Rattle.regions.specs.Regions.{FREE_ENDS, FREE_LISTS, end}
 use Rattle.symbols.specs.Words.{words_from}
 use Rattle.symbols.proofs.Words.{words_agree, words_stored}
 use Rattle.free_lists.specs.FreeLists.{entries_to, end_at, list_at, Lists, with_list}
@@ -154,7 +154,7 @@ module _ (ws : List ℕ) (c : ℕ) (xs : List ℕ) where
     with_ends : (s : ℕ) → s ≤ c → end_at (with_list ws c xs) s ≡ end_at ws s
     with_ends s le = with_other ((FREE_ENDS).first + s) (λ e. omega arith) (omega arith)
 
-    module _ (long : WORDS ≤ length ws) where
+    module _ (long : end FREE_LISTS ≤ length ws) where
       -- its end
       with_end_past : (FREE_LISTS).size < end_at ws c + length xs →
           end_at (with_list ws c xs) (suc c) ≡ suc (FREE_LISTS).size
@@ -203,13 +203,13 @@ module _ (ws l : List ℕ) (c first : ℕ) (e : first ≡ end_at ws c) where
   store_room ws' k f q few = rw (place, f, take_all k l q, e) (sym (with_room ws c l (omega arith)))
 
 -- the lists before it stay
-pub lists_kept : (g : Graph) (ws : List ℕ) (c : ℕ) (xs : List ℕ) → c < 512 → WORDS ≤ length ws → Lists g ws c →
+pub lists_kept : (g : Graph) (ws : List ℕ) (c : ℕ) (xs : List ℕ) → c < 512 → end FREE_LISTS ≤ length ws → Lists g ws c →
     Lists g (with_list ws c xs) c
 lists_kept g ws c xs few long =
     lists_same g ws (with_list ws c xs) c (with_ends ws c xs few)
     (λ k lo hi top. with_other ws c xs few k (λ e. omega arith) hi)
 
-pub lists_with : (g : Graph) (ws : List ℕ) (c : ℕ) → c < 512 → WORDS ≤ length ws → Lists g ws c →
+pub lists_with : (g : Graph) (ws : List ℕ) (c : ℕ) → c < 512 → end FREE_LISTS ≤ length ws → Lists g ws c →
     Lists g (with_list ws c (free_vars g c)) (suc c)
 unfolding entries_to
 lists_with g ws c few long h = record {

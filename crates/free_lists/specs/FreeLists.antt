@@ -9,7 +9,8 @@ use Rattle.laws.specs.Members.{Under}
 use Rattle.laws.specs.Gather.{give}
 use Rattle.regions.specs.Regions.{FREE_ENDS, FREE_LISTS}
 use Rattle.symbols.specs.Words.{words_from}
-use Rattle.graph.specs.Graph.{Arena, graph_of}
+use Rattle.graph.specs.declared.held.Graph as code
+use Rattle.graph.specs.Tests.{held_in, Over}
 
 -- ---- entries
 
@@ -37,10 +38,10 @@ pub record Lists (g : Graph) (ws : List ℕ) (n : ℕ) : Type 0 where
   pub past : (s : ℕ) → s ≤ n → (FREE_LISTS).size < entries_to g s → end_at ws s ≡ suc (FREE_LISTS).size
   pub lists : (s : ℕ) → s < n → entries_to g (suc s) ≤ (FREE_LISTS).size → list_at ws s ≡ free_vars g s
 
--- m scopes, in them n symbols, and their free lists
-pub record Stocked (bs ws : List ℕ) (n m : ℕ) : Type 0 where
-  pub arena : Arena bs ws n m
-  pub lists : Lists (graph_of bs ws n m []) ws n
+-- the symbols of a graph that is held, over a forest of bytes bs, with their free lists in its words
+pub record Stocked (bs : List ℕ) (g : code.Graph) : Type 0 where
+  pub arena : Over bs g
+  pub lists : Lists (held_in g bs []) g.words.now g.symbols
 
 -- ---- one list more
 

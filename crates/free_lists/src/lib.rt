@@ -7,15 +7,16 @@ ghost use Rattle.std.specs.Prelude.{◌≡◌, List, [], ◌∷◌, ℕ, ◌+◌
 ghost use Rattle.model.specs.Schedule.{free_vars};
 ghost use Rattle.laws.specs.Members.{Under};
 ghost use Rattle.laws.specs.Gather.{gather_step};
-ghost use Rattle.regions.specs.Regions.{FREE_ENDS, FREE_LISTS, WORDS};
-ghost use Rattle.record.specs.Record.{Laid};
+ghost use Rattle.regions.specs.Regions.{FREE_ENDS, FREE_LISTS, WORDS, end};
 ghost use Rattle.key.specs.Key.{symbol_at};
-ghost use Rattle.graph.specs.Graph.{Arena, Scoped, graph_of};
+ghost use Rattle.graph.specs.Graph.{Arena, graph_of};
+ghost use Rattle.graph.specs.Tests.{Over};
 ghost use Rattle.outsiders.specs.Outsiders.{Held, Listed};
 ghost use Rattle.free_lists.specs.FreeLists.{end_at, list_at, Lists, with_list, Filed, gives};
 
 use arrayvec::ArrayVec;
 use graph::Graph;
+use record::Forest;
 use scopes::Rel;
 
 // The entries that are stored at most.
@@ -41,7 +42,7 @@ fn end_at(work: &[u32], s: usize) -> usize
 
 // The free list of s, which is stored.
 fn list_at(work: &[u32], s: usize) -> &[u32]
-    requires in_bounds { (WORDS ≤ length work.now) × (s < 512) }
+    requires in_bounds { (end FREE_LISTS ≤ length work.now) × (s < 512) }
     requires s_bound { (end_at work.now s ≤ end_at work.now (s + 1)) × (end_at work.now (s + 1) ≤ (FREE_LISTS).size) }
     ensures { result.now ≡ list_at work.now s }
 {
@@ -53,7 +54,7 @@ fn list_at(work: &[u32], s: usize) -> &[u32]
 // The free list of s, if it is stored.
 // Rules out: the list of another symbol; an end past the last entry taken for a list's.
 pub fn stored(work: &[u32], s: usize) -> Option<&[u32]>
-    requires in_bounds { (WORDS ≤ length work.now) × (s < 512) }
+    requires in_bounds { (end FREE_LISTS ≤ length work.now) × (s < 512) }
     requires s_bound { end_at work.now (s + 1) ≤ (FREE_LISTS).size → end_at work.now s ≤ end_at work.now (s + 1) }
     ensures { MatchOption result ((FREE_LISTS).size < end_at work.now (s + 1))
         (λ list. (end_at work.now (s + 1) ≤ (FREE_LISTS).size) × (list.now ≡ list_at work.now s)) }
@@ -68,23 +69,22 @@ pub fn stored(work: &[u32], s: usize) -> Option<&[u32]>
 
 // With what symbol d gives to the free list of a body in scope `cs`, if it is one of the body.
 #[cycle(giving)]
-fn give(work: &[u32], g: Graph, cs: usize, d: usize, list: &mut ArrayVec<u16, 512>)
-    requires scoped { Scoped work.now g.symbols g.scopes }
-    requires d_lt_symbols { (d < g.symbols) × Filed work.now (d + 1) }
-    requires held { Held g.symbols list.old.items }
-    ensures { (bs : List ℕ) → Listed bs work.now g.symbols g.scopes (gives work.now cs (d ∷ [])) list.old.items
+fn give(g: &Graph, cs: usize, d: usize, list: &mut ArrayVec<u16, 512>)
+    requires d_lt_symbols { (d < g.now.symbols) × Filed g.now.words.now (d + 1) }
+    requires held { Held g.now.symbols list.old.items }
+    ensures { (bs : List ℕ) → Listed bs g.now (gives g.now.words.now cs (d ∷ [])) list.old.items
         list.new.items }
 {
-    let own = list_at(work, d);
+    let own = list_at(g.words, d);
     // an empty list gives nothing, wherever the symbol lies
-    if own.is_empty() || graph::is_arg(work, g, d) {
+    if own.is_empty() || g.is_arg(d) {
         return;
     }
-    match graph::relation(work, g, d, cs) {
+    match g.relation(d, cs) {
         Rel::Local => outsiders::add_run(own, list),
         Rel::Deeper => {
-            give_run(work, g, cs, d, own, list);
-            outsiders::offer_run(work, g, cs, own, list);
+            give_run(g, cs, d, own, list);
+            outsiders::offer_run(g, cs, own, list);
         }
         Rel::Outside => {}
     }
@@ -92,48 +92,39 @@ fn give(work: &[u32], g: Graph, cs: usize, d: usize, list: &mut ArrayVec<u16, 51
 
 // With what the symbols of a run give, all of them below `top`.
 #[cycle(giving)]
-fn give_run(
-    work: &[u32],
-    g: Graph,
-    cs: usize,
-    top: usize,
-    run: &[u32],
-    list: &mut ArrayVec<u16, 512>,
-)
-    requires scoped { Scoped work.now g.symbols g.scopes }
-    requires top_lt_symbols { (top < g.symbols) × Filed work.now top }
+fn give_run(g: &Graph, cs: usize, top: usize, run: &[u32], list: &mut ArrayVec<u16, 512>)
+    requires top_lt_symbols { (top < g.now.symbols) × Filed g.now.words.now top }
     requires below { Under top run.now }
-    requires held { Held g.symbols list.old.items }
-    ensures { (bs : List ℕ) → Listed bs work.now g.symbols g.scopes (gives work.now cs run.now) list.old.items
+    requires held { Held g.now.symbols list.old.items }
+    ensures { (bs : List ℕ) → Listed bs g.now (gives g.now.words.now cs run.now) list.old.items
         list.new.items }
 {
     for &d in run {
-        give(work, g, cs, d as usize, list);
+        give(g, cs, d as usize, list);
     }
 }
 
 // ---- a list gathered
 
 // What the children of c give, then the outsiders among them, thunks first, into an empty list.
-fn gather(forest: &[u8], work: &[u32], g: Graph, c: usize, list: &mut ArrayVec<u16, 512>)
-    requires laid { Laid forest.now }
-    requires arena { Arena forest.now work.now g.symbols g.scopes }
-    requires c_lt_symbols { (c < g.symbols) × Filed work.now c }
+fn gather(forest: &Forest, g: &Graph, c: usize, list: &mut ArrayVec<u16, 512>)
+    requires arena { Over forest.now g.now }
+    requires c_lt_symbols { (c < g.now.symbols) × Filed g.now.words.now c }
     requires empty { list.old.items ≡ [] }
-    ensures { Listed forest.now work.now g.symbols g.scopes (λ h _. gather_step h (list_at work.now) c) []
+    ensures { Listed forest.now g.now (λ h _. gather_step h (list_at g.now.words.now) c) []
         list.new.items }
 {
-    let y = key::load(work, c);
+    let y = key::load(g.words, c);
     let cs = y.scope as usize;
-    give_run(work, g, cs, c, graph::children(work, y), list);
-    outsiders::offer_kids(forest, work, g, cs, c, list);
+    give_run(g, cs, c, graph::children(g.words, y), list);
+    outsiders::offer_kids(forest, g, cs, c, list);
 }
 
 // ---- a list stored
 
 // A list stored as that of symbol c, or that there is no room for it.
 fn store(work: &mut [u32], c: usize, list: &[u16])
-    requires { (WORDS ≤ length work.old) × (c < 512) × (end_at work.old c ≤ (FREE_LISTS).size) }
+    requires { (end FREE_LISTS ≤ length work.old) × (c < 512) × (end_at work.old c ≤ (FREE_LISTS).size) }
     ensures { work.new ≡ with_list work.old c list.now }
 {
     let first = end_at(work, c);
@@ -148,8 +139,7 @@ fn store(work: &mut [u32], c: usize, list: &[u16])
 }
 
 // The free list of symbol c, the newest, worked out and stored.
-fn work_out(forest: &[u8], work: &mut [u32], c: usize, scopes: usize)
-    requires laid { Laid forest.now }
+fn work_out(forest: &Forest, work: &mut [u32], c: usize, scopes: usize)
     requires arena { Arena forest.now work.old (c + 1) scopes }
     requires lists { Lists (graph_of forest.now work.old (c + 1) scopes []) work.old c }
     requires c_bound { end_at work.old c ≤ (FREE_LISTS).size }
@@ -157,11 +147,12 @@ fn work_out(forest: &[u8], work: &mut [u32], c: usize, scopes: usize)
         (free_vars (graph_of forest.now work.old (c + 1) scopes []) c) }
 {
     let g = Graph {
+        words: work,
         symbols: c + 1,
         scopes,
     };
     let mut list = ArrayVec::new();
-    gather(forest, work, g, c, &mut list);
+    gather(forest, &g, c, &mut list);
     store(work, c, &list);
 }
 
@@ -169,8 +160,7 @@ fn work_out(forest: &[u8], work: &mut [u32], c: usize, scopes: usize)
 // children.
 // Rules out: another symbol's list; a list over one that is stored; an entry past the last; a list stored after one
 // that is not.
-pub fn keep(forest: &[u8], work: &mut [u32], c: usize, scopes: usize, scope: usize, count: usize)
-    requires laid { Laid forest.now }
+pub fn keep(forest: &Forest, work: &mut [u32], c: usize, scopes: usize, scope: usize, count: usize)
     requires arena { Arena forest.now work.old (c + 1) scopes }
     requires lists { Lists (graph_of forest.now work.old (c + 1) scopes []) work.old c }
     requires scope_value { (scope ≡ (symbol_at work.old c).scope) × (count ≡ (symbol_at work.old c).count) }

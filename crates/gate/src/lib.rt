@@ -1,6 +1,7 @@
 // Usage and the gate (gate.rs): how often a symbol is used, and whether it may be hoisted. Word s of region USES is the
 // count of symbol s, word s of region REACHED is 1 if it is reached.
 // In order: words cleared, uses noted; what is reached from the root, counted; the gate.
+// That a symbol is `Sound` stays a clause: the lister asks the gate too, and holds no graph.
 #![tactic(auto)]
 
 ghost use Rattle.std.specs.Prelude.{◌≡◌, ℕ, suc, ◌+◌, ◌*◌, ◌<◌, ◌≤◌, length};
@@ -8,12 +9,12 @@ ghost use Rattle.model.specs.Forest.{record_count};
 ghost use Rattle.model.specs.Intern.{Sym, sym_at};
 ghost use Rattle.model.specs.Gate.{is_context_property, is_internal, is_const, should_hoist};
 ghost use Rattle.regions.specs.Regions.{SLOTS, WORDS};
-ghost use Rattle.record.specs.Record.{Laid};
 ghost use Rattle.symbols.specs.Words.{words_from};
 ghost use Rattle.symbols.specs.Symbols.{key_rec, kids_at, syms_of, Sound};
 ghost use Rattle.gate.specs.Gate.{uses_at, cleared, noted, all_noted, visited, visited_down};
 ghost use Rattle.gate.specs.Gate.{Lower, Countable, Small, Notable, Reached};
 
+use record::Forest;
 use shape::{CONST, GLOBAL_OP, HEIGHT_OP, INPUTS_OP, OUTPUTS_OP, SELF_BOX_OP};
 
 fn clear(work: &mut [u32], n: usize)
@@ -111,28 +112,27 @@ fn is_internal(opcode: u8) -> bool
 
 // A projection's record has no aux.
 #[tactic(auto, using(crate::proofs::Gate::records), unfolding(model::specs::Gate::is_const))]
-fn is_const(forest: &[u8], i: usize, field: u32) -> bool
-    requires laid { Laid forest.now }
+fn is_const(forest: &Forest, i: usize, field: u32) -> bool
     requires i_bound { i < record_count forest.now }
     ensures { (y : Sym) → y.rec ≡ key_rec forest.now i field → result ≡ is_const y }
 {
-    record::shape(forest, i) == CONST && (field != 0 || record::class(record::aux(forest, i)) < 6)
+    forest.shape(i) == CONST && (field != 0 || record::class(forest.aux(i)) < 6)
 }
 
 // The gate: whether symbol s, which is used `uses` times, becomes a definition.
 // Rules out: a symbol that is used once; HEIGHT, however often it is used.
 #[tactic(auto, using(crate::proofs::Gate::loaded), unfolding(model::specs::Gate::should_hoist))]
-pub fn should_hoist(forest: &[u8], work: &[u32], s: usize, uses: u32) -> bool
-    requires laid { Laid forest.now }
+pub fn should_hoist(forest: &Forest, work: &[u32], s: usize, uses: u32) -> bool
     requires sound { Sound forest.now work.now SLOTS.size s }
     requires s_in_bounds { 5 * s + 5 ≤ length work.now }
     ensures { (n : ℕ) → s < n → result ≡ should_hoist (sym_at (syms_of forest.now work.now n) s) uses }
 {
+    // asked first, before anything is loaded: most symbols are used once
     if uses < 2 {
         return false;
     }
     let p = key::parts_of(key::load(work, s).node);
     let i = p.source as usize;
-    let opcode = record::opcode(forest, i);
+    let opcode = forest.opcode(i);
     !is_context_property(opcode) && !is_internal(opcode) && !is_const(forest, i, p.field)
 }

@@ -1,14 +1,13 @@
--- Laws of the graph in the words. In order: words in a row; a symbol's parts; its children, which are lower; slots in
+-- Laws of the graph in the words. In order: a symbol's parts; its children, which are lower; slots in
 -- use; the words that it hangs on; the tests of it.
 -- Assumes nothing.
-use Prim.Native.Nat.{ℕ, zero, suc, ◌+◌, ◌-◌, ◌*◌, ◌<◌, ◌≤◌}
+use Prim.Native.Nat.{ℕ, ◌+◌, ◌*◌, ◌<◌, ◌≤◌}
 use mathlib.Core.Path.{◌≡◌, refl, sym, ap, subst, ◌∙◌}
 use mathlib.Core.Bool.{Bool, true, false, not}
-use mathlib.Core.List.{List, ◌∷◌}
+use mathlib.Core.List.{List}
 use native.Mathlib.Omega.{arith}
 use lib.Dec.{ltb}
-use lib.ListN.{length, get_or, take, drop, get_or-eq_default}
-use lib.Seq.{drop-cons}
+use lib.ListN.{length, get_or-eq_default}
 use borrow.Author.Tests.{ltb-true, ltb-false}
 use Rattle.regions.specs.Regions.{SYMBOLS, SLOTS, SCOPES, end}
 use Rattle.model.specs.Intern.{Sym, no_sym, sym_at}
@@ -24,26 +23,15 @@ use Rattle.key.specs.Key.{symbol_at}
 use Rattle.key.proofs.Laws.{symbol_agree}
 use Rattle.symbols.specs.Symbols.{model_node, syms_of, AllSound}
 use Rattle.symbols.specs.Symbols as symbols
-use Rattle.symbols.specs.Words.{words_from}
 use Rattle.symbols.proofs.Words.{words_under}
 use Rattle.symbols.proofs.Laws.{syms_length, sym_at_lem, kids_at_lem, syms_agree, sounds_agree}
 use Rattle.scopes.specs.declared.Rel.{Rel}
 use Rattle.scopes.specs.Scopes.{Nested}
 use Rattle.scopes.specs.Relation.{rel_in, Classified}
 use Rattle.scopes.proofs.Open.{scopes_agree, nested_agree}
-use Rattle.graph.specs.Graph.{Within, Scoped, Arena, graph_of, Related, Tests, is_outsider}
-
--- ---- words in a row
-
-taken : (ws : List ℕ) (at n : ℕ) → at + n ≤ length ws → take n (drop at ws) ≡ words_from ws at n
-unfolding words_from
-taken ws at zero le = refl
-taken ws at (suc n) le =
-    let lt : at < length ws = omega arith in
-    rw (drop-cons ws at 0) (ap (λ (l : List ℕ). get_or ws at 0 ∷ l) (taken ws (suc at) n (omega arith)))
-
-pub slice_words : (ws : List ℕ) (at n : ℕ) → at + n ≤ length ws → take (at + n - at) (drop at ws) ≡ words_from ws at n
-slice_words ws at n le = let e : at + n - at ≡ n = omega arith in rw e (taken ws at n le)
+use Rattle.graph.specs.declared.held.Graph.{Graph}
+use Rattle.graph.specs.Graph.{Within, Scoped, Arena, graph_of}
+use Rattle.graph.specs.Tests.{Related, Tests, is_outsider}
 
 -- ---- a symbol's parts
 
@@ -103,7 +91,7 @@ module _ {ws ws' : List ℕ} {used n m : ℕ} (still : Still ws ws' used n m) wh
   scoped_agree : Scoped ws n m → Scoped ws' n m
   scoped_agree h = record {
     few = h.few;
-    words = omega (arith, still.long, h.words);
+    long = omega (arith, still.long, h.long);
     some_scope = h.some_scope;
     few_scopes = h.few_scopes;
     nested = nested_agree ws ws' m h.some_scope still.scopes h.nested;
@@ -141,40 +129,41 @@ nested_part ws k m le h = record {
   level = λ j p l. h.level j p (omega arith);
 }
 
-module _ (ws : List ℕ) (n m s : ℕ) (y : Symbol) (loaded : y ≡ symbol_at ws s) (lt : s < n) where
+module _ (g : Graph) (s : ℕ) (y : Symbol) (loaded : y ≡ symbol_at g.words.now s) (lt : s < g.symbols) where
   node_tests : (a : Bool) → ((bs : List ℕ) → a ≡ is_arg (model_node bs y.node)) →
-      Tests ws n m (λ h. is_arg (sym_of h s).node) a
+      Tests g (λ h. is_arg (sym_of h s).node) a
   node_tests a h bs slots =
-      h bs ∙ sym (ap is_arg (node_of_lem bs ws n m slots s lt ∙ ap (λ (z : Symbol). model_node bs z.node) (sym loaded)))
+      h bs
+      ∙ sym (ap is_arg (node_of_lem bs g.words.now g.symbols g.scopes slots s lt
+      ∙ ap (λ (z : Symbol). model_node bs z.node) (sym loaded)))
 
-  pub arg_in : (l : Leaf) → y.node ≡ Arg l → Tests ws n m (λ h. is_arg (sym_of h s).node) true
+  pub arg_in : (l : Leaf) → y.node ≡ Arg l → Tests g (λ h. is_arg (sym_of h s).node) true
   arg_in l e = node_tests true (λ bs. rw e)
 
-  pub arg_not_in : ((l : Leaf) → y.node ≡ Arg l → ⊥) → Tests ws n m (λ h. is_arg (sym_of h s).node) false
+  pub arg_not_in : ((l : Leaf) → y.node ≡ Arg l → ⊥) → Tests g (λ h. is_arg (sym_of h s).node) false
   arg_not_in other = node_tests false (λ bs. other_node bs y.node other)
 
-  module _ (scoped : Scoped ws n m) where
-    scope_low : y.scope < m
-    scope_low = subst (λ (z : Symbol). z.scope < m) (sym loaded) (scoped.placed s lt)
+  scope_low : y.scope < g.scopes
+  scope_low = subst (λ (z : Symbol). z.scope < g.scopes) (sym loaded) (g.scoped.placed s lt)
 
-    pub scope_inside : SCOPES.first + y.scope < length ws
-    scope_inside = omega (arith, scope_low, scoped.words, scoped.few_scopes)
+  pub scope_inside : SCOPES.first + y.scope < length g.words.now
+  scope_inside = omega (arith, scope_low, g.scoped.long, g.scoped.few_scopes)
 
-    pub scope_nested : Nested ws (y.scope + 1)
-    scope_nested = nested_part ws (y.scope + 1) m (omega (arith, scope_low)) scoped.nested
+  pub scope_nested : Nested g.words.now (y.scope + 1)
+  scope_nested = nested_part g.words.now (y.scope + 1) g.scopes (omega (arith, scope_low)) g.scoped.nested
 
-    pub relation_is : (cur : ℕ) (r : Rel) → Classified ws y.scope cur r → Related ws n m s cur r
-    unfolding rel_of
-    relation_is cur r h bs slots =
-        let g = graph_of bs ws n m slots in
-        let e : (sym_of g s).scope ≡ y.scope =
-        scope_of bs ws n m slots s lt ∙ ap (λ (z : Symbol). z.scope) (sym loaded) in
-        rw e (h g m scope_low refl)
+  pub relation_is : (cur : ℕ) (r : Rel) → Classified g.words.now y.scope cur r → Related g s cur r
+  unfolding rel_of
+  relation_is cur r h bs slots =
+      let k = graph_of bs g.words.now g.symbols g.scopes slots in
+      let e : (sym_of k s).scope ≡ y.scope =
+      scope_of bs g.words.now g.symbols g.scopes slots s lt ∙ ap (λ (z : Symbol). z.scope) (sym loaded) in
+      rw e (h k g.scopes scope_low refl)
 
-module _ (ws : List ℕ) (n m cs d : ℕ) (a : Bool) (arg : Tests ws n m (λ h. is_arg (sym_of h d).node) a) where
-  pub outsider_arg : a ≡ true → Tests ws n m (is_outsider cs d) (not a)
+module _ (g : Graph) (cs d : ℕ) (a : Bool) (arg : Tests g (λ h. is_arg (sym_of h d).node) a) where
+  pub outsider_arg : a ≡ true → Tests g (is_outsider cs d) (not a)
   outsider_arg e bs slots = rw (e, sym (arg bs slots) ∙ e)
 
-  pub outsider_rel : a ≡ false → (r : Rel) → Related ws n m d cs r → (b : Bool) → b ≡ is_outside (rel_in r) →
-      Tests ws n m (is_outsider cs d) b
+  pub outsider_rel : a ≡ false → (r : Rel) → Related g d cs r → (b : Bool) → b ≡ is_outside (rel_in r) →
+      Tests g (is_outsider cs d) b
   outsider_rel e r h b f bs slots = rw (sym (arg bs slots) ∙ e) (f ∙ ap is_outside (h bs slots))

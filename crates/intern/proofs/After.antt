@@ -6,7 +6,7 @@ use mathlib.Core.Path.{◌≡◌, refl, sym, ap, ◌∙◌}
 use mathlib.Core.Bool.{Bool, true, false, ◌&&◌, ◌||◌}
 use mathlib.Core.List.{List, [], ◌∷◌, ◌++◌, append_assoc, append-nil}
 use native.Mathlib.Omega.{arith}
-use Rattle.std.specs.Prelude.{Result, Ok, Err, IsOk, IsErr, is_err}
+use Rattle.std.specs.Prelude.{Result, Ok, Err, IsOk}
 use borrow.Author.Tests.{eqb-true, eqb-false}
 use lib.Dec.{eqb}
 use lib.ListN.{length}
@@ -19,30 +19,18 @@ use Rattle.symbols.specs.Words.{pending_from}
 use Rattle.tables.specs.declared.Tables.{Tables}
 use Rattle.interner.specs.State.{abs_of}
 use Rattle.interner.specs.Step.{refusal_of, outcome_of}
-use Rattle.concluding.specs.declared.Branches.{Branches}
-use Rattle.concluding.specs.declared.Branches.TheVariants.{Zero, One, Two}
-use Rattle.concluding.specs.Concluding.{branches_of, Branched}
+use Rattle.key.specs.declared.Branches.{Branches}
+use Rattle.key.specs.declared.Branches.TheVariants.{Zero, One, Two}
+use Rattle.key.specs.Key.{branches_of}
+use Rattle.concluding.specs.Concluding.{Branched}
 use Rattle.standing.proofs.Next.{thunked-not}
-use Rattle.intern.specs.declared.Kids.{Kids}
+use Rattle.intern.specs.Steps.{KidsStep}
 use Rattle.intern.specs.Steps.{one_more, noted}
 use Rattle.intern.specs.Intern.{kids_answer, kids_of}
 
 -- ---- an answer taken apart
 
--- a refusal, named
-pub err_of : (o : Result Unit Refusal) → IsErr o → (x : Refusal) × (o ≡ Err x)
-err_of (Ok u) e = cc
-err_of (Err x) e = (x, refl)
-
--- where a test found none, there is none
-pub ok_of : (o : Result Unit Refusal) {b : Bool} → b ≡ is_err o → b ≡ false → IsOk o
-ok_of o told e = go o (sym told ∙ e)
-  where
-    go : (z : Result Unit Refusal) → is_err z ≡ false → IsOk z
-    go (Ok u) e = refl
-    go (Err x) e = cc
-
-module _ (bs ws : List ℕ) (t : Tables) (held count : ℕ) (k : Kids) where
+module _ (bs ws : List ℕ) (t : Tables) (held count : ℕ) (k : KidsStep) where
   pub kids_good : IsOk k.outcome → kids_of bs ws t held count k ≡ kids_answer bs ws t held count k
   unfolding kids_of
   kids_good e = go k.outcome e

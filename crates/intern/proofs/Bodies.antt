@@ -152,16 +152,10 @@ module _ {bs ws : List ℕ} {t : Tables} {st : State} {i : ℕ} {at : Here} (h :
       gives : args_made bs i at.scope (abs_of bs ws t st) ≡ good (range s n, [], abs_of bs ws₁ t made.st)
       gives = sym made_is ∙ outs_good bs ws₁ t n made ok
 
-      first_is : (s ≡ st.symbols) × (made.st.symbols ≡ st.symbols + n)
-      first_is = IfOk-at_ok (λ (s : ℕ). (s ≡ st.symbols) × (made.st.symbols ≡ st.symbols + n)) ok b.first
-
       args_at : Every (AtLevel ws₁ made.st.symbols (level_of (scope_word ws at.scope) + 1)) (range s n)
       args_at =
           IfOk-at_ok (λ (s : ℕ).
           Every (AtLevel ws₁ made.st.symbols (level_of (scope_word ws at.scope) + 1)) (range s n)) ok b.args
-
-      pub enter_few : s + n ≤ 512
-      enter_few = let f = first_is in omega (arith, f.0, f.1, b.rep.arena.scoped.few)
 
       args_few : n ≤ 15
       args_few = omega (arith, en, fitting.1)
@@ -183,7 +177,7 @@ module _ {bs ws : List ℕ} {t : Tables} {st : State} {i : ℕ} {at : Here} (h :
 
       pub enter_room : (WORDS ≤ length ws₁) × (at.scope < made.st.scopes) × (made.st.scopes ≤ 2048) × (n ≤ 15)
           × (level_of (scope_word ws₁ at.scope) < 63)
-      enter_room = (b.rep.arena.scoped.words, scope_low, scopes_few, args_few, level_low)
+      enter_room = (b.rep.words, scope_low, scopes_few, args_few, level_low)
 
       -- ---- the body opened
 
@@ -198,7 +192,7 @@ module _ {bs ws : List ℕ} {t : Tables} {st : State} {i : ℕ} {at : Here} (h :
         pub enter_bind : (at.top + 15 ≤ 1200) × (WORDS ≤ length ws₂) × (first ≤ 512)
         enter_bind = (
           omega (arith, h.stands.top, deep, h.there, records_few bs h.sound),
-          omega (arith, opens.long, b.rep.arena.scoped.words),
+          omega (arith, opens.long, b.rep.words),
           omega arith,
         )
 

@@ -6,7 +6,7 @@ use Prim.Native.Nat.{ℕ, ◌+◌, ◌<◌, ◌≤◌}
 use mathlib.Core.Path.{◌≡◌, refl, sym, ap, ◌∙◌, subst}
 use mathlib.Core.Bool.{Bool, true, false}
 use mathlib.Core.Logic.{inl, inr}
-use Rattle.std.specs.Prelude.{Some}
+use Rattle.std.specs.Prelude.{Some, Result, Ok, Err}
 use mathlib.Core.List.{List}
 use native.Mathlib.Omega.{arith}
 use borrow.Author.Tests.{eqb-true, eqb-false, ne_eqb, lt-ltb, le-ltb}
@@ -14,7 +14,7 @@ use lib.Dec.{eqb}
 use lib.ListN.{length}
 use Rattle.model.specs.Answer.{refused, good, ◌>>=◌, guard}
 use Rattle.model.specs.Shape.{shapes, agrees}
-use Rattle.model.specs.Tree.{Rec, Tree, nil, take_t, drop_t, size, sizes, depth}
+use Rattle.model.specs.Tree.{Rec, Tree, nil, take_t, drop_t, size, sizes}
 use Rattle.model.specs.Forest.{record_count}
 use Rattle.model.specs.Binding.{Kind, kind, val_use, val_def, block, lambda, field, other, is_block, id_of, args_of}
 use Rattle.model.specs.Intern.{Out, Outs, Env, resolve, finish, func, with_opts, alloc_args, bind_args, open_scope, read}
@@ -22,10 +22,11 @@ use Rattle.model.specs.Intern.{thunked, intern_field, intern_func, intern_kind, 
 use Rattle.model.specs.Intern as intern
 use Rattle.laws.proofs.Members.{clash}
 use Rattle.refusal.specs.declared.Check.TheVariants.{Readings}
+use Rattle.refusal.specs.declared.Refusal.{Refusal}
 use Rattle.record.specs.Record.{row_at}
 use Rattle.shape.proofs.Fitting.{fitting}
 use Rattle.walk.specs.Walk.{trees_from, rec_at, kid_trees_at, rest_at, tree_at, WellFormed}
-use Rattle.walk.proofs.Bridge.{row_fits, records_few}
+use Rattle.walk.proofs.Bridge.{row_fits}
 use Rattle.bindings.specs.Bindings.{env_of}
 use Rattle.tables.specs.declared.Tables.{Tables}
 use Rattle.interner.specs.declared.State.{State}
@@ -35,17 +36,16 @@ use Rattle.interner.specs.Step.{out_of, given}
 use Rattle.interner.proofs.Sharing.{out_good}
 use Rattle.opening.specs.Opening.{with_reading}
 use Rattle.opening.proofs.Counts.{reading_abs, reading_rep}
-use Rattle.concluding.specs.Concluding.{Uses}
 use Rattle.theory.proofs.Acceptance.Records.{kind_shape, op_field, block_eager}
 use Rattle.standing.proofs.Enter.{no_args, kids_well}
 use Rattle.intern.specs.declared.Here.{Here}
-use Rattle.intern.specs.declared.Read.{Read}
-use Rattle.intern.specs.declared.Kids.{Kids}
+use Rattle.intern.specs.Steps.{ReadStep}
+use Rattle.intern.specs.Steps.{KidsStep}
 use Rattle.intern.specs.declared.Selected.{Selected}
 use Rattle.intern.specs.declared.Selected.TheVariants.{Done, Children}
 use Rattle.intern.specs.Steps.{refused_read}
 use Rattle.intern.specs.Words.{Kept}
-use Rattle.intern.specs.Intern.{StandsAt, Past, Reads, LegibleAt, CountedAt, kids_read, concluded, RecordRead}
+use Rattle.intern.specs.Intern.{StandsAt, Past, Reads, LegibleAt, kids_read, concluded, RecordRead}
 use Rattle.intern.specs.Intern.{LambdaRead, Incomplete, ReadsOn, SelectedRead, Plain}
 use Rattle.intern.proofs.Kept.{kept_none}
 use Rattle.intern.proofs.Bodies.{lambda_kind}
@@ -141,6 +141,16 @@ module _ (bs : List ℕ) (i cur : ℕ) (env : Env) (s : intern.State) where
         intern u i cur env s ≡ concluded i cur (rec_at bs i) (kids_read bs i cur env (read s))
     intern_other a b c = intern_kind_lem refl ∙ kind_other i cur (rec_at bs i) env (kids_read bs i) (read s) a b c
 
+-- ---- where ways meet
+
+pub reads_on_met : (bs ws : List ℕ) (t : Tables) (st : State) (i : ℕ) (at : Here) (o : Out) {ws₁ ws₂ : List ℕ}
+    {last₁ last₂ : State} {s₁ s₂ : Selected} → ws₂ ≡ ws₁ → last₂ ≡ last₁ → s₂ ≡ s₁ →
+    ReadsOn bs ws t st i at o ws₁ last₁ (Ok s₁) → ReadsOn bs ws t st i at o ws₂ last₂ (Ok s₂)
+reads_on_met bs ws t st i at o {ws₁} {ws₂} {last₁} {last₂} {s₁} {s₂} a b c v =
+    subst (λ (z : List ℕ). ReadsOn bs ws t st i at o z last₂ (Ok s₂)) (sym a)
+    (subst (λ (z : State). ReadsOn bs ws t st i at o ws₁ z (Ok s₂)) (sym b)
+    (subst (λ (z : Selected). ReadsOn bs ws t st i at o ws₁ last₁ (Ok z)) (sym c) v))
+
 -- ---- a block has no thunks
 
 block_plain : (r : Rec) → agrees r ≡ true → Plain r.opcode (is_block r)
@@ -154,7 +164,7 @@ block_plain r h j e = go (is_block r) refl
 
 -- no reading is left
 pub record_full : {bs ws : List ℕ} {t : Tables} {st : State} {i : ℕ} {at : Here} → StandsAt bs ws t st i at →
-    {r : Read} → st.readings ≡ 2048 → r ≡ refused_read st (record { check = Readings; place = i }) i →
+    {r : ReadStep} → st.readings ≡ 2048 → r ≡ refused_read st (record { check = Readings; place = i }) →
     RecordRead bs ws t st i at ws r
 record_full {bs} {ws} {t} {st} {i} {at} stands e f =
     rw f (reads_refused (kept_none at ws st) stands.rep stands.opened (record { check = Readings; place = i })
@@ -207,9 +217,6 @@ module _ {bs ws : List ℕ} {t : Tables} {st : State} {i : ℕ} {at : Here} {cou
   counted_abs : abs_of bs ws t counted ≡ read (abs_of bs ws t st)
   counted_abs = ap (abs_of bs ws t) h.is ∙ reading_abs bs ws t st
 
-  pub counted_well : CountedAt bs ws t counted i at
-  counted_well = record { before = abs_of bs ws t st; legible = h.legible; few = h.few; is = counted_abs }
-
   pub counted_parent : ((rec_at bs i).shape ≡ 12 → ⊥) → Parent bs ws t counted i at
   counted_parent n = record {
     sound = h.sound;
@@ -232,7 +239,7 @@ module _ {bs ws : List ℕ} {t : Tables} {st : State} {i : ℕ} {at : Here} {cou
       subst (λ (z : State). Kept at ws ws' z last → Kept at ws ws' st last) (sym h.is)
       (λ k. record { words = k.words; scopes = k.scopes })
 
-  counted_reads : {o : Out} {ws' : List ℕ} {r : Read} → whole ≡ o → Reads bs ws t counted i at o ws' r →
+  counted_reads : {o : Out} {ws' : List ℕ} {r : ReadStep} → whole ≡ o → Reads bs ws t counted i at o ws' r →
       RecordRead bs ws t st i at ws' r
   counted_reads e v = record {
     rep = v.rep;
@@ -242,33 +249,35 @@ module _ {bs ws : List ℕ} {t : Tables} {st : State} {i : ℕ} {at : Here} {cou
     kept = counted_kept v.kept;
   }
 
-  pub record_lambda : (rec_at bs i).shape ≡ 12 → {ws' : List ℕ} {r : Read} → LambdaRead bs ws t counted i at ws' r →
+  pub record_lambda : (rec_at bs i).shape ≡ 12 → {ws' : List ℕ} {r : ReadStep} → LambdaRead bs ws t counted i at ws' r →
       RecordRead bs ws t st i at ws' r
   record_lambda e =
       counted_reads
       (intern_lambda bs i at.scope env₀ (abs_of bs ws t st) h.few e
       ∙ ap (intern_func i at.scope (rec_at bs i) env₀ (kids_read bs i)) (sym counted_abs))
 
-  counted_incomplete : {o : Out} {ws' : List ℕ} {k : Kids} → whole ≡ o → Incomplete bs ws t counted i at o ws' k →
+  counted_incomplete : {o : Out} {ws' : List ℕ} {k : KidsStep} → whole ≡ o → Incomplete bs ws t counted i at o ws' k →
       Incomplete bs ws t st i at whole ws' k
   counted_incomplete e u = record { ready = u.ready; is = u.is ∙ sym e; kept = counted_kept u.kept }
 
   -- a SelectField, and any other record: it is done, or still to be completed
-  pub record_field : (rec_at bs i).shape ≡ 17 → (ws' : List ℕ) (s : Selected) → SelectedRead bs ws t counted i at ws' s →
-      ReadsOn bs ws t st i at whole ws' s
-  record_field e ws' s = go s
+  pub record_field : (rec_at bs i).shape ≡ 17 → (ws' : List ℕ) (last : State) (s : Result Selected Refusal) →
+      SelectedRead bs ws t counted i at ws' last s → ReadsOn bs ws t st i at whole ws' last s
+  record_field e ws' last s = go s
     where
       is_field : whole ≡ intern_kind field i at.scope (rec_at bs i) env₀ (kids_read bs i) (abs_of bs ws t counted)
       is_field =
           intern_field_lem bs i at.scope env₀ (abs_of bs ws t st) h.few e
           ∙ ap (intern_kind field i at.scope (rec_at bs i) env₀ (kids_read bs i)) (sym counted_abs)
 
-      go : (s : Selected) → SelectedRead bs ws t counted i at ws' s → ReadsOn bs ws t st i at whole ws' s
-      go (Done r) v = counted_reads is_field v
-      go (Children k) v = counted_incomplete is_field v
+      go : (s : Result Selected Refusal) → SelectedRead bs ws t counted i at ws' last s →
+          ReadsOn bs ws t st i at whole ws' last s
+      go (Ok (Done r)) v = counted_reads is_field v
+      go (Ok (Children k)) v = counted_incomplete is_field v
+      go (Err x) v = counted_reads is_field v
 
   pub record_other : ((rec_at bs i).shape ≡ 7 → ⊥) → ((rec_at bs i).shape ≡ 12 → ⊥) →
-      ((rec_at bs i).shape ≡ 17 → ⊥) → (ws' : List ℕ) (k : Kids) →
+      ((rec_at bs i).shape ≡ 17 → ⊥) → (ws' : List ℕ) (k : KidsStep) →
       Incomplete bs ws t counted i at
       (concluded i at.scope (rec_at bs i) (kids_read bs i at.scope env₀ (abs_of bs ws t counted))) ws' k →
       Incomplete bs ws t st i at whole ws' k
@@ -279,15 +288,6 @@ module _ {bs ws : List ℕ} {t : Tables} {st : State} {i : ℕ} {at : Here} {cou
       (sym counted_abs))
 
   -- a use
-  pub record_uses : (rec_at bs i).shape ≡ 7 → Uses bs ws i at.top
-  unfolding depth
-  record_uses e = record {
-    from = h.there;
-    shape = e;
-    few = omega (arith, h.stands.top, h.there, records_few bs h.sound);
-    words = h.stands.rep.arena.scoped.words;
-  }
-
   use_kids : (rec_at bs i).shape ≡ 7 → (row_at bs i).kids ≡ 0
   unfolding shapes
   use_kids e =

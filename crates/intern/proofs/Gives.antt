@@ -4,7 +4,7 @@
 use Prim.Native.Nat.{ℕ, ◌+◌, ◌<◌, ◌≤◌}
 use mathlib.Core.Path.{◌≡◌, refl, sym, ap, ◌∙◌}
 use mathlib.Core.Bool.{Bool, true, false}
-use Rattle.std.specs.Prelude.{Err, IsOk, IsErr}
+use Rattle.std.specs.Prelude.{Err, IsOk}
 use mathlib.Core.List.{List}
 use native.Mathlib.Omega.{arith}
 use lib.ListN.{get_or}
@@ -30,15 +30,15 @@ use Rattle.interner.specs.Step.{refusal_of, Answers}
 use Rattle.concluding.specs.Concluding.{reads_again, Selects, Input}
 use Rattle.concluding.proofs.Selecting.{selects_input, field_again}
 use Rattle.intern.specs.declared.Here.{Here}
-use Rattle.intern.specs.declared.Read.{Read}
-use Rattle.intern.specs.declared.Kids.{Kids}
+use Rattle.intern.specs.Steps.{ReadStep}
+use Rattle.intern.specs.Steps.{KidsStep}
 use Rattle.intern.specs.Steps.{refused_read, unread, repeats, repeated}
 use Rattle.intern.specs.Intern.{StandsAt, Reads, kids_read, concluded, WellKids, Plain, Operands, ReadsAll}
 use Rattle.intern.specs.Intern.{kids_answer, kids_of, Concluding, Concluded, Completable, completes, Completed}
 use Rattle.intern.specs.Intern.{Incomplete}
 use Rattle.intern.proofs.Kept.{kept_none, kept_then}
 use Rattle.intern.proofs.Records.{reads_refused, reads_answers, concluded_other, concluded_refused, Below, Gave}
-use Rattle.intern.proofs.After.{err_of, kids_good, kids_refused}
+use Rattle.intern.proofs.After.{kids_good, kids_refused}
 use Rattle.intern.proofs.Records.{Parent, stands_below, stands_later, kids_operands, all_is, kids_fail}
 use Rattle.intern.proofs.Records.{kids_gave}
 use Rattle.intern.proofs.Reading.{loop_none}
@@ -47,8 +47,8 @@ use Rattle.intern.proofs.Cases.{field_refused, field_good}
 
 -- ---- a record completed
 
-module _ {bs ws : List ℕ} {t : Tables} {i : ℕ} {at : Here} {k : Kids} (ready : Completable bs ws t i at k) where
-  pub complete_refused : {z : Read} {x : Refusal} → z ≡ refused_read k.st x i → k.outcome ≡ Err x →
+module _ {bs ws : List ℕ} {t : Tables} {i : ℕ} {at : Here} {k : KidsStep} (ready : Completable bs ws t i at k) where
+  pub complete_refused : {z : ReadStep} {x : Refusal} → z ≡ refused_read k.st x → k.outcome ≡ Err x →
       Completed bs ws t i at k ws z
   complete_refused {x = x} e h =
       rw e (reads_refused (kept_none at ws k.st) ready.rep ready.opened x
@@ -64,7 +64,7 @@ module _ {bs ws : List ℕ} {t : Tables} {i : ℕ} {at : Here} {k : Kids} (ready
 
 -- its answer is the record's
 pub incomplete_reads : {bs ws : List ℕ} {t : Tables} {st : State} {i : ℕ} {at : Here} {o : Out} {ws₁ : List ℕ}
-    {k : Kids} → Incomplete bs ws t st i at o ws₁ k → {ws₂ : List ℕ} {z : Read} → Completed bs ws₁ t i at k ws₂ z →
+    {k : KidsStep} → Incomplete bs ws t st i at o ws₁ k → {ws₂ : List ℕ} {z : ReadStep} → Completed bs ws₁ t i at k ws₂ z →
     Reads bs ws t st i at o ws₂ z
 incomplete_reads u w = record {
   rep = w.rep;
@@ -73,6 +73,12 @@ incomplete_reads u w = record {
   past = w.past;
   kept = kept_then (omega arith) (omega arith) u.kept w.kept;
 }
+
+-- its children are refused, and so is the record
+pub incomplete_refused : {bs ws : List ℕ} {t : Tables} {st : State} {i : ℕ} {at : Here} {o : Out} {ws₁ : List ℕ}
+    {k : KidsStep} {x : Refusal} → Incomplete bs ws t st i at o ws₁ k → k.outcome ≡ Err x →
+    Reads bs ws t st i at o ws₁ (refused_read k.st x)
+incomplete_refused u n = incomplete_reads u (complete_refused u.ready refl n)
 
 -- ---- a record's children read
 
@@ -84,7 +90,7 @@ module _ {bs ws : List ℕ} {t : Tables} {st : State} {i : ℕ} {at : Here} (h :
     pub children-operands : Plain (rec_at bs i).opcode (is_block (rec_at bs i)) → Operands bs ws t st (i + 1) n op at
     children-operands = kids_operands h.sound h.there below h.well en eo
 
-    module _ {ws₁ : List ℕ} {k : Kids} (v : ReadsAll bs ws t st (i + 1) n op at ws₁ k) where
+    module _ {ws₁ : List ℕ} {k : KidsStep} (v : ReadsAll bs ws t st (i + 1) n op at ws₁ k) where
       gave : IsOk k.outcome → Gave bs ws t st i at (is_block (rec_at bs i)) n ws₁ k
       gave = kids_gave h.sound h.there below h.well en eo v
 
@@ -117,7 +123,7 @@ module _ {bs ws : List ℕ} {t : Tables} {st : State} {i : ℕ} {at : Here} (h :
 
   -- a record with no children
   pub children_none : {n : ℕ} → n ≡ (row_at bs i).kids → Plain (rec_at bs i).opcode (is_block (rec_at bs i)) → n ≡ 0 →
-      {k : Kids} → k ≡ unread st (i + 1) →
+      {k : KidsStep} → k ≡ unread st (i + 1) →
       Incomplete bs ws t st i at
       (concluded i at.scope (rec_at bs i) (kids_read bs i at.scope (env_of ws at.top) (abs_of bs ws t st))) ws k
   children_none en plain none is =
@@ -157,7 +163,7 @@ module _ {bs ws : List ℕ} {t : Tables} {st : State} {i : ℕ} {at : Here} (h :
     pub field_operands : Operands bs ws t st (i + 1) 1 op at
     field_operands = children-operands h.parent field_one eo field_plain
 
-    module _ {ws₁ : List ℕ} {k : Kids} (v : ReadsAll bs ws t st (i + 1) 1 op at ws₁ k) where
+    module _ {ws₁ : List ℕ} {k : KidsStep} (v : ReadsAll bs ws t st (i + 1) 1 op at ws₁ k) where
       abbrev field_out : Out
       field_out = intern_kind field i at.scope r env (kids_read bs i) (abs_of bs ws t st)
 
@@ -174,8 +180,8 @@ module _ {bs ws : List ℕ} {t : Tables} {st : State} {i : ℕ} {at : Here} (h :
             kept = u.kept;
           }
 
-      pub field_fails : IsErr k.outcome → Incomplete bs ws t st i at field_out ws₁ k
-      field_fails e = let x = err_of k.outcome e in field_refuses x.1
+      pub field_fails : {x : Refusal} → k.outcome ≡ Err x → Reads bs ws t st i at field_out ws₁ (refused_read k.st x)
+      field_fails n = incomplete_refused (field_refuses n) n
 
       module _ (ok : IsOk k.outcome) where
         gave₁ : Gave bs ws t st i at (is_block r) 1 ws₁ k
@@ -281,11 +287,11 @@ module _ {bs ws : List ℕ} {t : Tables} {st : State} {i : ℕ} {at : Here} (h :
               kept = record { words = v.kept.words; scopes = v.kept.scopes };
             }
 
-            pub recount_done : repeats st k.st ≡ true → {z : Kids} → z ≡ repeated st k →
+            pub recount_done : repeats st k.st ≡ true → {z : KidsStep} → z ≡ repeated st k →
                 Incomplete bs ws t st i at field_out ws₁ z
             recount_done calm is = rw is (recount_incomplete calm)
 
-            pub again_done : {ws₂ : List ℕ} {k₂ : Kids} → ReadsAll bs ws₁ t k.st (i + 1) 1 op at ws₂ k₂ →
+            pub again_done : {ws₂ : List ℕ} {k₂ : KidsStep} → ReadsAll bs ws₁ t k.st (i + 1) 1 op at ws₂ k₂ →
                 Incomplete bs ws t st i at field_out ws₂ k₂
             again_done v₂ =
                 let u = children-read again_parent field_one eo v₂ in

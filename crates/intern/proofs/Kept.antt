@@ -153,7 +153,7 @@ module _ {bs ws : List ℕ} {t : Tables} {st : State} {i held top symbol : ℕ} 
   stored_at : get_or ws' (PENDING.first + held) 0 ≡ symbol
   stored_at =
       d.kept.before (PENDING.first + held) (omega arith)
-      ∙ get_or-set_same ws (PENDING.first + held) symbol 0 (omega (arith, rep.arena.scoped.words))
+      ∙ get_or-set_same ws (PENDING.first + held) symbol 0 (omega (arith, rep.words))
 
   stored_pending : (from j : ℕ) → from + j ≡ held →
       pending_from ws' from (suc j) ≡ pending_from ws from j ++ (symbol ∷ [])

@@ -32,9 +32,9 @@ use Rattle.concluding.specs.Concluding.{Concludes}
 use Rattle.standing.specs.Standing.{WellAll}
 use Rattle.standing.proofs.Enter.{lambda_well}
 use Rattle.intern.specs.declared.Here.{Here}
-use Rattle.intern.specs.declared.Read.{Read}
-use Rattle.intern.specs.declared.Kids.{Kids}
-use Rattle.intern.specs.declared.Entered.{Entered}
+use Rattle.intern.specs.Steps.{ReadStep}
+use Rattle.intern.specs.Steps.{KidsStep}
+use Rattle.intern.specs.Steps.{Entered}
 use Rattle.intern.specs.declared.Inside.{Inside}
 use Rattle.intern.specs.Steps.{refused_read}
 use Rattle.intern.specs.Words.{Kept}
@@ -57,7 +57,7 @@ module _ {bs ws : List ℕ} {t : Tables} {st : State} {i : ℕ} {at : Here} (h :
   out = intern_func i at.scope r env (kids_read bs i) (abs_of bs ws t st)
 
   -- the arguments are refused
-  pub lambda_unmade : {z : Read} {x : Refusal} → z ≡ refused_read e.st x i → e.inside ≡ Err x →
+  pub lambda_unmade : {z : ReadStep} {x : Refusal} → z ≡ refused_read e.st x → e.inside ≡ Err x →
       Reads bs ws t st i at out ws₁ z
   lambda_unmade {x = x} f n =
       rw f (reads_refused enters.kept enters.rep enters.opened x
@@ -108,7 +108,7 @@ module _ {bs ws : List ℕ} {t : Tables} {st : State} {i : ℕ} {at : Here} (h :
       pub lambda_operands : Operands bs ws₁ t e.st (i + 1) 1 op d.at
       lambda_operands = kids_operands h.sound h.there below well lambda_one eo (λ j z. refl)
 
-      module _ {ws₂ : List ℕ} {k : Kids} (v : ReadsAll bs ws₁ t e.st (i + 1) 1 op d.at ws₂ k) where
+      module _ {ws₂ : List ℕ} {k : KidsStep} (v : ReadsAll bs ws₁ t e.st (i + 1) 1 op d.at ws₂ k) where
         kept₂ : Kept at ws ws₂ st k.st
         kept₂ = kept_then (omega (arith, body.held)) body.more enters.kept v.kept
 
@@ -117,7 +117,7 @@ module _ {bs ws : List ℕ} {t : Tables} {st : State} {i : ℕ} {at : Here} (h :
         kids_same = cc (body.scope, body.env, body.abs)
 
         -- the body is refused
-        pub lambda_refused : {z : Read} {x : Refusal} → z ≡ refused_read k.st x i → k.outcome ≡ Err x →
+        pub lambda_refused : {z : ReadStep} {x : Refusal} → z ≡ refused_read k.st x → k.outcome ≡ Err x →
             Reads bs ws t st i at out ws₂ z
         lambda_refused {x = x} f n =
             rw f (reads_refused kept₂ v.rep v.opened x

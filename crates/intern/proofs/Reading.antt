@@ -31,13 +31,13 @@ use Rattle.interner.specs.State.{abs_of}
 use Rattle.interner.specs.Step.{out_of}
 use Rattle.interner.proofs.Sharing.{out_good, out_refused}
 use Rattle.opening.proofs.Counts.{scopes_count}
-use Rattle.concluding.specs.Concluding.{branches_of}
+use Rattle.key.specs.Key.{branches_of}
 use Rattle.standing.specs.Standing.{WellAll}
 use Rattle.standing.proofs.Enter.{child_plain, child_thunk}
 use Rattle.standing.proofs.Next.{next_well}
 use Rattle.intern.specs.declared.Here.{Here}
-use Rattle.intern.specs.declared.Read.{Read}
-use Rattle.intern.specs.declared.Kids.{Kids}
+use Rattle.intern.specs.Steps.{ReadStep}
+use Rattle.intern.specs.Steps.{KidsStep}
 use Rattle.intern.specs.Steps.{child_at, noted, unread, with_child, failed}
 use Rattle.intern.specs.Words.{Kept}
 use Rattle.intern.specs.Intern.{Stands, StandsAt, Past, Reads, LegibleAt, InThunk, trees, Operands}
@@ -52,7 +52,7 @@ use Rattle.intern.proofs.After.{thunk_few}
 -- ---- the start: no child is read
 
 module _ {bs : List ℕ} {t : Tables} {i count op : ℕ} {at : Here} {ws₀ : List ℕ} {st : State} (sound : WellFormed bs)
-    (h : Operands bs ws₀ t st i count op at) {k₀ : Kids} (e : k₀ ≡ unread st i)
+    (h : Operands bs ws₀ t st i count op at) {k₀ : KidsStep} (e : k₀ ≡ unread st i)
   where
     pub loop_start : Reading bs t i count op at ws₀ k₀.st ws₀ k₀ at.top 0
     unfolding words_from
@@ -87,7 +87,7 @@ module _ {bs : List ℕ} {t : Tables} {i count op : ℕ} {at : Here} {ws₀ : Li
 
 -- ---- a loop that is under way
 
-module _ {bs : List ℕ} {t : Tables} {i count op : ℕ} {at : Here} {ws₀ : List ℕ} {st₀ : State} {ws : List ℕ} {k : Kids}
+module _ {bs : List ℕ} {t : Tables} {i count op : ℕ} {at : Here} {ws₀ : List ℕ} {st₀ : State} {ws : List ℕ} {k : KidsStep}
     {top j : ℕ} (g : Reading bs t i count op at ws₀ st₀ ws k top j) where
   abbrev h₀ : Operands bs ws₀ t st₀ i count op at
   h₀ = g.first
@@ -212,7 +212,7 @@ module _ {bs : List ℕ} {t : Tables} {i count op : ℕ} {at : Here} {ws₀ : Li
         ≡ intern_all (trees bs i count) op 0 i at.scope (env_of ws₀ at.top) (abs_of bs ws₀ t st₀)
     left_whole = rw left_is at h.is
 
-    module _ {thunk : Bool} (et : thunk ≡ thunked op j) {ws₁ : List ℕ} {r : Read} {c : Here}
+    module _ {thunk : Bool} (et : thunk ≡ thunked op j) {ws₁ : List ℕ} {r : ReadStep} {c : Here}
         (ec : c ≡ child_at at j top)
         (v₀ : Reads bs ws t k.st k.next c
         (intern_scoped thunk c.scope (λ c' s. intern u k.next c' (env_of ws c.top) s) (abs_of bs ws t k.st))
@@ -232,19 +232,19 @@ module _ {bs : List ℕ} {t : Tables} {i count op : ℕ} {at : Here} {ws₀ : Li
 
         -- ---- a child that is refused
 
-        pub reading_refused : {z : Kids} {x : Refusal} → z ≡ failed k r x → r.step.symbol ≡ Err x →
+        pub reading_refused : {z : KidsStep} {x : Refusal} → z ≡ failed r.step.st x → r.step.symbol ≡ Err x →
             ReadsAll bs ws₀ t st₀ i count op at ws₁ z
         reading_refused {x = x} e n = rw e (record {
           rep = v.rep;
           opened = v.opened;
           is =
-              kids_refused bs ws₁ t at.held count (failed k r x) refl
+              kids_refused bs ws₁ t at.held count (failed r.step.st x) refl
               ∙ sym (after_refused _ _ op j k.next at.scope (env_of ws top) (abs_of bs ws t k.st) u us
               (number_of x.check) x.place (scoped_is ∙ out_refused bs ws₁ t r.step n))
               ∙ left_whole;
           past = λ z. cc;
           pending = λ z. cc;
-          branched = h.branched;
+          branched = tt;
           kept = child_kept;
         })
 
@@ -315,7 +315,7 @@ module _ {bs : List ℕ} {t : Tables} {i count op : ℕ} {at : Here} {ws₀ : Li
             step₂ : Kept (child_at at j top) ws₁ ws₂ st₁ st₁
             step₂ = record { words = after₁.words st₁.scopes v.rep.arena.scoped.few_scopes; scopes = omega arith }
 
-            pub reading_turn : {z : Kids} → z ≡ with_child k thunk r →
+            pub reading_turn : {z : KidsStep} → z ≡ with_child k thunk r →
                 Reading bs t i count op at ws₀ st₀ ws₂ z top' (j + 1)
             reading_turn e = rw e (record {
               sound = g.sound;
@@ -353,9 +353,9 @@ module _ {bs : List ℕ} {t : Tables} {i count op : ℕ} {at : Here} {ws₀ : Li
 -- ---- from its first state
 
 module _ {bs : List ℕ} {t : Tables} {i count op : ℕ} {at : Here} {ws₀ : List ℕ} {st : State} (sound : WellFormed bs)
-    (h : Operands bs ws₀ t st i count op at) {k₀ : Kids} (e : k₀ ≡ unread st i)
+    (h : Operands bs ws₀ t st i count op at) {k₀ : KidsStep} (e : k₀ ≡ unread st i)
   where
-    pub loop_reads : {ws' : List ℕ} {k : Kids} → ReadsAll bs ws₀ t k₀.st i count op at ws' k →
+    pub loop_reads : {ws' : List ℕ} {k : KidsStep} → ReadsAll bs ws₀ t k₀.st i count op at ws' k →
         ReadsAll bs ws₀ t st i count op at ws' k
     loop_reads v = rw e at v
 

@@ -38,16 +38,17 @@ use Rattle.tables.proofs.Stack.{open_later}
 use Rattle.interner.specs.declared.State.{State}
 use Rattle.interner.specs.declared.Step.{Step}
 use Rattle.interner.specs.State.{abs_of, Rep}
-use Rattle.interner.specs.Step.{refusal_of, given, Answers}
+use Rattle.interner.specs.Step.{refusal_of, given, step_of, Answers}
 use Rattle.interner.proofs.Sharing.{out_refused, given_answers}
 use Rattle.opening.proofs.Counts.{symbols-count}
-use Rattle.concluding.specs.Concluding.{branches_of, Concludes}
+use Rattle.key.specs.Key.{branches_of}
+use Rattle.concluding.specs.Concluding.{Concludes}
 use Rattle.concluding.proofs.Children.{last_low}
 use Rattle.standing.specs.Standing.{WellAll, AllRead}
 use Rattle.standing.proofs.Forced.{union_forced}
 use Rattle.standing.proofs.Next.{all_results, again_well}
 use Rattle.intern.specs.declared.Here.{Here}
-use Rattle.intern.specs.declared.Kids.{Kids}
+use Rattle.intern.specs.Steps.{KidsStep}
 use Rattle.intern.specs.Steps.{refused_read}
 use Rattle.intern.specs.Words.{Kept}
 use Rattle.intern.specs.Intern.{Stands, StandsAt, Past, Reads, kids_read, concluded, WellKids, trees, Plain}
@@ -59,12 +60,12 @@ use Rattle.intern.proofs.After.{kids_good, kids_refused}
 
 module _ {bs ws ws₁ : List ℕ} {t : Tables} {st st₁ : State} {i : ℕ} {at : Here} {o : Out} (kept : Kept at ws ws₁ st st₁)
     (rep : Rep bs ws₁ st₁) (open' : Open t st₁.entries) where
-  pub reads_refused : (x : Refusal) {next : ℕ} → o ≡ refusal_of x →
-      Reads bs ws t st i at o ws₁ (refused_read st₁ x next)
-  reads_refused x {next} e = record {
+  pub reads_refused : (x : Refusal) → o ≡ refusal_of x →
+      Reads bs ws t st i at o ws₁ (refused_read st₁ x)
+  reads_refused x e = record {
     rep = rep;
     opened = open';
-    is = out_refused bs ws₁ t (refused_read st₁ x next).step refl ∙ sym e;
+    is = out_refused bs ws₁ t (refused_read st₁ x).step refl ∙ sym e;
     past = λ z. cc;
     kept = kept;
   }
@@ -79,6 +80,12 @@ module _ {bs ws ws₁ : List ℕ} {t : Tables} {st st₁ : State} {i : ℕ} {at 
     past = λ z. p;
     kept = kept_then (omega arith) (omega arith) kept (leaves_kept at rep.arena.scoped.few_scopes a.leaves);
   }
+
+-- the record after a refusal says nothing
+pub reads_err : {bs ws ws' : List ℕ} {t : Tables} {st last : State} {i next : ℕ} {at : Here} {o : Out} {x : Refusal} →
+    Reads bs ws t st i at o ws' (record { step = step_of last (Err x); next = next }) →
+    Reads bs ws t st i at o ws' (refused_read last x)
+reads_err v = record { rep = v.rep; opened = v.opened; is = v.is; past = λ z. cc; kept = v.kept }
 
 -- ---- definitions and blocks, and any other record
 
@@ -108,13 +115,13 @@ pub ends_shape : (s : ℕ) → 10 ≤ s → s < 12 → (s ≡ 10) ⊎ (s ≡ 11)
 ends_shape s low high = elim (dec_lt s 11) [ yes p ↦ inl (omega arith) | no p ↦ inr (omega arith) ]
 
 -- a record that may be concluded, with n children
-pub record Concludable (bs ws : List ℕ) (i : ℕ) (at : Here) (k : Kids) (n : ℕ) : Type 0 where
+pub record Concludable (bs ws : List ℕ) (i : ℕ) (at : Here) (k : KidsStep) (n : ℕ) : Type 0 where
   pub sound : WellFormed bs
   pub rep : Rep bs ws k.st
   pub concludes : Concluding bs ws i at k
   pub count : n ≡ (row_at bs i).kids
 
-module _ {bs ws : List ℕ} {i : ℕ} {at : Here} {k : Kids} {n : ℕ} (h : Concludable bs ws i at k n) where
+module _ {bs ws : List ℕ} {i : ℕ} {at : Here} {k : KidsStep} {n : ℕ} (h : Concludable bs ws i at k n) where
   -- a definition or a block has a last child
   last_some : ((rec_at bs i).shape ≡ 10) ⊎ ((rec_at bs i).shape ≡ 11) → 1 ≤ (row_at bs i).kids
   last_some (inl e) = omega (arith, (fits_def (row_at bs i) (row_fits bs i h.sound.fit h.concludes.from) e).0)
@@ -125,7 +132,7 @@ module _ {bs ws : List ℕ} {i : ℕ} {at : Here} {k : Kids} {n : ℕ} (h : Conc
   last_asks e = (
     omega (arith, h.count, last_some e),
     omega (arith, h.count, h.concludes.pending),
-    h.rep.arena.scoped.words,
+    h.rep.words,
   )
 
   module _ (t : Tables) where
@@ -208,7 +215,7 @@ stands_later {at} h rep open' kept = record {
 
 -- the children of record i were read: what they gave, where the next record is, and what their symbols are
 pub record Gave (bs ws : List ℕ) (t : Tables) (st : State) (i : ℕ) (at : Here) (b : Bool) (n : ℕ) (ws₁ : List ℕ)
-    (k : Kids) : Type 0
+    (k : KidsStep) : Type 0
   where
     pub is : kids_read bs i at.scope (env_of ws at.top) (abs_of bs ws t st) ≡ kids_answer bs ws₁ t at.held n k
     pub past : Past bs i (size (tree_at bs i)) (rest_at bs i) k.next
@@ -246,7 +253,7 @@ module _ {bs ws : List ℕ} {t : Tables} {st : State} {i : ℕ} {at : Here} {b :
       }
 
   -- what is known once they are
-  module _ {ws₁ : List ℕ} {k : Kids} (v : ReadsAll bs ws t st (i + 1) n op at ws₁ k) where
+  module _ {ws₁ : List ℕ} {k : KidsStep} (v : ReadsAll bs ws t st (i + 1) n op at ws₁ k) where
     pub all_is : kids_of bs ws₁ t at.held n k ≡ kids_read bs i at.scope env A
     all_is = v.is ∙ rw (trees_are, eo, add-one i)
 

@@ -15,17 +15,18 @@ use Rattle.tables.specs.declared.Tables.{Tables}
 use Rattle.tables.specs.Tables.{Open}
 use Rattle.interner.specs.declared.State.{State}
 use Rattle.interner.specs.State.{abs_of, Rep}
-use Rattle.concluding.specs.Concluding.{branches_of, Branched}
+use Rattle.key.specs.Key.{branches_of}
+use Rattle.concluding.specs.Concluding.{Branched}
 use Rattle.standing.specs.Standing.{WellAll}
 use Rattle.intern.specs.declared.Here.{Here}
-use Rattle.intern.specs.declared.Kids.{Kids}
+use Rattle.intern.specs.Steps.{KidsStep}
 use Rattle.intern.specs.Words.{Kept}
 use Rattle.intern.specs.Intern.{trees, Plain, Operands}
 use Rattle.intern.proofs.After.{after, Thunks, thunk_count}
 
 -- of `count` operands from record i on, j are read and `left` are left, from record k .next on
 pub record Remains (bs : List ℕ) (t : Tables) (i count op : ℕ) (at : Here) (ws₀ : List ℕ) (st₀ : State) (ws : List ℕ)
-    (k : Kids) (top j left : ℕ) : Type 0 where
+    (k : KidsStep) (top j left : ℕ) : Type 0 where
   pub sum : j + left ≡ count
   pub rep : Rep bs ws k.st
   pub opened : Open t k.st.entries
@@ -52,7 +53,7 @@ pub record Remains (bs : List ℕ) (t : Tables) (i count op : ℕ) (at : Here) (
 
 -- the loop's invariant, with what was asked
 pub record Reading (bs : List ℕ) (t : Tables) (i count op : ℕ) (at : Here) (ws₀ : List ℕ) (st₀ : State) (ws : List ℕ)
-    (k : Kids) (top j : ℕ) : Type 0 where
+    (k : KidsStep) (top j : ℕ) : Type 0 where
   pub sound : WellFormed bs
   pub first : Operands bs ws₀ t st₀ i count op at
   pub left : ℕ

@@ -19,7 +19,7 @@ use Rattle.opening.proofs.Counts.{scopes_count, readings_rep}
 use Rattle.standing.specs.Standing.{WellAll}
 use Rattle.standing.proofs.Next.{again_more, again_same}
 use Rattle.intern.specs.declared.Here.{Here}
-use Rattle.intern.specs.declared.Kids.{Kids}
+use Rattle.intern.specs.Steps.{KidsStep}
 use Rattle.intern.specs.Steps.{repeats, repeated}
 use Rattle.intern.specs.Intern.{kids_read, kids_answer}
 use Rattle.intern.proofs.Records.{Gave}
@@ -39,7 +39,7 @@ module _ (before after : State) (e : repeats before after ≡ true) where
 
 -- ---- children read again
 
-module _ {bs ws : List ℕ} {t : Tables} {st : State} {i : ℕ} {at : Here} {b : Bool} {n : ℕ} {ws₁ : List ℕ} {k : Kids}
+module _ {bs ws : List ℕ} {t : Tables} {st : State} {i : ℕ} {at : Here} {b : Bool} {n : ℕ} {ws₁ : List ℕ} {k : KidsStep}
     (well : WellAll (kid_trees_at bs i) b (rec_at bs i).opcode 0 at.scope (env_of ws at.top) (abs_of bs ws t st) 1)
     (gave : Gave bs ws t st i at b n ws₁ k) (e : repeats st k.st ≡ true) where
   no_scope : length (abs_of bs ws₁ t k.st).scopes ≡ length (abs_of bs ws t st).scopes

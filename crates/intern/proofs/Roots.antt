@@ -28,7 +28,8 @@ use Rattle.refusal.specs.declared.Refusal.{Refusal}
 use Rattle.walk.specs.Walk.{WellFormed}
 use Rattle.walk.proofs.Bridge.{tree_count_lem}
 use Rattle.walk.proofs.Walking.{trees_there, trees-whole}
-use Rattle.codec.proofs.Accepting.{Passed, accept-passed}
+use Rattle.codec.specs.Accepted.{Passes}
+use Rattle.codec.proofs.Accepting.{passes_accepts}
 use Rattle.symbols.specs.Words.{pending_from}
 use Rattle.scopes.specs.Scopes.{scope_word, level_of}
 use Rattle.bindings.specs.Bindings.{env_of}
@@ -43,7 +44,7 @@ use Rattle.opening.proofs.Counts.{symbols-count}
 use Rattle.standing.proofs.Enter.{forest_well}
 use Rattle.standing.proofs.Next.{last_result}
 use Rattle.intern.specs.declared.Here.{Here}
-use Rattle.intern.specs.declared.Kids.{Kids}
+use Rattle.intern.specs.Steps.{KidsStep}
 use Rattle.intern.specs.Words.{INTERNING}
 use Rattle.intern.specs.Intern.{trees, Operands, ReadsAll, Interned}
 use Rattle.intern.proofs.Kept.{in_interning}
@@ -73,29 +74,23 @@ forest_flat bs e = omega (arith, trees_flat (trees_of bs) 1 (omega arith) (first
 
 -- ---- before its trees are read
 
-module _ (bs : List ℕ) (accepted : accept bs ≡ good (trees_of bs)) where
-  passed : Passed bs (trees_of bs)
-  passed = accept-passed bs (trees_of bs) accepted
-
-  pub forest_sound : WellFormed bs
-  forest_sound = passed.shaped.sound
-
-  pub forest_header : 4 ≤ length bs
-  forest_header = (header_of bs forest_sound.laid.header).least
-
 abbrev origin : Here
 origin = record { scope = 0; held = 0; top = 0 }
 
 -- an accepted forest of so many trees, with nothing read yet
 pub record Begun (bs ws ws₁ : List ℕ) (t : Tables) (st : State) (count : ℕ) : Type 0 where
-  pub accepted : accept bs ≡ good (trees_of bs)
+  pub sound : WellFormed bs
+  pub passes : Passes bs
   pub started : Started ws ws₁ st
   pub counted : count ≡ tree_count bs
   pub tables : t ≡ new_tables
 
 module _ {bs ws ws₁ : List ℕ} {t : Tables} {st : State} {count : ℕ} (h : Begun bs ws ws₁ t st count) where
+  accepted : accept bs ≡ good (trees_of bs)
+  accepted = passes_accepts bs h.sound h.passes
+
   whole : trees bs 0 count ≡ trees_of bs
-  whole = trees-whole bs count (forest_sound bs h.accepted) h.counted
+  whole = trees-whole bs count h.sound h.counted
 
   rep : Rep bs ws₁ st
   rep = h.started.rep bs
@@ -105,14 +100,14 @@ module _ {bs ws ws₁ : List ℕ} {t : Tables} {st : State} {count : ℕ} (h : B
   no_ids = refl
 
   shallow : depths (trees bs 0 count) ≤ 64
-  shallow = rw whole (forest_flat bs (passed bs h.accepted).shallow)
+  shallow = rw whole (forest_flat bs h.passes.shallow)
 
   outermost : level_of (scope_word ws₁ 0) ≡ 0
   outermost = ap level_of rep.arena.scoped.nested.outermost
 
   operands₁ : Operands bs ws₁ new_tables st 0 count 0 origin
   operands₁ = record {
-    there = trees_there bs count (forest_sound bs h.accepted) h.counted;
+    there = trees_there bs count h.sound h.counted;
     within = omega arith;
     stands = record {
       rep = rep;
@@ -127,7 +122,7 @@ module _ {bs ws ws₁ : List ℕ} {t : Tables} {st : State} {count : ℕ} (h : B
     block = false;
     plain = λ j e. refl;
     paid = 0;
-    well = rw (h.started.is bs, no_ids, whole) (forest_well bs (trees_of bs) h.accepted);
+    well = rw (h.started.is bs, no_ids, whole) (forest_well bs (trees_of bs) accepted);
   }
 
   pub forest_operands : Operands bs ws₁ t st 0 count 0 origin
@@ -135,7 +130,7 @@ module _ {bs ws ws₁ : List ℕ} {t : Tables} {st : State} {count : ℕ} (h : B
 
   -- ---- after
 
-  module _ {ws₂ : List ℕ} {k : Kids} (v₀ : ReadsAll bs ws₁ t st 0 count 0 origin ws₂ k) where
+  module _ {ws₂ : List ℕ} {k : KidsStep} (v₀ : ReadsAll bs ws₁ t st 0 count 0 origin ws₂ k) where
     v : ReadsAll bs ws₁ new_tables st 0 count 0 origin ws₂ k
     v = rw h.tables at v₀
 
@@ -146,7 +141,7 @@ module _ {bs ws ws₁ : List ℕ} {t : Tables} {st : State} {count : ℕ} (h : B
 
     interned_is : (m : Outs) → intern_forest (trees_of bs) ≡ m → interned bs ≡ intern_last m
     unfolding interned ◌>>=◌
-    interned_is m e = rw (h.accepted, e)
+    interned_is m e = rw (accepted, e)
 
     frame₂ : Frame INTERNING.first (end INTERNING) ws ws₂
     frame₂ =
@@ -168,9 +163,9 @@ module _ {bs ws ws₁ : List ℕ} {t : Tables} {st : State} {count : ℕ} (h : B
     module _ (ok : IsOk k.outcome) where
       pub forest_last : (0 < count) × (0 + count ≤ PENDING.size) × (WORDS ≤ length ws₂)
       forest_last = (
-        omega (arith, h.counted, (header_of bs (forest_sound bs h.accepted).laid.header).trees_least),
+        omega (arith, h.counted, (header_of bs h.sound.laid.header).trees_least),
         v.pending ok,
-        v.rep.arena.scoped.words,
+        v.rep.words,
       )
 
       root_low : last (pending_from ws₂ 0 count) < k.st.symbols
@@ -178,8 +173,8 @@ module _ {bs ws ws₁ : List ℕ} {t : Tables} {st : State} {count : ℕ} (h : B
           let one : 1 ≤ many (trees bs 0 count) = omega (
             arith,
             ap many whole,
-            tree_count_lem bs (forest_sound bs h.accepted).closed,
-            (header_of bs (forest_sound bs h.accepted).laid.header).trees_least,
+            tree_count_lem bs h.sound.closed,
+            (header_of bs h.sound.laid.header).trees_least,
           ) in
           omega (
             arith,

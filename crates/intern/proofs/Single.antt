@@ -24,12 +24,12 @@ use Rattle.tables.specs.declared.Tables.{Tables}
 use Rattle.interner.specs.declared.State.{State}
 use Rattle.interner.specs.State.{abs_of}
 use Rattle.interner.specs.Step.{outcome_of, out_of}
-use Rattle.concluding.specs.Concluding.{branches_of}
+use Rattle.key.specs.Key.{branches_of}
 use Rattle.theory.proofs.Acceptance.Checked.{nil-checked, plain_join}
 use Rattle.standing.specs.Standing.{Well, WellAll}
 use Rattle.intern.specs.declared.Here.{Here}
-use Rattle.intern.specs.declared.Read.{Read}
-use Rattle.intern.specs.declared.Kids.{Kids}
+use Rattle.intern.specs.Steps.{ReadStep}
+use Rattle.intern.specs.Steps.{KidsStep}
 use Rattle.intern.specs.Intern.{Stands, Past, RecordRead, kids_of, trees, Operands, ReadsAll}
 use Rattle.intern.proofs.After.{none_thunked}
 
@@ -56,13 +56,13 @@ one_well {u} w = record {
 }
 
 -- what the one operand gives
-abbrev pub one_read : List ℕ → ℕ → Kids → Read
+abbrev pub one_read : List ℕ → ℕ → KidsStep → ReadStep
 one_read ws held k = record {
   step = record { st = k.st; symbol = result_and k.outcome (Ok (get_or ws (PENDING.first + held) 0)) };
   next = k.next;
 }
 
-one_out : (bs ws : List ℕ) (t : Tables) (held : ℕ) (k : Kids) →
+one_out : (bs ws : List ℕ) (t : Tables) (held : ℕ) (k : KidsStep) →
     out_of bs ws t (one_read ws held k).step ≡ intern_last (kids_of bs ws t held 1 k)
 unfolding out_of kids_of intern_last ◌>>=◌ words_from last
 one_out bs ws t held k = go k.outcome
@@ -105,7 +105,7 @@ module _ (bs ws : List ℕ) (t : Tables) (st : State) (i : ℕ) (at : Here) (lt 
     well = rw one_tree (one_well w);
   }
 
-  module _ (ws' : List ℕ) (k : Kids) (v : ReadsAll bs ws t st i 1 0 at ws' k) where
+  module _ (ws' : List ℕ) (k : KidsStep) (v : ReadsAll bs ws t st i 1 0 at ws' k) where
     one_past : IsOk k.outcome → Past bs i (size u) (rest_at bs i) k.next
     unfolding sizes drop_t
     one_past ok =

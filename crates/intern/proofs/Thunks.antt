@@ -31,8 +31,8 @@ use Rattle.opening.proofs.Counts.{scopes_count}
 use Rattle.opening.proofs.Scopes.{scope_frame}
 use Rattle.opening.proofs.Thunks.{thunk_level, thunk_abs, thunk_rep, closed_abs, closed_rep}
 use Rattle.intern.specs.declared.Here.{Here}
-use Rattle.intern.specs.declared.Read.{Read}
-use Rattle.intern.specs.declared.Kids.{Kids}
+use Rattle.intern.specs.Steps.{ReadStep}
+use Rattle.intern.specs.Steps.{KidsStep}
 use Rattle.intern.specs.Steps.{closed_read}
 use Rattle.intern.specs.Words.{Words}
 use Rattle.intern.specs.Intern.{Stands, Reads, RecordRead, InThunk, ThunkRead, Operands, ReadsAll}
@@ -44,7 +44,7 @@ use Rattle.intern.proofs.Single.{one-operands, one_read, one_reads}
 abbrev closing : Out → Out
 closing o = o >>= (λ (z : ℕ × intern.State). good (z.0, close_thunk z.1))
 
-out_closed : (bs ws : List ℕ) (t : Tables) (top : ℕ) (r : Read) → Open t top → length t < 64 →
+out_closed : (bs ws : List ℕ) (t : Tables) (top : ℕ) (r : ReadStep) → Open t top → length t < 64 →
     out_of bs ws t (closed_read r (thunk_closed r.step.st top)).step ≡ closing (out_of bs ws (opened t top) r.step)
 unfolding out_of ◌>>=◌
 out_closed bs ws t top r is room = go r.step.symbol
@@ -61,7 +61,7 @@ abbrev child_out : List ℕ → List ℕ → Tables → State → ℕ → Bool �
 child_out bs ws t st i thunk at =
     intern_scoped thunk at.scope (λ c s. intern (tree_at bs i) i c (env_of ws at.top) s) (abs_of bs ws t st)
 
-module _ {bs ws : List ℕ} {t : Tables} {st : State} {i : ℕ} {thunk : Bool} {at : Here} {ws' : List ℕ} {r : Read} where
+module _ {bs ws : List ℕ} {t : Tables} {st : State} {i : ℕ} {thunk : Bool} {at : Here} {ws' : List ℕ} {r : ReadStep} where
   pub child_plainly : thunk ≡ false → RecordRead bs ws t st i at ws' r →
       Reads bs ws t st i at (child_out bs ws t st i thunk at) ws' r
   unfolding intern_scoped
@@ -85,7 +85,7 @@ module _ {bs ws : List ℕ} {t : Tables} {st : State} {i : ℕ} {at : Here} (lt 
   pub thunk_room : (WORDS ≤ length ws) × (at.scope < st.scopes) × (st.scopes ≤ 2048) × (length t < 64)
       × (st.entries ≤ 512)
   thunk_room = (
-    h.stands.rep.arena.scoped.words,
+    h.stands.rep.words,
     h.stands.scope,
     h.few,
     tables_room,
@@ -147,8 +147,8 @@ module _ {bs ws : List ℕ} {t : Tables} {st : State} {i : ℕ} {at : Here} (lt 
 
     -- ---- what the child gives
 
-    module _ {ws₂ : List ℕ} {k : Kids} (all : ReadsAll bs ws₁ inner inside i 1 0 own ws₂ k) where
-      abbrev r : Read
+    module _ {ws₂ : List ℕ} {k : KidsStep} (all : ReadsAll bs ws₁ inner inside i 1 0 own ws₂ k) where
+      abbrev r : ReadStep
       r = one_read ws₂ at.held k
 
       v : RecordRead bs ws₁ inner inside i own ws₂ r

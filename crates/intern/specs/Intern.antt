@@ -3,7 +3,7 @@
 -- a lambda's body; a forest.
 -- Assumes nothing.
 use Rattle.std.specs.Prelude.{ℕ, suc, ◌+◌, ◌-◌, ◌*◌, ◌<◌, ◌≤◌, ◌≡◌, Bool, true, false, List, [], eqb, length, Some}
-use Rattle.std.specs.Prelude.{IsOk, IfOk, MatchResult}
+use Rattle.std.specs.Prelude.{Result, Ok, Err, IsOk, IfOk, MatchResult}
 use Rattle.regions.specs.Regions.{PENDING, end}
 use Rattle.model.specs.Answer.{good}
 use Rattle.model.specs.Tree.{Rec, Tree, Trees, many, take_t, drop_t, size, sizes, depth, depths}
@@ -15,6 +15,7 @@ use Rattle.model.specs.Intern as intern
 use Rattle.model.specs.Call.{interned}
 use Rattle.laws.specs.Range.{range}
 use Rattle.laws.specs.Frame.{Frame}
+use Rattle.refusal.specs.declared.Refusal.{Refusal}
 use Rattle.record.specs.Record.{row_at}
 use Rattle.walk.specs.Walk.{trees_from, rec_at, kid_trees_at, rest_at, tree_at}
 use Rattle.symbols.specs.Words.{pending_from}
@@ -26,15 +27,14 @@ use Rattle.interner.specs.declared.State.{State}
 use Rattle.interner.specs.declared.Step.{Step}
 use Rattle.interner.specs.State.{abs_of, Rep}
 use Rattle.interner.specs.Step.{refusal_of, outcome_of, out_of, BodyOf, Answers}
-use Rattle.concluding.specs.Concluding.{branches_of, Concludes, Branched}
+use Rattle.key.specs.Key.{branches_of}
+use Rattle.concluding.specs.Concluding.{Concludes, Branched}
 use Rattle.standing.specs.Standing.{Well, WellAll}
 use Rattle.intern.specs.declared.Here.{Here}
-use Rattle.intern.specs.declared.Read.{Read}
-use Rattle.intern.specs.declared.Kids.{Kids}
+use Rattle.intern.specs.Steps.{ReadStep, KidsStep, Entered, read_of, kids_done, refused_read}
 use Rattle.intern.specs.declared.Selected.{Selected}
 use Rattle.intern.specs.declared.Selected.TheVariants.{Done, Children}
 use Rattle.intern.specs.declared.Inside.{Inside}
-use Rattle.intern.specs.declared.Entered.{Entered}
 use Rattle.intern.specs.Words.{INTERNING, Kept}
 
 -- ---- where a record is read
@@ -62,7 +62,7 @@ abbrev pub Past : List ℕ → ℕ → ℕ → Trees → ℕ → Type 0
 Past bs i n rest j = (j ≡ i + n) × (trees_from bs j ≡ rest)
 
 -- record i's subtree is read at `at`, and o is the answer
-pub record Reads (bs ws : List ℕ) (t : Tables) (st : State) (i : ℕ) (at : Here) (o : Out) (ws' : List ℕ) (r : Read)
+pub record Reads (bs ws : List ℕ) (t : Tables) (st : State) (i : ℕ) (at : Here) (o : Out) (ws' : List ℕ) (r : ReadStep)
     : Type 0 where
   pub rep : Rep bs ws' r.step.st
   pub opened : Open t r.step.st.entries
@@ -109,11 +109,11 @@ WellKids bs ws t st i at =
     (abs_of bs ws t st) 1
 
 -- record i is read, whatever it is; as a lambda
-abbrev pub RecordRead : List ℕ → List ℕ → Tables → State → ℕ → Here → List ℕ → Read → Type 0
+abbrev pub RecordRead : List ℕ → List ℕ → Tables → State → ℕ → Here → List ℕ → ReadStep → Type 0
 RecordRead bs ws t st i at ws' r =
     Reads bs ws t st i at (intern.intern (tree_at bs i) i at.scope (env_of ws at.top) (abs_of bs ws t st)) ws' r
 
-abbrev pub LambdaRead : List ℕ → List ℕ → Tables → State → ℕ → Here → List ℕ → Read → Type 0
+abbrev pub LambdaRead : List ℕ → List ℕ → Tables → State → ℕ → Here → List ℕ → ReadStep → Type 0
 LambdaRead bs ws t st i at ws' r =
     Reads bs ws t st i at
     (intern_func i at.scope (rec_at bs i) (env_of ws at.top) (kids_read bs i) (abs_of bs ws t st)) ws' r
@@ -121,25 +121,25 @@ LambdaRead bs ws t st i at ws' r =
 -- ---- a record whose children are read
 
 -- `count` symbols pending from `held` on, the scopes of their thunks, and the state after them
-abbrev pub kids_answer : List ℕ → List ℕ → Tables → ℕ → ℕ → Kids → Outs
+abbrev pub kids_answer : List ℕ → List ℕ → Tables → ℕ → ℕ → KidsStep → Outs
 kids_answer bs ws t held count k = good (pending_from ws held count, branches_of k.branches, abs_of bs ws t k.st)
 
 -- or a refusal
-unfoldable pub kids_of : List ℕ → List ℕ → Tables → ℕ → ℕ → Kids → Outs
+unfoldable pub kids_of : List ℕ → List ℕ → Tables → ℕ → ℕ → KidsStep → Outs
 kids_of bs ws t held count k =
     outcome_of (λ _. (pending_from ws held count, branches_of k.branches, abs_of bs ws t k.st)) k.outcome
 
 -- record i can be concluded, and is
-abbrev pub Concluding : List ℕ → List ℕ → ℕ → Here → Kids → Type 0
+abbrev pub Concluding : List ℕ → List ℕ → ℕ → Here → KidsStep → Type 0
 Concluding bs ws i at k = Concludes bs ws k.st i at.scope at.scope at.held (row_at bs i).kids
 
-abbrev pub Concluded : List ℕ → List ℕ → Tables → ℕ → Here → Kids → List ℕ → Step → Type 0
+abbrev pub Concluded : List ℕ → List ℕ → Tables → ℕ → Here → KidsStep → List ℕ → Step → Type 0
 Concluded bs ws t i at k ws' r =
     Answers bs ws t k.st
     (concluded i at.scope (rec_at bs i) (kids_answer bs ws t at.held (row_at bs i).kids k)) ws' r
 
 -- record i's children are read, or refused, and it can be completed
-pub record Completable (bs ws : List ℕ) (t : Tables) (i : ℕ) (at : Here) (k : Kids) : Type 0 where
+pub record Completable (bs ws : List ℕ) (t : Tables) (i : ℕ) (at : Here) (k : KidsStep) : Type 0 where
   pub rep : Rep bs ws k.st
   pub opened : Open t k.st.entries
   pub branched : Branched k.branches
@@ -147,30 +147,31 @@ pub record Completable (bs ws : List ℕ) (t : Tables) (i : ℕ) (at : Here) (k 
   pub past : IsOk k.outcome → Past bs i (size (tree_at bs i)) (rest_at bs i) k.next
 
 -- the answer for it, and it is completed
-abbrev pub completes : List ℕ → List ℕ → Tables → ℕ → Here → Kids → Out
+abbrev pub completes : List ℕ → List ℕ → Tables → ℕ → Here → KidsStep → Out
 completes bs ws t i at k = concluded i at.scope (rec_at bs i) (kids_of bs ws t at.held (row_at bs i).kids k)
 
-abbrev pub Completed : List ℕ → List ℕ → Tables → ℕ → Here → Kids → List ℕ → Read → Type 0
+abbrev pub Completed : List ℕ → List ℕ → Tables → ℕ → Here → KidsStep → List ℕ → ReadStep → Type 0
 Completed bs ws t i at k ws' r = Reads bs ws t k.st i at (completes bs ws t i at k) ws' r
 
 -- record i, of which o is the answer, is still to be completed
-pub record Incomplete (bs ws : List ℕ) (t : Tables) (st : State) (i : ℕ) (at : Here) (o : Out) (ws' : List ℕ) (k : Kids)
+pub record Incomplete (bs ws : List ℕ) (t : Tables) (st : State) (i : ℕ) (at : Here) (o : Out) (ws' : List ℕ) (k : KidsStep)
     : Type 0
   where
     pub ready : Completable bs ws' t i at k
     pub is : completes bs ws' t i at k ≡ o
     pub kept : Kept at ws ws' st k.st
 
--- record i is done, or still to be completed
-abbrev pub ReadsOn : List ℕ → List ℕ → Tables → State → ℕ → Here → Out → List ℕ → Selected → Type 0
-ReadsOn bs ws t st i at o ws' (Done r) = Reads bs ws t st i at o ws' r
-ReadsOn bs ws t st i at o ws' (Children k) = Incomplete bs ws t st i at o ws' k
+-- record i is done, or still to be completed; or it is refused
+abbrev pub ReadsOn : List ℕ → List ℕ → Tables → State → ℕ → Here → Out → List ℕ → State → Result Selected Refusal → Type 0
+ReadsOn bs ws t st i at o ws' st' (Ok (Done r)) = Reads bs ws t st i at o ws' (read_of st' (Ok r))
+ReadsOn bs ws t st i at o ws' st' (Ok (Children k)) = Incomplete bs ws t st i at o ws' (kids_done st' k)
+ReadsOn bs ws t st i at o ws' st' (Err e) = Reads bs ws t st i at o ws' (refused_read st' e)
 
 -- a SelectField whose input is read
-abbrev pub SelectedRead : List ℕ → List ℕ → Tables → State → ℕ → Here → List ℕ → Selected → Type 0
-SelectedRead bs ws t st i at ws' s =
+abbrev pub SelectedRead : List ℕ → List ℕ → Tables → State → ℕ → Here → List ℕ → State → Result Selected Refusal → Type 0
+SelectedRead bs ws t st i at ws' st' s =
     ReadsOn bs ws t st i at
-    (intern_kind field i at.scope (rec_at bs i) (env_of ws at.top) (kids_read bs i) (abs_of bs ws t st)) ws' s
+    (intern_kind field i at.scope (rec_at bs i) (env_of ws at.top) (kids_read bs i) (abs_of bs ws t st)) ws' st' s
 
 -- ---- a child in a thunk
 
@@ -181,7 +182,7 @@ pub record InThunk (bs ws : List ℕ) (t : Tables) (st : State) (i : ℕ) (at : 
   pub few : st.scopes ≤ 2048
   pub well : Well (tree_at bs i) false st.scopes (env_of ws at.top) (open_thunk at.scope (abs_of bs ws t st))
 
-abbrev pub ThunkRead : List ℕ → List ℕ → Tables → State → ℕ → Here → List ℕ → Read → Type 0
+abbrev pub ThunkRead : List ℕ → List ℕ → Tables → State → ℕ → Here → List ℕ → ReadStep → Type 0
 ThunkRead bs ws t st i at ws' r =
     Reads bs ws t st i at
     (intern_scoped true at.scope (λ c s. intern.intern (tree_at bs i) i c (env_of ws at.top) s) (abs_of bs ws t st))
@@ -208,7 +209,7 @@ pub record Operands (bs ws : List ℕ) (t : Tables) (st : State) (i count op : �
   pub paid : ℕ
   pub well : WellAll (trees bs i count) block op 0 at.scope (env_of ws at.top) (abs_of bs ws t st) paid
 
-pub record ReadsAll (bs ws : List ℕ) (t : Tables) (st : State) (i count op : ℕ) (at : Here) (ws' : List ℕ) (k : Kids)
+pub record ReadsAll (bs ws : List ℕ) (t : Tables) (st : State) (i count op : ℕ) (at : Here) (ws' : List ℕ) (k : KidsStep)
     : Type 0 where
   pub rep : Rep bs ws' k.st
   pub opened : Open t k.st.entries

@@ -8,23 +8,25 @@ mod small;
 
 ghost use Rattle.std.specs.Prelude.{◌≡◌, ◌<◌, ◌≤◌, length};
 ghost use Rattle.regions.specs.Regions.{WORDS};
-ghost use Rattle.model.specs.Answer.{good};
-ghost use Rattle.model.specs.Forest.{record_count, trees_of};
-ghost use Rattle.model.specs.Accept.{accept};
+ghost use Rattle.model.specs.Forest.{record_count};
 ghost use Rattle.model.specs.Opcodes.{SelectField, SelectFieldOp};
-ghost use Rattle.walk.specs.Walk.{rec_at, WellFormed};
+ghost use Rattle.walk.specs.Walk.{rec_at};
 ghost use Rattle.tables.specs.Tables.{Open};
 ghost use Rattle.interner.specs.State.{Rep};
 ghost use Rattle.concluding.specs.Concluding.{Branched};
 ghost use Rattle.intern.specs.Intern.{StandsAt, LegibleAt, CountedAt, WellKids, InThunk, Operands, Concluding};
 ghost use Rattle.intern.specs.Intern.{RecordRead, LambdaRead, SelectedRead, ThunkRead, ReadsAll};
 ghost use Rattle.intern.specs.Intern.{Enters, Concluded, Completable, Completed, Interned};
+ghost use Rattle.interner.specs.Step.{step_of};
+ghost use Rattle.intern.specs.Steps.{read_of, kids_step, kids_done, entered_of};
 
-use concluding::Branches;
+use codec::Accepted;
 use interner::{State, Step};
+use key::Branches;
 use refusal::{Check, Refusal};
 use shape::{BLOCK_VALUE, FUNC_VALUE, SELECT_FIELD, VAL_DEF, VAL_USE};
 use tables::Tables;
+use walk::Formed;
 
 // Where a record is read: its scope, how many symbols are pending, how many ids are bound.
 #[derive(Clone, Copy)]
@@ -34,21 +36,17 @@ pub struct Here {
     pub top: usize,
 }
 
-// A record's symbol and the state after it, or a refusal; and the record after its subtree.
+// A record's symbol, and the record after its subtree.
 #[derive(Clone, Copy)]
 pub struct Read {
-    pub step: Step,
+    pub symbol: u32,
     pub next: usize,
 }
 
-// Children read: their symbols are pending; the record after them; the scopes of the thunks among them. Or a refusal,
-// with the state in which it was met. `branches` stands first: in this order a store and the load of it are of one
-// width.
+// Children read: their symbols are pending; the scopes of the thunks among them; the record after them.
 #[derive(Clone, Copy)]
 pub struct Kids {
     pub branches: Branches,
-    pub st: State,
-    pub outcome: Result<(), Refusal>,
     pub next: usize,
 }
 
@@ -57,13 +55,6 @@ pub struct Kids {
 pub struct Inside {
     pub at: Here,
     pub first: u32,
-}
-
-// The body of a lambda, opened, and the state after that; or a refusal and the state in which it was met.
-#[derive(Clone, Copy)]
-pub struct Entered {
-    pub st: State,
-    pub inside: Result<Inside, Refusal>,
 }
 
 // A record that is done; or its children, read for the last time, with the record still to be completed.
@@ -77,275 +68,284 @@ pub enum Selected {
 
 // The arguments of lambda i are made and bound, and its body is opened. Rules out: a body in the lambda's own scope;
 // arguments bound in another order.
+#[tactic(auto, using(walk::proofs::Bridge::records_few))]
 fn enter_lambda(
-    forest: &[u8],
+    forest: &Formed,
     work: &mut [u32],
     t: Tables,
     i: usize,
     at: Here,
-    st: State,
-) -> Entered
-    requires well_formed { WellFormed forest.now }
-    requires i_bound { (i < record_count forest.now) × ((rec_at forest.now i).shape ≡ 12) }
-    requires stands_at { StandsAt forest.now work.old t st i at }
-    requires counted_at { CountedAt forest.now work.old t st i at }
-    ensures { Enters forest.now work.old t st i at work.new result }
+    st: &mut State,
+) -> Result<Inside, Refusal>
+    requires i_bound { (i < record_count forest.now.laid) × ((rec_at forest.now.laid i).shape ≡ 12) }
+    requires stands_at { StandsAt forest.now.laid work.old t st.old i at }
+    requires counted_at { CountedAt forest.now.laid work.old t st.old i at }
+    ensures { Enters forest.now.laid work.old t st.old i at work.new (entered_of st.new result) }
 {
     let cur = at.scope;
     let top = at.top;
-    let count = usize::from(record::aux(forest, i));
-    let made = interner::alloc_args(forest, work, st, cur, i as u32, count);
-    let after = made.st;
-    let symbol = match made.symbol {
-        Ok(s) => s,
-        Err(e) => {
-            return Entered {
-                st: after,
-                inside: Err(e),
-            };
-        }
-    };
+    let count = usize::from(forest.laid.aux(i));
+    let symbol = interner::alloc_args(&forest.laid, work, st, cur, i as u32, count)?;
     let first = small::first_of(symbol, count);
-    let body = after.scopes as usize;
-    let inside = opening::open_body(work, after, cur, first, count as u32);
+    let body = st.scopes as usize;
+    opening::open_body(work, st, cur, first, count as u32);
     let end = bindings::bind_args(forest, work, i, top, first);
     let inner = Here {
         scope: body,
         held: at.held,
         top: end,
     };
-    Entered {
-        st: inside,
-        inside: Ok(Inside { at: inner, first }),
-    }
+    Ok(Inside { at: inner, first })
 }
 
 // ---- what a record gives
 
 // The symbol of record i, whose children are read: of a definition and a block that of the last.
-fn conclude(forest: &[u8], work: &mut [u32], t: Tables, i: usize, at: Here, k: Kids) -> Step
-    requires well_formed { WellFormed forest.now }
-    requires rep { Rep forest.now work.old k.st }
-    requires fact { Open t k.st.entries }
-    requires concluding { Concluding forest.now work.old i at k }
+fn conclude(
+    forest: &Formed,
+    work: &mut [u32],
+    t: Tables,
+    i: usize,
+    at: Here,
+    k: Kids,
+    st: &mut State,
+) -> Result<u32, Refusal>
+    requires rep { Rep forest.now.laid work.old st.old }
+    requires fact { Open t st.old.entries }
+    requires concluding { Concluding forest.now.laid work.old i at (kids_done st.old k) }
     requires branched { Branched k.branches }
-    ensures { Concluded forest.now work.old t i at k work.new result }
+    ensures { Concluded forest.now.laid work.old t i at (kids_done st.old k) work.new (step_of st.new result) }
 {
-    let st = k.st;
     let b = k.branches;
     let held = at.held;
     let cur = at.scope;
-    let count = record::kids(forest, i);
-    match record::shape(forest, i) {
-        VAL_DEF | BLOCK_VALUE => concluding::last(work, st, held, count),
+    let count = forest.laid.kids(i);
+    match forest.laid.shape(i) {
+        VAL_DEF | BLOCK_VALUE => Ok(concluding::last(work, held, count)),
         _ => concluding::general(forest, work, t, st, i, cur, held, count, b),
     }
 }
 
-// Record i, whose children are read or refused. Rules out: a symbol though a child is refused; i + 1 as the next.
-fn complete(forest: &[u8], work: &mut [u32], t: Tables, i: usize, at: Here, k: Kids) -> Read
-    requires well_formed { WellFormed forest.now }
-    requires completable { Completable forest.now work.old t i at k }
-    ensures { Completed forest.now work.old t i at k work.new result }
+// Record i, whose children are read. Rules out: the symbol of a child that is not the last; i + 1 as the next.
+fn complete(
+    forest: &Formed,
+    work: &mut [u32],
+    t: Tables,
+    i: usize,
+    at: Here,
+    k: Kids,
+    st: &mut State,
+) -> Result<Read, Refusal>
+    requires completable { Completable forest.now.laid work.old t i at (kids_done st.old k) }
+    ensures { Completed forest.now.laid work.old t i at (kids_done st.old k) work.new (read_of st.new result) }
 {
-    if let Err(e) = k.outcome {
-        return small::refused(k.st, e, i);
-    }
-    let step = conclude(forest, work, t, i, at, k);
-    Read { step, next: k.next }
+    let symbol = conclude(forest, work, t, i, at, k, st)?;
+    Ok(Read {
+        symbol,
+        next: k.next,
+    })
 }
 
 // ---- the walk
 
 // Record i's subtree. Rules out: a reading that is not counted; the record after i's first child.
+#[inline(always)]
 #[cycle(interning)]
-fn subtree(forest: &[u8], work: &mut [u32], t: Tables, i: usize, at: Here, st: State) -> Read
-    requires well_formed { WellFormed forest.now }
-    requires i_bound { i < record_count forest.now }
-    requires stands_at { StandsAt forest.now work.old t st i at }
-    requires legible_at { LegibleAt forest.now work.old t st i at }
-    ensures { RecordRead forest.now work.old t st i at work.new result }
+#[tactic(auto, using(walk::proofs::Bridge::records_few))]
+fn subtree(
+    forest: &Formed,
+    work: &mut [u32],
+    t: Tables,
+    i: usize,
+    at: Here,
+    st: &mut State,
+) -> Result<Read, Refusal>
+    requires i_bound { i < record_count forest.now.laid }
+    requires stands_at { StandsAt forest.now.laid work.old t st.old i at }
+    requires legible_at { LegibleAt forest.now.laid work.old t st.old i at }
+    ensures { RecordRead forest.now.laid work.old t st.old i at work.new (read_of st.new result) }
 {
     if st.readings == 2048 {
-        let full = Refusal {
+        return Err(Refusal {
             check: Check::Readings,
             place: i as u32,
-        };
-        return small::refused(st, full, i);
+        });
     }
-    let counted = opening::count_reading(st);
-    let shape = record::shape(forest, i);
+    opening::count_reading(st);
+    let shape = forest.laid.shape(i);
     if shape == VAL_USE {
         let top = at.top;
-        let step = concluding::value_use(forest, work, counted, i, top);
-        return Read { step, next: i + 1 };
+        let symbol = concluding::value_use(forest, work, i, top);
+        return Ok(Read {
+            symbol,
+            next: i + 1,
+        });
     }
     if shape == FUNC_VALUE {
-        return lambda(forest, work, t, i, at, counted);
+        return lambda(forest, work, t, i, at, st);
     }
-    let count = record::kids(forest, i);
+    let count = forest.laid.kids(i);
     let selected = if shape == SELECT_FIELD {
-        field(forest, work, t, i, at, counted)
+        field(forest, work, t, i, at, st)?
     } else if count == 0 {
-        Selected::Children(small::unread(counted, i + 1))
+        Selected::Children(small::unread(i + 1))
     } else {
-        let op = record::opcode(forest, i);
-        Selected::Children(operands(forest, work, t, i + 1, count, op, at, counted))
+        let op = forest.laid.opcode(i);
+        Selected::Children(operands(forest, work, t, i + 1, count, op, at, st)?)
     };
     match selected {
-        Selected::Done(r) => r,
-        Selected::Children(k) => complete(forest, work, t, i, at, k),
+        Selected::Done(r) => Ok(r),
+        Selected::Children(k) => complete(forest, work, t, i, at, k, st),
     }
 }
 
 // A lambda. Rules out: arguments in force past its body; a body that is read in the lambda's own scope.
 #[cycle(interning)]
-fn lambda(forest: &[u8], work: &mut [u32], t: Tables, i: usize, at: Here, st: State) -> Read
-    requires well_formed { WellFormed forest.now }
-    requires i_bound { (i < record_count forest.now) × ((rec_at forest.now i).shape ≡ 12) }
-    requires stands_at { StandsAt forest.now work.old t st i at }
-    requires counted_at { CountedAt forest.now work.old t st i at }
-    ensures { LambdaRead forest.now work.old t st i at work.new result }
+#[tactic(auto, using(walk::proofs::Bridge::records_few))]
+fn lambda(
+    forest: &Formed,
+    work: &mut [u32],
+    t: Tables,
+    i: usize,
+    at: Here,
+    st: &mut State,
+) -> Result<Read, Refusal>
+    requires i_bound { (i < record_count forest.now.laid) × ((rec_at forest.now.laid i).shape ≡ 12) }
+    requires stands_at { StandsAt forest.now.laid work.old t st.old i at }
+    requires counted_at { CountedAt forest.now.laid work.old t st.old i at }
+    ensures { LambdaRead forest.now.laid work.old t st.old i at work.new (read_of st.new result) }
 {
-    let e = enter_lambda(forest, work, t, i, at, st);
-    let inside = match e.inside {
-        Ok(x) => x,
-        Err(r) => return small::refused(e.st, r, i),
-    };
+    let inside = enter_lambda(forest, work, t, i, at, st)?;
     let inner = inside.at;
-    let op = record::opcode(forest, i);
-    let k = operands(forest, work, t, i + 1, 1, op, inner, e.st);
-    if let Err(r) = k.outcome {
-        return small::refused(k.st, r, i);
-    }
-    let step = concluding::lambda(
+    let op = forest.laid.opcode(i);
+    let k = operands(forest, work, t, i + 1, 1, op, inner, st)?;
+    let symbol = concluding::lambda(
         forest,
         work,
         t,
-        k.st,
+        st,
         i,
         at.scope,
         at.held,
         inside.first,
         inner.scope,
-    );
-    Read { step, next: k.next }
+    )?;
+    Ok(Read {
+        symbol,
+        next: k.next,
+    })
 }
 
 // A SelectField. A Tuple's input is read again; where that gives the same, its readings are only counted again. Rules
 // out: the input of a Tuple's field counted once; any other input read twice.
 #[cycle(interning)]
-fn field(forest: &[u8], work: &mut [u32], t: Tables, i: usize, at: Here, st: State) -> Selected
-    requires well_formed { WellFormed forest.now }
-    requires i_bound { i < record_count forest.now }
-    requires i_value { ((rec_at forest.now i).shape ≡ SelectField) × ((rec_at forest.now i).opcode ≡ SelectFieldOp) }
-    requires stands_at { StandsAt forest.now work.old t st i at }
-    requires well_kids { WellKids forest.now work.old t st i at }
-    ensures { SelectedRead forest.now work.old t st i at work.new result }
+#[tactic(auto, using(walk::proofs::Bridge::records_few))]
+fn field(
+    forest: &Formed,
+    work: &mut [u32],
+    t: Tables,
+    i: usize,
+    at: Here,
+    st: &mut State,
+) -> Result<Selected, Refusal>
+    requires i_bound { i < record_count forest.now.laid }
+    requires i_value { ((rec_at forest.now.laid i).shape ≡ SelectField) × ((rec_at forest.now.laid i).opcode ≡ SelectFieldOp) }
+    requires stands_at { StandsAt forest.now.laid work.old t st.old i at }
+    requires well_kids { WellKids forest.now.laid work.old t st.old i at }
+    ensures { SelectedRead forest.now.laid work.old t st.old i at work.new st.new result }
 {
-    let op = record::opcode(forest, i);
-    let k = operands(forest, work, t, i + 1, 1, op, at, st);
-    if k.outcome.is_err() {
-        return Selected::Children(k);
-    }
-    let after = k.st;
+    let before = *st;
+    let op = forest.laid.opcode(i);
+    let k = operands(forest, work, t, i + 1, 1, op, at, st)?;
     let held = at.held;
     if !concluding::reads_again(forest, work, i, held) {
-        let step = concluding::field(forest, work, t, after, i, at.scope, held);
-        return Selected::Done(Read { step, next: k.next });
+        let symbol = concluding::field(forest, work, t, st, i, at.scope, held)?;
+        return Ok(Selected::Done(Read {
+            symbol,
+            next: k.next,
+        }));
     }
-    if small::repeats(st, after) {
-        return Selected::Children(small::repeated(st, k));
+    if small::repeats(before, *st) {
+        small::count_again(before, st);
+        return Ok(Selected::Children(k));
     }
-    Selected::Children(operands(forest, work, t, i + 1, 1, op, at, after))
+    let again = operands(forest, work, t, i + 1, 1, op, at, st)?;
+    Ok(Selected::Children(again))
 }
 
-// The operands of an opcode, `count` of them from record i on. `subtree` is called here and nowhere else, so that the
-// compiler makes one function of the two. Rules out: a symbol stored over an older pending one; a definition in force in
+// The operands of an opcode, `count` of them from record i on. `subtree` is called here and nowhere else, and put in
+// here (`inline`): a call of its own would copy the tables once more. Rules out: a symbol stored over an older pending one; a definition in force in
 // its own value; the scope of a thunk not noted.
 #[cycle(interning)]
 fn operands(
-    forest: &[u8],
+    forest: &Formed,
     work: &mut [u32],
     t: Tables,
     i: usize,
     count: usize,
     op: u8,
     at: Here,
-    st: State,
-) -> Kids
-    requires well_formed { WellFormed forest.now }
-    requires operands { Operands forest.now work.old t st i count op at }
-    ensures { ReadsAll forest.now work.old t st i count op at work.new result }
+    st: &mut State,
+) -> Result<Kids, Refusal>
+    requires operands { Operands forest.now.laid work.old t st.old i count op at }
+    ensures { ReadsAll forest.now.laid work.old t st.old i count op at work.new (kids_step st.new result) }
 {
     let held = at.held;
     let mut branches = Branches::Zero;
-    let mut before = st;
     let mut next = i;
     let mut top = at.top;
     for j in 0..count {
-        let thunk = shape::is_thunked(op, j);
         let here = small::child_at(at, j, top);
-        let r = if thunk {
-            in_thunk(forest, work, t, next, here, before)
+        let r = if shape::is_thunked(op, j) {
+            branches = small::one_more(branches, st.scopes as usize);
+            in_thunk(forest, work, t, next, here, st)
         } else {
-            subtree(forest, work, t, next, here, before)
+            subtree(forest, work, t, next, here, st)
         };
-        let symbol = match r.step.symbol {
-            Ok(s) => s,
-            Err(e) => {
-                return Kids {
-                    branches,
-                    st: r.step.st,
-                    outcome: Err(e),
-                    next: r.next,
-                };
-            }
-        };
+        let child = r?;
+        let symbol = child.symbol;
         work[regions::PENDING + held + j] = symbol;
         top = bindings::bind_def(forest, work, next, top, symbol);
-        branches = small::note(thunk, branches, before.scopes as usize);
-        before = r.step.st;
-        next = r.next;
+        next = child.next;
     }
-    Kids {
-        branches,
-        st: before,
-        outcome: Ok(()),
-        next,
-    }
+    Ok(Kids { branches, next })
 }
 
 // A child in a thunk of its own, read as the one operand of nothing: opcode 0 has no thunks. Rules out: a thunk's table
 // left open; a symbol made in the thunk that is found after it.
 #[cycle(interning)]
-fn in_thunk(forest: &[u8], work: &mut [u32], t: Tables, i: usize, at: Here, st: State) -> Read
-    requires well_formed { WellFormed forest.now }
-    requires i_bound { i < record_count forest.now }
-    requires in_thunk { InThunk forest.now work.old t st i at }
-    ensures { ThunkRead forest.now work.old t st i at work.new result }
+#[tactic(auto, using(walk::proofs::Bridge::records_few))]
+fn in_thunk(
+    forest: &Formed,
+    work: &mut [u32],
+    t: Tables,
+    i: usize,
+    at: Here,
+    st: &mut State,
+) -> Result<Read, Refusal>
+    requires i_bound { i < record_count forest.now.laid }
+    requires in_thunk { InThunk forest.now.laid work.old t st.old i at }
+    ensures { ThunkRead forest.now.laid work.old t st.old i at work.new (read_of st.new result) }
 {
     let scope = st.scopes as usize;
+    let top = st.entries;
     let cur = at.scope;
     let held = at.held;
-    let inside = opening::open_thunk(work, st, cur);
+    opening::open_thunk(work, st, cur);
     let own = Here {
         scope,
         held,
         top: at.top,
     };
-    let top = st.entries;
     let inner = t.push(top as usize);
-    let k = operands(forest, work, inner, i, 1, 0, own, inside);
-    let last = k.st;
-    let closed = Step {
-        st: opening::close_thunk(last, top),
-        symbol: k.outcome.and(Ok(work[regions::PENDING + held])),
-    };
-    Read {
-        step: closed,
+    let r = operands(forest, work, inner, i, 1, 0, own, st);
+    // after a refusal too
+    opening::close_thunk(st, top);
+    let k = r?;
+    Ok(Read {
+        symbol: work[regions::PENDING + held],
         next: k.next,
-    }
+    })
 }
 
 // ---- a forest
@@ -356,25 +356,22 @@ fn in_thunk(forest: &[u8], work: &mut [u32], t: Tables, i: usize, at: Here, st: 
 // symbol that state stands for the definition's. What else interning may write (`INTERNING`) is left free: pending
 // symbols, bindings, and words of a region past its count. All other words are as they were. Rules out: the first tree's
 // symbol; a symbol with a refusal; words after the bindings changed.
-pub fn forest(forest: &[u8], work: &mut [u32]) -> Step
-    requires forest_value { accept forest.now ≡ good (trees_of forest.now) }
-    requires in_bounds { WORDS ≤ length work.old }
-    ensures { Interned forest.now work.old work.new result }
+pub fn forest(forest: &Accepted, work: &mut [u32]) -> Step
+    requires { WORDS ≤ length work.old }
+    ensures { Interned forest.now.formed.laid work.old work.new result }
 {
-    let st = interner::start(work);
-    let count = record::tree_count(forest);
+    let formed = &forest.formed;
+    let mut st = interner::start(work);
+    let count = formed.laid.tree_count();
     let at = Here {
         scope: 0,
         held: 0,
         top: 0,
     };
     let t = Tables::new();
-    let k = operands(forest, work, t, 0, count, 0, at, st);
-    if let Err(e) = k.outcome {
-        return Step {
-            st: k.st,
-            symbol: Err(e),
-        };
-    }
-    concluding::last(work, k.st, 0, count)
+    let symbol = match operands(formed, work, t, 0, count, 0, at, &mut st) {
+        Ok(_) => Ok(concluding::last(work, 0, count)),
+        Err(e) => Err(e),
+    };
+    Step { st, symbol }
 }

@@ -1,22 +1,13 @@
-// The small steps of the walk: refusals, where a child is read, thunks, children read, and counted again, a lambda's
-// first argument.
-ghost use Rattle.std.specs.Prelude.{◌≡◌, true, ◌+◌, ◌<◌, ◌≤◌};
+// The small steps of the walk: where a child is read, thunks, children read, and counted again, a lambda's first
+// argument.
+ghost use Rattle.std.specs.Prelude.{◌≡◌, ◌+◌, ◌-◌, ◌<◌, ◌≤◌};
 ghost use Rattle.laws.specs.Range.{range};
-ghost use Rattle.intern.specs.Steps.{refused_read, child_at, noted, unread};
-ghost use Rattle.intern.specs.Steps.{repeats, repeated};
+ghost use Rattle.opening.specs.Opening.{with_readings};
+ghost use Rattle.intern.specs.Steps.{child_at, one_more, no_kids, repeats};
 
-use crate::{Here, Kids, Read};
-use concluding::Branches;
-use interner::{State, Step};
-use refusal::Refusal;
-
-// A refusal. Rules out: another; a symbol.
-pub fn refused(st: State, e: Refusal, next: usize) -> Read
-    ensures { result ≡ refused_read st e next }
-{
-    let step = Step { st, symbol: Err(e) };
-    Read { step, next }
-}
+use crate::{Here, Kids};
+use interner::State;
+use key::Branches;
 
 // Where child j is read, with `top` ids bound. Rules out: the place of the child before it; its parent's ids alone.
 pub fn child_at(at: Here, j: usize, top: usize) -> Here
@@ -30,10 +21,11 @@ pub fn child_at(at: Here, j: usize, top: usize) -> Here
     }
 }
 
-// The scopes of thunks, with one more where there is one or none. Rules out: a second in place of the first; a third.
-fn one_more(b: Branches, scope: usize) -> Branches
+// The scopes of thunks, with one more where there is one or none. Rules out: a second in place of the first; a third;
+// the scope not noted.
+pub fn one_more(b: Branches, scope: usize) -> Branches
     requires { scope ≤ 2049 }
-    ensures { result ≡ noted true b scope }
+    ensures { result ≡ one_more b scope }
 {
     let scope = scope as u32;
     match b {
@@ -42,23 +34,12 @@ fn one_more(b: Branches, scope: usize) -> Branches
     }
 }
 
-// The scopes of thunks, after a child that was or was not read in one. Rules out: the scope of a child that has no
-// thunk; a thunk not noted.
-pub fn note(thunk: bool, b: Branches, scope: usize) -> Branches
-    requires { scope ≤ 2049 }
-    ensures { result ≡ noted thunk b scope }
-{
-    if thunk { one_more(b, scope) } else { b }
-}
-
-// No child is read yet; the first is record i. Rules out: a refusal; a thunk.
-pub fn unread(st: State, i: usize) -> Kids
-    ensures { result ≡ unread st i }
+// No child is read yet; the first is record i. Rules out: a record after it; a thunk.
+pub fn unread(i: usize) -> Kids
+    ensures { result ≡ no_kids i }
 {
     Kids {
         branches: Branches::Zero,
-        st,
-        outcome: Ok(()),
         next: i,
     }
 }
@@ -73,16 +54,14 @@ pub fn repeats(before: State, after: State) -> bool
 }
 
 // Children read from `before` on, counted again. Rules out: their readings counted once; other symbols, scopes or
-// thunks.
-pub fn repeated(before: State, k: Kids) -> Kids
-    requires readings_le_readings { before.readings ≤ k.st.readings }
-    requires readings_bound { k.st.readings + k.st.readings ≤ 2048 + before.readings }
-    ensures { result ≡ repeated before k }
+// entries.
+pub fn count_again(before: State, st: &mut State)
+    requires readings_le_readings { before.readings ≤ st.old.readings }
+    requires readings_bound { st.old.readings + st.old.readings ≤ 2048 + before.readings }
+    ensures { st.new ≡ with_readings st.old (st.old.readings - before.readings) }
 {
-    Kids {
-        st: opening::count_readings(k.st, k.st.readings - before.readings),
-        ..k
-    }
+    let more = st.readings - before.readings;
+    opening::count_readings(st, more);
 }
 
 // The first of a lambda's arguments; 0 where it has none. Rules out: the last; 512, where there is no symbol.

@@ -115,8 +115,7 @@ module _ (bs ws : List ℕ) (st : State) (cur at levels : ℕ) (rep : Rep bs ws 
   arg_fresh : Fresh bs ws st cur (arg at) 0 0
   arg_fresh = record {
     from = from;
-    field = omega arith;
-    branches = omega arith;
+    field = tt;
     first = omega arith;
     second = omega arith;
     current = current;
@@ -164,16 +163,6 @@ pub record SoFar (bs ws₀ : List ℕ) (st₀ : State) (cur at count k : ℕ) (w
   pub args : (i : ℕ) → i < k → AtLevel ws s.symbols (level_of (scope_word ws₀ cur) + 1) (st₀.symbols + i)
 
 module _ {bs ws₀ : List ℕ} {st₀ : State} {cur at count : ℕ} (rep : Rep bs ws₀ st₀) (b : Binds bs ws₀ st₀ cur at count) where
-  pub so_far_none : SoFar bs ws₀ st₀ cur at count 0 ws₀ st₀
-  so_far_none = record {
-    few = omega arith;
-    rep = rep;
-    leaves = leaves_none ws₀ st₀;
-    symbols = omega arith;
-    left = λ t opened. let e : count - 0 ≡ count = omega arith in rw e;
-    args = λ i lt. absurd (omega arith);
-  }
-
   module _ {levels : ℕ} (are : (j : ℕ) → has levels j ≡ eqb j (level_of (scope_word ws₀ cur) + 1)) {k : ℕ} {ws : List ℕ}
       {s : State} (f : SoFar bs ws₀ st₀ cur at count k ws s) where
     pub next_levels : Fresh bs ws s cur (arg at) 0 0 × Levels ws s cur (s.symbols ∷ []) levels

@@ -1,4 +1,4 @@
--- Projections, as model's `new_projections` and `pair_projection` have them. In order: fields 1 and 2; one
+-- Projections, as model's `new_projections` and `pair_projection` have them. In order: a field picked; one
 -- projection; the state between them; both.
 -- Assumes nothing.
 use Prim.Native.Nat.{ℕ, ◌+◌, ◌<◌}
@@ -7,7 +7,7 @@ use mathlib.Core.Bool.{Bool, true, false}
 use Rattle.std.specs.Prelude.{None, Some, Ok, Err}
 use mathlib.Core.List.{List, [], ◌∷◌}
 use native.Mathlib.Omega.{arith}
-use borrow.Author.Tests.{eq-eqb, ne_eqb}
+use borrow.Author.Tests.{ne_eqb}
 use lib.Dec.{eqb}
 use lib.ListN.{get_or}
 use Rattle.regions.specs.Regions.{PENDING}
@@ -20,6 +20,7 @@ use Rattle.model.specs.Intern as intern
 use Rattle.laws.proofs.Holds.{Holds}
 use Rattle.refusal.specs.declared.Refusal.{Refusal}
 use Rattle.record.specs.Record.{row_at}
+use Rattle.key.specs.declared.Branches.TheVariants.{Zero}
 use Rattle.key.specs.declared.Node.{Node}
 use Rattle.key.specs.declared.Node.TheVariants.{Op}
 use Rattle.symbols.specs.Words.{words_from}
@@ -38,13 +39,7 @@ use Rattle.interner.proofs.Keeps.{Keeps, finish_keeps}
 use Rattle.memo.proofs.Below.{recall_low}
 use Rattle.interner.proofs.Memos.{Unpaired, abs_remembered, rep_remembered, leaves_remembered}
 
--- ---- fields 1 and 2
-
-pub pick_first : (i a b : ℕ) → i ≡ 1 → pick i (a, b) ≡ a
-pick_first i a b e = rw (eq-eqb i 1 e, pick)
-
-pub pick_second : (i a b : ℕ) → (i ≡ 1 → ⊥) → pick i (a, b) ≡ b
-pick_second i a b n = rw (ne_eqb i 1 n, pick)
+-- ---- a field picked
 
 pick_low : (i a b n : ℕ) → a < n → b < n → pick i (a, b) < n
 pick_low i a b n la lb = go (eqb i 1)
@@ -56,7 +51,7 @@ pick_low i a b n la lb = go (eqb i 1)
 -- ---- one of them
 
 abbrev field : ℕ → ℕ → Node
-field at i = Op (record { source = at; field = i; branches = 0; first = 0; second = 0 })
+field at i = Op (record { source = at; field = Some i; branches = Zero })
 
 key_field : (bs : List ℕ) (at i : ℕ) → 0 < i → key_rec bs at i ≡ field_rec (row_at bs at).rec i
 unfolding key_rec
@@ -82,18 +77,14 @@ module _ {bs ws : List ℕ} {st : State} {cur at held : ℕ} (h : Projects bs ws
   field_ready lt = record {
     fresh = record {
       from = h.from;
-      field = lt;
-      branches = omega arith;
+      field = (pos, lt);
       first = omega arith;
       second = omega arith;
       current = h.current;
       slots = h.slots;
       pending = h.pending;
       lower = λ k l. let e : PENDING.first + held + k ≡ PENDING.first + held = omega arith in rw e h.low;
-      sourced = record {
-        plain = λ e. absurd (omega arith);
-        made = λ n. record { shape = h.shape; opcode = h.opcode; one = refl };
-      };
+      sourced = record { shape = h.shape; opcode = h.opcode; one = refl };
     };
     keyed = tt;
     forced = h.forced;

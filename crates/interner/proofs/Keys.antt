@@ -1,5 +1,5 @@
 -- The symbol of a key, found or made, as model's `finish` has it. In order: a symbol that is found is one of those that
--- stand; `finish` by what is found; what functions ask.
+-- stand; `finish` by what is found.
 -- Assumes nothing.
 use Prim.Native.Nat.{ℕ, zero, suc, ◌+◌, ◌-◌, ◌<◌, ◌≤◌}
 use mathlib.Core.Path.{◌≡◌, refl, sym, ap, ◌∙◌}
@@ -9,7 +9,6 @@ use Rattle.std.specs.Prelude.{Option, None, Some}
 use mathlib.Core.List.{List, [], ◌∷◌}
 use native.Mathlib.Omega.{arith}
 use lib.ListN.{length, get_or}
-use Rattle.regions.specs.Regions.{PENDING, WORDS}
 use Rattle.model.specs.Answer.{good}
 use Rattle.model.specs.Tree.{Rec}
 use Rattle.model.specs.Lists.{without}
@@ -25,14 +24,12 @@ use Rattle.key.specs.Key.{parts_of}
 use Rattle.symbols.specs.Words.{pending_from}
 use Rattle.symbols.specs.Symbols.{syms_of, key_rec, rec_of, own_of, model_node}
 use Rattle.tables.specs.declared.Tables.{Tables}
-use Rattle.tables.specs.Tables.{entries, tables, tables_of, Open, Entries, EntriesBelow}
-use Rattle.tables.proofs.Stack.{entries_sound}
+use Rattle.tables.specs.Tables.{entries, tables, tables_of, Open, EntriesBelow}
 use Rattle.interner.specs.declared.State.{State}
 use Rattle.interner.specs.declared.Step.{Step}
-use Rattle.interner.proofs.Same.{used_sound}
 use Rattle.interner.specs.State.{abs_of, Rep}
-use Rattle.interner.specs.Step.{step_to, Answers, alloc_of, finish_of, new_deps, Fresh, Keyed, Ready}
-use Rattle.interner.proofs.Sharing.{step_found, answers_as, given_answers}
+use Rattle.interner.specs.Step.{given, Answers, alloc_of, finish_of, new_deps, Keyed, Ready}
+use Rattle.interner.proofs.Sharing.{answers_as, given_answers}
 
 -- ---- what is found is below what all entries are
 
@@ -105,9 +102,9 @@ module _ {bs ws : List ℕ} {t : Tables} {st : State} {cur : ℕ} {node : Node} 
       (sym f)
 
   pub found_answers : (s : ℕ) → Some s ≡ sought →
-      Answers bs ws t st (finish_of bs ws t st cur node held count) ws (step_to st node count (Some s))
+      Answers bs ws t st (finish_of bs ws t st cur node held count) ws (given st s)
   found_answers s f =
-      answers_as (given_answers rep (found_low s f) (step_found st node count s (found_low s f)))
+      answers_as (given_answers rep (found_low s f) refl)
       (sym (finish_some (parts_of node).source cur (rec_of bs node) (pending_from ws held count) (own_of bs node)
       (model_node bs node) (abs_of bs ws t st) s (sym f)))
 
@@ -138,20 +135,3 @@ module _ {bs ws : List ℕ} {t : Tables} {st : State} {cur : ℕ} {node : Node} 
       (tables_of ws t st.entries)) →
       f ≡ o → o ≡ sought
   found_is p is f o h e = sym e ∙ (h st.symbols rep.entries.below ∙ rw is)
-
--- ---- what functions ask
-
-pub sought_entries : {bs ws : List ℕ} {st : State} → Rep bs ws st → Entries bs ws st.entries
-sought_entries {bs} {ws} {st} rep =
-    let h = rep.arena.scoped in
-    entries_sound bs ws st.slots st.symbols st.entries (used_sound bs ws st rep) rep.slots.few h.few
-    (omega (arith, rep.entries.few, h.few)) rep.entries.below rep.entries.hinted
-
--- the words of the pending children, and that they are symbols
-pub pending_read : {bs ws : List ℕ} {st : State} {cur : ℕ} {node : Node} {held count : ℕ} → Rep bs ws st →
-    Fresh bs ws st cur node held count →
-    ((held + count ≤ PENDING.size) × (WORDS ≤ length ws))
-    × ((k : ℕ) → k < count → get_or ws (PENDING.first + held + k) 0 < 512)
-pending_read rep fresh =
-    let h = rep.arena.scoped in
-    ((fresh.pending, h.words), λ k lt. omega (arith, fresh.lower k lt, h.few))

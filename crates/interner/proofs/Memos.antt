@@ -35,7 +35,7 @@ module _ {bs ws : List ℕ} {st : State} {p a b : ℕ} (rep : Rep bs ws st) (h :
   pub remember_asks : ((st.memo < MEMO.size) × (WORDS ≤ length ws)) × ((p < 512) × (a < 512) × (b < 512))
   remember_asks =
       let few = rep.arena.scoped.few in (
-        (omega (arith, memo_room, few), rep.arena.scoped.words),
+        (omega (arith, memo_room, few), rep.words),
         (omega (arith, h.low, few), omega (arith, h.first, few), omega (arith, h.second, few)),
       )
 

@@ -92,11 +92,10 @@ module _ {bs ws : List ℕ} {st : State} {cur : ℕ} {node : Node} {held count l
       few = few;
       slots = fresh.slots;
       pending = fresh.pending;
-      words = omega (arith, rep.arena.scoped.words);
+      words = omega (arith, rep.words);
       fits = record {
         from = omega (arith, fresh.from);
         field = fresh.field;
-        branches = fresh.branches;
         first = fresh.first;
         second = fresh.second;
         kids = omega (arith, rep.slots.few);
@@ -137,7 +136,7 @@ module _ {bs ws : List ℕ} {st : State} {cur : ℕ} {node : Node} {held count l
         record {
           scoped = record {
             few = omega arith;
-            words = h.words;
+            long = h.long;
             some_scope = h.some_scope;
             few_scopes = h.few_scopes;
             nested = h.nested;
@@ -197,7 +196,7 @@ module _ {bs ws : List ℕ} {st : State} {cur : ℕ} {node : Node} {held count l
           scopes = λ k l r. list_still.scopes k l r ∙ made_still.scopes k l r;
         };
         lists = λ g h.
-            rw listed (lists_kept g ws₁ st.symbols (free_vars g₁ st.symbols) few made_arena.scoped.words
+            rw listed (lists_kept g ws₁ st.symbols (free_vars g₁ st.symbols) few made_arena.scoped.long
             (lists_agree g ws ws₁ st.symbols rep.arena.scoped.few (λ k l r. made_frame.after k (omega arith)) h));
         entries = λ k l r. list_frame.after k (omega arith) ∙ made_frame.after k (omega arith);
         memo = λ k l r. list_frame.after k (omega arith) ∙ made_frame.after k (omega arith);
@@ -280,10 +279,11 @@ module _ {bs ws : List ℕ} {st : State} {cur : ℕ} {node : Node} {held count l
       lists_pushed =
           rw (graph_agree list_still bs sound_made_all [])
           (subst (Lists g₁ ws₂) (sym (add-one st.symbols))
-          (rw listed (lists_with g₁ ws₁ st.symbols few made_arena.scoped.words lists_before)))
+          (rw listed (lists_with g₁ ws₁ st.symbols few made_arena.scoped.long lists_before)))
 
       rep_pushed : Rep bs ws₂ st₁
       rep_pushed = record {
+        words = omega (arith, list_still.long, made_still.long, rep.words);
         arena = arena_agree list_still bs (λ i lt. (sound_made_all i lt).slots) made_arena;
         slots = record {
           few = fresh.slots;

@@ -176,8 +176,3 @@ module _ (ws : List ℕ) (held count j r : ℕ) where
   plain_key (Arg l) n e = e
   plain_key (Lambda f) n e = absurd (n f refl)
   plain_key (Op o) n e = e
-
-  pub lambda_key : {node : Node} {f : Func} (all : ℕ) → node ≡ Lambda f →
-      has all j ≡ any_has ws j (pending_from ws held count) →
-      has r j ≡ (not (eqb j (level_of (scope_word ws f.body))) && has all j) → has r j ≡ key_levels ws node held count j
-  lambda_key all is e g = rw is (g ∙ rw e)

@@ -110,6 +110,7 @@ module _ (bs ws ws' : List ℕ) (st : State) (rep : Rep bs ws st) (same : Same w
 
   pub rep_same : Rep bs ws' st
   rep_same = record {
+    words = omega (arith, same.still.long, rep.words);
     arena = arena_agree same.still bs rep.slots.within rep.arena;
     slots = slots_same;
     sourced = sourced_same;
@@ -155,6 +156,7 @@ pub rep_with : {bs ws : List ℕ} {st : State} {entries memo readings : ℕ} →
       readings = readings;
     })
 rep_with rep entered remembered few = record {
+  words = rep.words;
   arena = rep.arena;
   slots = rep.slots;
   sourced = rep.sourced;

@@ -1,5 +1,5 @@
--- A new symbol in the newest table, and the answers of model's `alloc`. In order: what steps leave; the step to a symbol;
--- answers; the steps of `alloc`.
+-- A new symbol in the newest table, and the answers of model's `alloc`. In order: what steps leave; answers;
+-- the steps of `alloc`.
 -- Assumes nothing.
 use Prim.Native.Nat.{ℕ, ◌+◌, ◌*◌, ◌<◌, ◌≤◌}
 use mathlib.Core.Path.{◌≡◌, refl, sym, ap, ◌∙◌, subst}
@@ -7,7 +7,7 @@ use mathlib.Core.Bool.{true}
 use mathlib.Core.List.{List}
 use native.Mathlib.Omega.{arith}
 use borrow.Author.Tests.{lt-ltb, le-ltb}
-use Rattle.std.specs.Prelude.{None, Some, Ok, Err}
+use Rattle.std.specs.Prelude.{Ok, Err}
 use Rattle.std.proofs.lemmas.Result.{IfOk-at_ok}
 use Rattle.refusal.specs.declared.Refusal.{Refusal}
 use lib.ListN.{length, set}
@@ -33,7 +33,7 @@ use Rattle.free_lists.proofs.Laws.{lists_agree}
 use Rattle.interner.specs.declared.State.{State}
 use Rattle.interner.specs.declared.Step.{Step}
 use Rattle.interner.specs.State.{abs_of, Rep}
-use Rattle.interner.specs.Step.{refusal_of, out_of, given, over_full, with_symbol, entered, step_to, Leaves, new_deps}
+use Rattle.interner.specs.Step.{refusal_of, out_of, given, over_full, entered, Leaves, new_deps}
 use Rattle.interner.specs.Step.{Fresh, Pushed, alloc_of, Answers}
 use Rattle.interner.proofs.Same.{used_sound, Same, abs_same, rep_same, rep_with}
 use Rattle.interner.proofs.Pushing.{pushed_entries, pushed_symbols}
@@ -59,21 +59,6 @@ leaves_none ws st = record {
   readings = refl;
   more = omega arith;
 }
-
--- ---- the step to a symbol
-
-module _ (st : State) (node : Node) (count s : ℕ) where
-  pub step_found : s < st.symbols → step_to st node count (Some s) ≡ given st s
-  unfolding step_to
-  step_found lt = rw (lt-ltb s st.symbols lt)
-
-  pub step_new : st.symbols ≤ s → step_to st node count (Some s) ≡ given (entered (with_symbol st count)) s
-  unfolding step_to
-  step_new le = rw (le-ltb s st.symbols le)
-
-pub step_full : (st : State) (node : Node) (count : ℕ) → step_to st node count None ≡ over_full st node
-unfolding step_to
-step_full st node count = refl
 
 -- ---- answers
 
@@ -131,13 +116,13 @@ module _ {bs ws : List ℕ} {st : State} {cur : ℕ} {node : Node} {held count :
   unfolding alloc guard
   alloc_full full = rw (syms_length bs ws st.symbols, le-ltb st.symbols 512 full)
 
-  pub full_answers : 512 ≤ st.symbols → Answers bs ws t st allocated ws (step_to st node count None)
-  full_answers full = rw (step_full st node count) (record {
+  pub full_answers : 512 ≤ st.symbols → Answers bs ws t st allocated ws (over_full st node)
+  full_answers full = record {
     rep = rep;
     leaves = leaves_none ws st;
     low = tt;
     is = out_full bs ws t st node ∙ sym (alloc_full full);
-  })
+  }
 
   module _ {ws₁ : List ℕ} {st₁ : State} {levels : ℕ} (m : ℕ) (few : st.symbols < 512) (opened : Open t st.entries)
       (done : Pushed bs ws st cur node held count levels ws₁ st₁) where
@@ -164,7 +149,7 @@ module _ {bs ws : List ℕ} {st : State} {cur : ℕ} {node : Node} {held count :
     }
 
     room : ENTRIES.first + st₁.entries < length ws₁
-    room = omega (arith, pushed_entries done, rep.entries.few, done.rep.arena.scoped.words)
+    room = omega (arith, pushed_entries done, rep.entries.few, done.rep.words)
 
     abs_shared : abs_of bs ws₂ t (entered st₁) ≡ shared_push
     unfolding push
@@ -210,15 +195,10 @@ module _ {bs ws : List ℕ} {st : State} {cur : ℕ} {node : Node} {held count :
     own-hint p is h =
         h ∙ rw (is, ← key_opcode bs (parts_of node).source (parts_of node).field) (sym done.hinted)
 
-    step_shared : step_to st node count (Some st.symbols) ≡ given (entered st₁) st.symbols
-    step_shared =
-        step_new st node count st.symbols (omega arith)
-        ∙ ap (λ (z : State). given (entered z) st.symbols) (sym done.state)
-
     pub shared_answers : {p : Parts} {ws' : List ℕ} → p ≡ parts_of node →
         m ≡ hint (row_at bs p.source).rec.opcode (pending_from ws held count) → ws' ≡ ws₂ →
-        Answers bs ws t st allocated ws' (step_to st node count (Some st.symbols))
-    shared_answers {p} is h d = rw (d, step_shared) (record {
+        Answers bs ws t st allocated ws' (given (entered st₁) st.symbols)
+    shared_answers {p} is h d = rw d (record {
       rep = rep_shared (own-hint p is h);
       leaves = leaves_then done.leaves leaves_entered;
       low = omega (arith, pushed_symbols done);

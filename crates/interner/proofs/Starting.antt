@@ -40,10 +40,11 @@ module _ (ws : List ℕ) (words : WORDS ≤ length ws) where
   rep_start : (bs : List ℕ) → Rep bs ws₁ first_state
   unfolding syms_of memo_of stack_of
   rep_start bs = record {
+    words = omega (arith, length-set ws₀ SCOPES.first 0, long);
     arena = record {
       scoped = record {
         few = omega arith;
-        words = omega (arith, length-set ws₀ SCOPES.first 0, long);
+        long = omega (arith, length-set ws₀ SCOPES.first 0, long);
         some_scope = omega arith;
         few_scopes = omega arith;
         nested = nested_outermost ws₀ (omega (arith, long));

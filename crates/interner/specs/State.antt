@@ -1,8 +1,8 @@
 -- The state of interning, by value and in work words, as model has it: what it stands for with a stack t of open tables
 -- (`abs_of`), and what holds of it (`Rep`), part by part: a part says what holds of one region of the words.
 -- bs are the forest's bytes, ws the words. Assumes nothing.
-use Rattle.std.specs.Prelude.{ℕ, ◌≤◌, ◌≡◌, List, [], set}
-use Rattle.regions.specs.Regions.{SYMBOLS, SLOTS, SCOPES, FREE_ENDS, PENDING}
+use Rattle.std.specs.Prelude.{ℕ, ◌≤◌, ◌≡◌, List, [], length, set}
+use Rattle.regions.specs.Regions.{SYMBOLS, SLOTS, SCOPES, FREE_ENDS, PENDING, WORDS}
 use Rattle.model.specs.Intern as intern
 use Rattle.laws.specs.Frame.{Frame}
 use Rattle.laws.specs.Slots.{slots_in}
@@ -48,6 +48,7 @@ pub record Remembered (ws : List ℕ) (k n : ℕ) : Type 0 where
   pub once : Once (keys_in (memo_of ws k))
 
 pub record Rep (bs ws : List ℕ) (st : State) : Type 0 where
+  pub words : WORDS ≤ length ws
   pub arena : Arena bs ws st.symbols st.scopes
   pub slots : Slotted bs ws st.slots st.symbols
   pub sourced : AllSourced bs ws st.symbols

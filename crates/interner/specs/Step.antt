@@ -1,8 +1,8 @@
 -- What the functions ask and answer. In order: answers; a new symbol; the symbol of a key; a lambda's arguments;
 -- projections.
 -- Assumes nothing.
-use Rattle.std.specs.Prelude.{ℕ, suc, ◌+◌, ◌<◌, ◌≤◌, ◌≡◌, Bool, true, false, not, ◌&&◌, List, [], ◌∷◌, eqb, ltb, length, get_or}
-use Rattle.std.specs.Prelude.{Option, None, Some, Result, Ok, Err, IfOk}
+use Rattle.std.specs.Prelude.{ℕ, suc, ◌+◌, ◌<◌, ◌≤◌, ◌≡◌, Bool, false, not, ◌&&◌, List, [], ◌∷◌, eqb, length, get_or}
+use Rattle.std.specs.Prelude.{Some, Result, Ok, Err, IfOk}
 use Rattle.regions.specs.Regions.{SYMBOLS, SLOTS, SCOPES, PENDING, end}
 use Rattle.model.specs.Answer.{Answer, refused, good}
 use Rattle.model.specs.Forest.{record_count}
@@ -17,7 +17,7 @@ use Rattle.record.specs.Record.{row_at}
 use Rattle.laws.specs.Frame.{Agree, Frame}
 use Rattle.key.specs.declared.Node.{Node}
 use Rattle.key.specs.declared.Node.TheVariants.{Const, Unparsed, Arg, Lambda, Op}
-use Rattle.key.specs.Key.{parts_of, symbol_at}
+use Rattle.key.specs.Key.{FieldFits, node_field, parts_of, symbol_at}
 use Rattle.symbols.specs.Words.{pending_from}
 use Rattle.laws.specs.Range.{range}
 use Rattle.symbols.specs.Symbols.{syms_of, rec_of, model_node, own_of, deps_of}
@@ -50,9 +50,16 @@ out_of bs ws t r = outcome_of (λ s. (s, abs_of bs ws t r.st)) r.symbol
 abbrev pub given : State → ℕ → Step
 given st s = record { st = st; symbol = Ok s }
 
+-- the state after a step, and its symbol or refusal
+abbrev pub step_of : State → Result ℕ Refusal → Step
+step_of st r = record { st = st; symbol = r }
+
 -- there is no room for the symbol of a node
+abbrev pub no_room : Node → Refusal
+no_room node = record { check = Symbols; place = (parts_of node).source }
+
 abbrev pub over_full : State → Node → Step
-over_full st node = record { st = st; symbol = Err (record { check = Symbols; place = (parts_of node).source }) }
+over_full st node = record { st = st; symbol = Err (no_room node) }
 
 -- one symbol more, with `count` child slots
 abbrev pub with_symbol : State → ℕ → State
@@ -61,15 +68,6 @@ with_symbol st count = record st { symbols = st.symbols + 1; slots = st.slots + 
 -- one entry more
 abbrev pub entered : State → State
 entered st = record st { entries = st.entries + 1 }
-
--- the step to a symbol, for a node over `count` children: it stands already, or it is new, or there is no room for it
-abbrev pub old_or_new : State → ℕ → ℕ → Bool → Step
-old_or_new st count s true = given st s
-old_or_new st count s false = given (entered (with_symbol st count)) s
-
-unfoldable pub step_to : State → Node → ℕ → Option ℕ → Step
-step_to st node count None = over_full st node
-step_to st node count (Some s) = old_or_new st count s (ltb s st.symbols)
 
 -- what a step from words ws and state st to words ws' leaves: pending symbols and bindings, and all words after them;
 -- scopes and readings; entries are only added
@@ -86,8 +84,7 @@ pub record Leaves (ws ws' : List ℕ) (st st' : State) : Type 0 where
 -- there is room for a node over the pending children from `held` on, which are symbols
 pub record Fresh (bs ws : List ℕ) (st : State) (cur : ℕ) (node : Node) (held count : ℕ) : Type 0 where
   pub from : (parts_of node).source < record_count bs
-  pub field : (parts_of node).field < 4
-  pub branches : (parts_of node).branches < 4
+  pub field : FieldFits (node_field node)
   pub first : (parts_of node).first < 4096
   pub second : (parts_of node).second < 4096
   pub current : cur < st.scopes

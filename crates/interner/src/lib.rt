@@ -1,7 +1,7 @@
 // Interning's state, and its symbols, new or found (interner.rs). In order: the state; a new symbol; the symbol of a
 // key; a lambda's arguments; projections, the steps of which are in projections.rt.
-// A symbol that is found or made is given alone, and the state after it follows from it: a number comes back in a
-// register, a state through memory.
+// `Rep forest work st` stays a clause: a struct that lends its words as `&mut` is no plainer, since each function that
+// takes one, here and above, would ensure in its place that it still holds the same words (tried on two methods).
 #![tactic(auto)]
 
 mod projections;
@@ -12,17 +12,18 @@ ghost use Rattle.scopes.specs.Levels.{has};
 ghost use Rattle.scopes.specs.Scopes.{scope_word, level_of};
 ghost use Rattle.symbols.specs.Words.{pending_from};
 ghost use Rattle.model.specs.Intern.{pair_projection};
-ghost use Rattle.record.specs.Record.{Laid, row_at};
+ghost use Rattle.record.specs.Record.{row_at};
 ghost use Rattle.tables.specs.declared.Tables.{Tables};
 ghost use Rattle.tables.specs.Tables.{Open};
 ghost use Rattle.key.specs.Key.{parts_of};
 ghost use Rattle.interner.specs.State.{abs_of, Rep, Started};
 ghost use Rattle.interner.specs.Step.{Fresh, Levels, Pushed, Answers, Ready, Binds, Bindings};
 ghost use Rattle.interner.specs.Step.{Projects};
-ghost use Rattle.interner.specs.Step.{new_deps, given, over_full, step_to, alloc_of, key_levels, finish_of};
+ghost use Rattle.interner.specs.Step.{new_deps, no_room, step_of, alloc_of, key_levels, finish_of};
 ghost use Rattle.interner.specs.Levels.{any_has};
 
 use key::{Leaf, Node, Symbol};
+use record::Forest;
 use refusal::{Check, Refusal};
 use tables::Tables;
 
@@ -68,22 +69,23 @@ pub fn start(work: &mut [u32]) -> State
 
 // One symbol more, placed from scope `cur` outwards, with its free list; in no table.
 fn push(
-    forest: &[u8],
+    forest: &Forest,
     work: &mut [u32],
-    st: State,
+    st: &mut State,
     cur: usize,
     node: Node,
     held: usize,
     count: usize,
     levels: u64,
-) -> State
-    requires laid { Laid forest.now }
-    requires rep { Rep forest.now work.old st }
-    requires symbols_bound { st.symbols < 512 }
-    requires fresh { Fresh forest.now work.old st cur node held count }
-    requires levels { Levels work.old st cur (new_deps forest.now work.old st node held count) levels }
-    ensures { Pushed forest.now work.old st cur node held count levels work.new result }
+)
+    requires rep { Rep forest.now work.old st.old }
+    requires symbols_bound { st.old.symbols < 512 }
+    requires fresh { Fresh forest.now work.old st.old cur node held count }
+    requires levels { Levels work.old st.old cur (new_deps forest.now work.old st.old node held count) levels }
+    ensures { Pushed forest.now work.old st.old cur node held count levels work.new st.new }
 {
+    // its header stands, so a record's number fits a symbol's words
+    let _ = forest.bytes();
     let n = st.symbols;
     let scope = scopes::placement(work, cur, levels);
     let y = Symbol {
@@ -95,67 +97,49 @@ fn push(
     };
     symbols::make(work, n as usize, held, y);
     free_lists::keep(forest, work, n as usize, st.scopes as usize, scope, count);
-    State {
-        symbols: n + 1,
-        slots: st.slots + count as u32,
-        ..st
-    }
+    st.symbols += 1;
+    st.slots += count as u32;
 }
 
-// A symbol, and the state after it. Rules out: a refusal; another symbol.
-pub fn given(st: State, symbol: u32) -> Step
-    ensures { result ≡ given st symbol }
-{
-    Step {
-        st,
-        symbol: Ok(symbol),
-    }
-}
-
-// No room for a symbol, at the record of a node. Rules out: another check's refusal.
-fn over_full(st: State, node: Node) -> Step
-    ensures { result ≡ over_full st node }
+// No room for a symbol, at the record of a node.
+fn no_room(node: Node) -> Refusal
+    ensures { result ≡ no_room node }
 {
     let place = key::parts_of(node).source;
-    Step {
-        st,
-        symbol: Err(Refusal {
-            check: Check::Symbols,
-            place,
-        }),
+    Refusal {
+        check: Check::Symbols,
+        place,
     }
 }
 
-// A new symbol that can be found again, if there is room for one. Rules out: one that is in no table, or in the oldest;
-// a 513th symbol.
+// A new symbol that can be found again, or a refusal where there is no room for one. Rules out: one that is in no table,
+// or in the oldest; a 513th symbol.
 fn alloc(
-    forest: &[u8],
+    forest: &Forest,
     work: &mut [u32],
-    st: State,
+    st: &mut State,
     cur: usize,
     node: Node,
     held: usize,
     count: usize,
     levels: u64,
-) -> Option<u32>
-    requires laid { Laid forest.now }
-    requires rep { Rep forest.now work.old st }
-    requires fresh { Fresh forest.now work.old st cur node held count }
-    requires levels { Levels work.old st cur (new_deps forest.now work.old st node held count) levels }
-    ensures { (t : Tables) → Open t st.entries → Answers forest.now work.old t st
-        (alloc_of forest.now work.old t st cur node held count true) work.new
-        (step_to st node count result) }
+) -> Result<u32, Refusal>
+    requires rep { Rep forest.now work.old st.old }
+    requires fresh { Fresh forest.now work.old st.old cur node held count }
+    requires levels { Levels work.old st.old cur (new_deps forest.now work.old st.old node held count) levels }
+    ensures { (t : Tables) → Open t st.old.entries → Answers forest.now work.old t st.old
+        (alloc_of forest.now work.old t st.old cur node held count true) work.new (step_of st.new result) }
 {
     let n = st.symbols;
     if n >= 512 {
-        return None;
+        return Err(no_room(node));
     }
     let p = key::parts_of(node);
     let hint = tables::hint_of(forest, work, p.source as usize, held, count);
-    let next = push(forest, work, st, cur, node, held, count, levels);
-    let top = next.entries as usize;
-    tables::enter(work, top, n, hint);
-    Some(n)
+    push(forest, work, st, cur, node, held, count, levels);
+    tables::enter(work, st.entries as usize, n, hint);
+    st.entries += 1;
+    Ok(n)
 }
 
 // The levels of the pending children from `held` on.
@@ -188,26 +172,24 @@ fn key_levels(work: &[u32], node: Node, held: usize, count: usize) -> u64
     }
 }
 
-// The symbol of a node over the pending children from `held` on: the one that has its key, or a new one, if there is
-// room. Rules out: a second symbol for a key that an open table has; a symbol placed inside a lambda that it does not
-// depend on.
-fn find_or_make(
-    forest: &[u8],
+// The symbol of a node over the pending children from `held` on: the one that has its key, or a new one; or a refusal,
+// where there is no room for a new one. Rules out: a second symbol for a key that an open table has; a symbol placed
+// inside a lambda that it does not depend on; a refusal where the key is found and there are 512 symbols.
+pub fn finish(
+    forest: &Forest,
     work: &mut [u32],
     t: Tables,
-    st: State,
+    st: &mut State,
     cur: usize,
     node: Node,
     held: usize,
     count: usize,
-) -> Option<u32>
-    requires laid { Laid forest.now }
-    requires rep { Rep forest.now work.old st }
-    requires fact { Open t st.entries }
-    requires ready { Ready forest.now work.old st cur node held count }
-    ensures { Answers forest.now work.old t st
-        (finish_of forest.now work.old t st cur node held count) work.new
-        (step_to st node count result) }
+) -> Result<u32, Refusal>
+    requires rep { Rep forest.now work.old st.old }
+    requires fact { Open t st.old.entries }
+    requires ready { Ready forest.now work.old st.old cur node held count }
+    ensures { Answers forest.now work.old t st.old
+        (finish_of forest.now work.old t st.old cur node held count) work.new (step_of st.new result) }
 {
     let p = key::parts_of(node);
     let top = st.entries as usize;
@@ -221,57 +203,12 @@ fn find_or_make(
         held,
         count,
     ) {
-        Some(s) => Some(s),
+        Some(s) => Ok(s),
         None => {
             let levels = key_levels(work, node, held, count);
             alloc(forest, work, st, cur, node, held, count, levels)
         }
     }
-}
-
-// The step to symbol s, which was found or made for a node over `count` children, if there was room. Rules out: a
-// symbol that is found counted as a new one; a symbol where there was no room for one.
-fn step_to(st: State, node: Node, count: usize, s: Option<u32>) -> Step
-    requires { (st.entries ≤ 512) × (st.symbols ≤ 512) × (st.slots + count ≤ SLOTS.size) }
-    ensures { result ≡ step_to st node count s }
-{
-    match s {
-        None => over_full(st, node),
-        Some(s) if s < st.symbols => given(st, s),
-        Some(s) => {
-            let next = State {
-                entries: st.entries + 1,
-                symbols: st.symbols + 1,
-                slots: st.slots + count as u32,
-                ..st
-            };
-            given(next, s)
-        }
-    }
-}
-
-// The symbol of a node over the pending children from `held` on, and the state after it; or a refusal, where there is
-// no room for a new one. Rules out: a new symbol's state for one that is found; a refusal where the key is found and
-// there are 512 symbols.
-pub fn finish(
-    forest: &[u8],
-    work: &mut [u32],
-    t: Tables,
-    st: State,
-    cur: usize,
-    node: Node,
-    held: usize,
-    count: usize,
-) -> Step
-    requires laid { Laid forest.now }
-    requires rep { Rep forest.now work.old st }
-    requires fact { Open t st.entries }
-    requires ready { Ready forest.now work.old st cur node held count }
-    ensures { Answers forest.now work.old t st
-        (finish_of forest.now work.old t st cur node held count) work.new result }
-{
-    let s = find_or_make(forest, work, t, st, cur, node, held, count);
-    step_to(st, node, count, s)
 }
 
 // The level of the arguments of a lambda in scope `cur`, alone.
@@ -284,58 +221,54 @@ fn level_inside(work: &[u32], cur: usize) -> u64
     scopes::levels::with(scopes::levels::empty(), depth + 1)
 }
 
-// `count` argument symbols for the lambda of record `at`, made in scope `cur`: the first of them and the state after
-// them, or a refusal. Rules out: an argument in a table, where it could be found again; arguments that count as those
-// of the lambda around.
+// `count` argument symbols for the lambda of record `at`, made in scope `cur`: the first of them, or a refusal. Rules out:
+// an argument in a table, where it could be found again; arguments that count as those of the lambda around.
 pub fn alloc_args(
-    forest: &[u8],
+    forest: &Forest,
     work: &mut [u32],
-    st: State,
+    st: &mut State,
     cur: usize,
     at: u32,
     count: usize,
-) -> Step
-    requires laid { Laid forest.now }
-    requires rep { Rep forest.now work.old st }
-    requires binds { Binds forest.now work.old st cur at count }
-    ensures { Bindings forest.now work.old st cur at count work.new result }
+) -> Result<u32, Refusal>
+    requires rep { Rep forest.now work.old st.old }
+    requires binds { Binds forest.now work.old st.old cur at count }
+    ensures { Bindings forest.now work.old st.old cur at count work.new (step_of st.new result) }
 {
     let n = st.symbols;
     let node = Node::Arg(Leaf { source: at });
     if 512 < n as usize + count {
-        return over_full(st, node);
+        return Err(no_room(node));
     }
     let levels = level_inside(work, cur);
-    let mut s = st;
     for _ in 0..count {
-        s = push(forest, work, s, cur, node, 0, 0, levels);
+        push(forest, work, st, cur, node, 0, 0, levels);
     }
-    given(s, n)
+    Ok(n)
 }
 
-// Field `field` of the pending symbol at `held`, for record `at`, and the state after it; or a refusal. Rules out: the
-// other field; a projection that is not remembered, and would be made again after its thunk.
+// Field `field` of the pending symbol at `held`, for record `at`; or a refusal. Rules out: the other field; a projection
+// that is not remembered, and would be made again after its thunk.
 pub fn pair_projection(
-    forest: &[u8],
+    forest: &Forest,
     work: &mut [u32],
     t: Tables,
-    st: State,
+    st: &mut State,
     cur: usize,
     at: u32,
     field: u32,
     held: usize,
-) -> Step
-    requires laid { Laid forest.now }
-    requires rep { Rep forest.now work.old st }
-    requires fact { Open t st.entries }
-    requires projects { Projects forest.now work.old st cur at held 2 }
-    ensures { Answers forest.now work.old t st
+) -> Result<u32, Refusal>
+    requires rep { Rep forest.now work.old st.old }
+    requires fact { Open t st.old.entries }
+    requires projects { Projects forest.now work.old st.old cur at held 2 }
+    ensures { Answers forest.now work.old t st.old
         (pair_projection at cur (row_at forest.now at).rec field (get_or work.old (PENDING.first + held) 0)
-        (abs_of forest.now work.old t st)) work.new result }
+        (abs_of forest.now work.old t st.old)) work.new (step_of st.new result) }
 {
     let p = work[regions::PENDING + held];
     match memo::recall(work, st.memo as usize, p) {
-        Some((a, b)) => projections::picked(st, field, a, b),
+        Some((a, b)) => Ok(projections::picked(field, a, b)),
         None => projections::new_projections(forest, work, t, st, cur, at, field, held),
     }
 }

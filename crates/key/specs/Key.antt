@@ -1,16 +1,56 @@
--- A symbol in five words of the work memory. In order: a node's parts; the words; storing; loading; which symbols fit.
+-- A symbol in five words of the work memory. In order: an operation's thunks; a node's parts; the words; storing;
+-- loading; which symbols fit.
 -- Assumes nothing.
-use Rattle.std.specs.Prelude.{ℕ, ◌+◌, ◌*◌, ◌/◌, ◌%◌, ◌<◌, List, Bool, true, false, eqb, get_or, set}
+use Rattle.std.specs.Prelude.{ℕ, zero, suc, ◌+◌, ◌*◌, ◌/◌, ◌%◌, ◌<◌, List, [], ◌∷◌, Bool, true, false, eqb, get_or, set}
+use Rattle.std.specs.Prelude.{Option, None, Some, IfSome}
+use Rattle.std.specs.Option.{unwrap_or}
 use Rattle.key.specs.declared.Leaf.{Leaf}
 use Rattle.key.specs.declared.Parts.{Parts}
+use Rattle.key.specs.declared.Branches.{Branches}
+use Rattle.key.specs.declared.Branches.TheVariants.{Zero, One, Two}
 use Rattle.key.specs.declared.Symbol.{Symbol}
+use Rattle.key.specs.declared.Operation.{Operation}
 use Rattle.key.specs.declared.Node.{Node}
 use Rattle.key.specs.declared.Node.TheVariants.{Const, Unparsed, Arg, Lambda, Op}
+
+-- ---- an operation's thunks
+
+-- the scopes of a record's thunks, in order
+abbrev pub branches_of : Branches → List ℕ
+branches_of Zero = []
+branches_of (One a) = a ∷ []
+branches_of (Two a b) = a ∷ b ∷ []
 
 -- ---- a node's parts
 
 abbrev pub leaf_parts : ℕ → Leaf → Parts
 leaf_parts tag l = record { tag = tag; source = l.source; field = 0; branches = 0; first = 0; second = 0 }
+
+-- how many thunks, and the scopes of the first two: 0 where there is none
+abbrev pub how_many : Branches → ℕ
+how_many Zero = 0
+how_many (One a) = 1
+how_many (Two a b) = 2
+
+abbrev pub first_of : Branches → ℕ
+first_of Zero = 0
+first_of (One a) = a
+first_of (Two a b) = a
+
+abbrev pub second_of : Branches → ℕ
+second_of Zero = 0
+second_of (One a) = 0
+second_of (Two a b) = b
+
+abbrev pub op_parts : Operation → Parts
+op_parts o = record {
+  tag = 4;
+  source = o.source;
+  field = unwrap_or o.field 0;
+  branches = how_many o.branches;
+  first = first_of o.branches;
+  second = second_of o.branches;
+}
 
 abbrev pub parts_of : Node → Parts
 parts_of (Const l) = leaf_parts 0 l
@@ -18,18 +58,22 @@ parts_of (Unparsed l) = leaf_parts 1 l
 parts_of (Arg l) = leaf_parts 2 l
 parts_of (Lambda f) =
     record { tag = 3; source = f.source; field = 0; branches = 0; first = f.first; second = f.body }
-parts_of (Op o) = record {
-  tag = 4;
-  source = o.source;
-  field = o.field;
-  branches = o.branches;
-  first = o.first;
-  second = o.second;
-}
+parts_of (Op o) = op_parts o
 
 abbrev pub choose : Bool → Node → Node → Node
 choose true a b = a
 choose false a b = b
+
+-- the field that a number stands for, 0 for none
+abbrev pub field_in : ℕ → Option ℕ
+field_in zero = None
+field_in (suc n) = Some (suc n)
+
+-- the thunks that a number of them and two scopes stand for
+abbrev pub branches_in : ℕ → ℕ → ℕ → Branches
+branches_in zero a b = Zero
+branches_in (suc zero) a b = One a
+branches_in (suc (suc n)) a b = Two a b
 
 -- the node of these parts
 abbrev pub node_from : Parts → Node
@@ -40,10 +84,8 @@ node_from p =
     (choose (eqb p.tag 3) (Lambda (record { source = p.source; first = p.first; body = p.second }))
     (Op (record {
       source = p.source;
-      field = p.field;
-      branches = p.branches;
-      first = p.first;
-      second = p.second;
+      field = field_in p.field;
+      branches = branches_in p.branches p.first p.second;
     })))))
 
 -- ---- the words
@@ -103,10 +145,20 @@ symbol_at ws s =
 
 -- ---- which symbols fit their words
 
+abbrev pub node_field : Node → Option ℕ
+node_field (Const l) = None
+node_field (Unparsed l) = None
+node_field (Arg l) = None
+node_field (Lambda f) = None
+node_field (Op o) = o.field
+
+-- a field is a number of two bits, and not 0, which stands for none
+abbrev pub FieldFits : Option ℕ → Type 0
+FieldFits field = IfSome field (λ f. (0 < f) × (f < 4))
+
 pub record FitsWords (y : Symbol) : Type 0 where
   pub from : (parts_of y.node).source < 256
-  pub field : (parts_of y.node).field < 4
-  pub branches : (parts_of y.node).branches < 4
+  pub field : FieldFits (node_field y.node)
   pub first : (parts_of y.node).first < 4096
   pub second : (parts_of y.node).second < 4096
   pub kids : y.kids < 4096

@@ -1,10 +1,12 @@
 // Symbols (key.rs), and their five words each in the work memory: words 5s to 5s + 4 are symbol s's.
 // In order: nodes and symbols; a node's parts; the words that they are packed into; a symbol stored, and loaded; its
 // record, its field.
+// That a symbol's words are there (`5 * s + 5 ≤ length work`), and that a number is a symbol's (`s < 512`), stay clauses:
+// they tie a number to words, which a struct of both would only rename.
 #![tactic(auto)]
 
 ghost use Rattle.std.specs.Prelude.{◌≡◌, ◌+◌, ◌*◌, ◌<◌, ◌≤◌, ◌/◌, ◌%◌, length};
-ghost use Rattle.key.specs.Key.{FitsWords, leaf_parts, parts_of, node_from, head, middle, tail};
+ghost use Rattle.key.specs.Key.{FitsWords, leaf_parts, op_parts, parts_of, branches_in, node_from, head, middle, tail};
 ghost use Rattle.key.specs.Key.{parts_in, store_symbol, symbol_at};
 
 // A constant, an unparsed node or an argument: the record that it was made for.
@@ -21,15 +23,21 @@ pub struct Func {
     pub body: u32,
 }
 
-// Any other record. `field` is 1 or 2 for that field of the projections that one record makes, 0 for the record as it
-// stands; the scopes of its thunks, of which there are `branches`. Each is a number as it stands in a word.
+// The scopes of an operation's thunks, of which there are two at most.
+#[derive(Clone, Copy)]
+pub enum Branches {
+    Zero,
+    One(u32),
+    Two(u32, u32),
+}
+
+// Any other record. `field` is 1 or 2 for that field of the projections that one record makes, and none for the record
+// as it stands.
 #[derive(Clone, Copy)]
 pub struct Operation {
     pub source: u32,
-    pub field: u32,
-    pub branches: u32,
-    pub first: u32,
-    pub second: u32,
+    pub field: Option<u32>,
+    pub branches: Branches,
 }
 
 #[derive(Clone, Copy)]
@@ -52,7 +60,8 @@ pub struct Symbol {
     pub levels: u64,
 }
 
-// A node with all fields that any node has.
+// A node with all fields that any node has, as the words hold them: numbers, and 0 for none, since fixed memory holds no
+// enum. Of `first` and `second` an operation has as many as `branches` says.
 #[derive(Clone, Copy)]
 pub struct Parts {
     pub tag: u32,
@@ -74,7 +83,8 @@ const LAMBDA: u32 = 3;
 
 const OP: u32 = 4;
 
-// A node's parts; 0 where it has none. Rules out: a lambda's body's scope as its first argument; another node's tag.
+// A node's parts; 0 where it has none. They are another type's fields, so `parts_of` and `node_of` name each.
+// Rules out: a lambda's body's scope as its first argument; another node's tag.
 pub fn parts_of(node: Node) -> Parts
     ensures { result ≡ parts_of node }
 {
@@ -90,14 +100,25 @@ pub fn parts_of(node: Node) -> Parts
             first: f.first,
             second: f.body,
         },
-        Node::Op(o) => Parts {
-            tag: OP,
-            source: o.source,
-            field: o.field,
-            branches: o.branches,
-            first: o.first,
-            second: o.second,
-        },
+        Node::Op(o) => op_parts(o),
+    }
+}
+
+fn op_parts(o: Operation) -> Parts
+    ensures { result ≡ op_parts o }
+{
+    let (branches, first, second) = match o.branches {
+        Branches::Zero => (0, 0, 0),
+        Branches::One(first) => (1, first, 0),
+        Branches::Two(first, second) => (2, first, second),
+    };
+    Parts {
+        tag: OP,
+        source: o.source,
+        field: o.field.unwrap_or(0),
+        branches,
+        first,
+        second,
     }
 }
 
@@ -128,11 +149,19 @@ fn node_of(p: Parts) -> Node
         }),
         _ => Node::Op(Operation {
             source: p.source,
-            field: p.field,
-            branches: p.branches,
-            first: p.first,
-            second: p.second,
+            field: (p.field != 0).then_some(p.field),
+            branches: branches_in(p),
         }),
+    }
+}
+
+fn branches_in(p: Parts) -> Branches
+    ensures { result ≡ branches_in p.branches p.first p.second }
+{
+    match p.branches {
+        0 => Branches::Zero,
+        1 => Branches::One(p.first),
+        _ => Branches::Two(p.first, p.second),
     }
 }
 
@@ -219,7 +248,8 @@ pub fn source(work: &[u32], s: usize) -> usize
     (a / 8 % 256) as usize
 }
 
-// The field of symbol s, 0 where it is no projection. Rules out: a lambda's unused bits; how many children it has.
+// The field of symbol s, 0 where it is no projection: a number, and no `Option`, since keys are compared by it.
+// Rules out: a lambda's unused bits; how many children it has.
 #[tactic(auto, unfolding(crate::specs::Key::symbol_at))]
 pub fn field(work: &[u32], s: usize) -> u32
     requires { 5 * s + 5 ≤ length work.now }

@@ -88,17 +88,6 @@ module _ {A : Type 0} where
   first-checked n p (c ∷ cs) a (inl h) = rw (h.1, h.0) refl
   first-checked n p (c ∷ cs) a (inr h) = rw h.0 (first-checked n p cs a h.1)
 
-  pub refused_first : (n p : ℕ) (cs : List Check) (a : A) → checked cs a ≡ refused n p → FirstAt n p cs
-  refused_first n p cs a e = go (passes_or-first cs)
-    where
-      go : Passes cs ⊎ ((m : ℕ) × (q : ℕ) × FirstAt m q cs) → FirstAt n p cs
-      go (inl h) = refused_good (sym e ∙ passes_checked cs a h)
-      go (inr (m, q, f)) =
-          let z = refused_parts (sym (first-checked m q cs a f) ∙ e) in
-          let en : m ≡ n = z.0 in
-          let ep : q ≡ p = z.1 in
-          rw (en, ep) at f
-
 -- ---- what a check that fails says
 
 -- P holds of the number and the place of each check that fails, once the checks before it pass

@@ -16,9 +16,10 @@ use Rattle.key.specs.declared.Symbol.{Symbol}
 use Rattle.key.specs.Key.{parts_of, symbol_at}
 use Rattle.symbols.specs.Symbols.{rec_of, model_node, sym_of, syms_of, Sound}
 use Rattle.symbols.proofs.Laws.{sym_at_lem}
-use Rattle.output.specs.Output.{Wrote}
+use Rattle.output.specs.declared.Output.{Output}
+use Rattle.output.specs.Output.{Put}
 use Rattle.text.proofs.Numbers.{numeral-length}
-use Rattle.output.proofs.Wrote.{wrote_then, wrote_both}
+use Rattle.output.proofs.Put.{put_then, put_both}
 use Rattle.text.proofs.Line.{newline}
 use Rattle.lines.specs.Lines.{columns}
 
@@ -29,8 +30,7 @@ space = refl
 -- ---- lengths
 
 -- a number has at most twenty digits
-pub number_ends : (n b : ℕ) {out : List ℕ} {at : ℕ} {o : List ℕ} {p : ℕ} →
-    Wrote out at (numeral n ++ (b ∷ [])) o p → p ≤ at + 21
+pub number_ends : (n b : ℕ) {o o₁ : Output} → Put o (numeral n ++ (b ∷ [])) o₁ → o₁.at ≤ o.at + 21
 number_ends n b w = omega (arith, w.ends, numeral-length n, length-append (numeral n) (b ∷ []))
 
 one_letter : (n : Node) → length (tag_of n) ≡ 1
@@ -46,8 +46,7 @@ unfolding columns hex_byte
 columns-length s n op =
     rw (← space) (simp length-append (omega (arith, numeral-length s, one_letter n)))
 
-pub columns_ends : (s : ℕ) (n : Node) (op : ℕ) {out : List ℕ} {at : ℕ} {o : List ℕ} {p : ℕ} →
-    Wrote out at (columns s n op) o p → p ≤ at + 26
+pub columns_ends : (s : ℕ) (n : Node) (op : ℕ) {o o₁ : Output} → Put o (columns s n op) o₁ → o₁.at ≤ o.at + 26
 columns_ends s n op w = omega (arith, w.ends, columns-length s n op)
 
 yes_or_no : (b : Bool) → length (yes_no b) ≡ 1
@@ -65,24 +64,22 @@ line-length s uses y =
 
 -- ---- a line from its parts
 
-module _ {out : List ℕ} {at : ℕ} {o₁ o₂ o₃ o₄ : List ℕ} {p₁ p₂ p₃ p₄ : ℕ} where
+module _ {o o₁ o₂ o₃ o₄ : Output} where
   pub columns_parts : (s : ℕ) (n : Node) (opcode : ℕ) {t shown : ℕ} → (t ∷ []) ≡ tag_of n →
-      shown ≡ opcode_shown n opcode → Wrote out at (numeral s ++ (32 ∷ [])) o₁ p₁ →
-      Wrote o₁ p₁ (t ∷ 32 ∷ []) o₂ p₂ → Wrote o₂ p₂ (hex_byte shown) o₃ p₃ → Wrote o₃ p₃ (32 ∷ []) o₄ p₄ →
-      Wrote out at (columns s n opcode) o₄ p₄
+      shown ≡ opcode_shown n opcode → Put o (numeral s ++ (32 ∷ [])) o₁ →
+      Put o₁ (t ∷ 32 ∷ []) o₂ → Put o₂ (hex_byte shown) o₃ → Put o₃ (32 ∷ []) o₄ → Put o (columns s n opcode) o₄
   unfolding columns
   columns_parts s n opcode {t} et es w₁ w₂ w₃ w₄ =
-      rw (← et, ← es, ← space) (wrote_then (wrote_then (wrote_both w₁ (t ∷ []) (32 ∷ []) w₂) w₃) w₄)
+      rw (← et, ← es, ← space) (put_then (put_then (put_both w₁ (t ∷ []) (32 ∷ []) w₂) w₃) w₄)
 
   pub line_parts : (s uses : ℕ) (y : Sym) {n : Node} {opcode scope g : ℕ} {hoisted : Bool} → n ≡ y.node →
       opcode ≡ y.rec.opcode → scope ≡ y.scope → hoisted ≡ should_hoist y uses → (g ∷ []) ≡ yes_no hoisted →
-      Wrote out at (columns s n opcode) o₁ p₁ →
-      Wrote o₁ p₁ (numeral scope ++ (32 ∷ [])) o₂ p₂ → Wrote o₂ p₂ (numeral uses ++ (32 ∷ [])) o₃ p₃ →
-      Wrote o₃ p₃ (g ∷ 10 ∷ []) o₄ p₄ → Wrote out at (line s uses y) o₄ p₄
+      Put o (columns s n opcode) o₁ → Put o₁ (numeral scope ++ (32 ∷ [])) o₂ → Put o₂ (numeral uses ++ (32 ∷ [])) o₃ →
+      Put o₃ (g ∷ 10 ∷ []) o₄ → Put o (line s uses y) o₄
   unfolding line columns
   line_parts s uses y {scope = scope} {g = g} en eo es eh eg w₁ w₂ w₃ w₄ =
-      let used = wrote_both (wrote_both w₁ (numeral scope) (32 ∷ []) w₂) (numeral uses) (32 ∷ []) w₃ in
-      rw (← eh, ← eg, ← en, ← eo, ← es, ← newline) (rw space at (wrote_both used (g ∷ []) (10 ∷ []) w₄))
+      let used = put_both (put_both w₁ (numeral scope) (32 ∷ []) w₂) (numeral uses) (32 ∷ []) w₃ in
+      rw (← eh, ← eg, ← en, ← eo, ← es, ← newline) (rw space at (put_both used (g ∷ []) (10 ∷ []) w₄))
 
 -- ---- the columns of a stored symbol
 

@@ -12,8 +12,9 @@ use Rattle.model.specs.Lister.{numeral, line, lines_from, symbol_lines}
 use Rattle.symbols.specs.Symbols.{sym_from, syms_of}
 use Rattle.symbols.proofs.Laws.{syms_length, sym_at_lem}
 use Rattle.gate.specs.Gate.{uses_at}
-use Rattle.output.specs.Output.{Wrote}
-use Rattle.output.proofs.Wrote.{wrote_none, wrote_as, wrote_then, wrote_both}
+use Rattle.output.specs.declared.Output.{Output}
+use Rattle.output.specs.Output.{Put}
+use Rattle.output.proofs.Put.{put_none, put_as, put_then, put_both}
 use Rattle.text.proofs.Line.{newline}
 use Rattle.lines.specs.Lines.{lines_to}
 use Rattle.lines.proofs.Line.{line-length}
@@ -51,23 +52,22 @@ module _ (bs ws : List ℕ) (s : ℕ) where
       let e : 0 + length l ≡ s = omega (arith, syms_length bs ws s) in
       rw (sym_at_lem bs ws (suc s) s (omega arith)) (sym (rw e at (lines_more (uses_at ws) 0 l (sym_from bs l ws s))))
 
-  pub lines_turn : {out o₁ o₂ : List ℕ} {at p₁ p₂ : ℕ} → Wrote out at (lines_to bs ws s) o₁ p₁ →
-      Wrote o₁ p₁ (line s (uses_at ws s) (sym_at (syms_of bs ws (suc s)) s)) o₂ p₂ →
-      Wrote out at (lines_to bs ws (s + 1)) o₂ p₂
-  lines_turn w₁ w₂ = rw (add-one s) (wrote_as lines_next (wrote_then w₁ w₂))
+  pub lines_turn : {o o₁ o₂ : Output} → Put o (lines_to bs ws s) o₁ →
+      Put o₁ (line s (uses_at ws s) (sym_at (syms_of bs ws (suc s)) s)) o₂ → Put o (lines_to bs ws (s + 1)) o₂
+  lines_turn w₁ w₂ = rw (add-one s) (put_as lines_next (put_then w₁ w₂))
 
-  pub lines_end : {out o₁ : List ℕ} {at p₁ : ℕ} → Wrote out at (lines_to bs ws s) o₁ p₁ → p₁ ≤ at + 70 * s
+  pub lines_end : {o o₁ : Output} → Put o (lines_to bs ws s) o₁ → o₁.at ≤ o.at + 70 * s
   lines_end w = omega (arith, w.ends, lines_length (uses_at ws) 0 (syms_of bs ws s), syms_length bs ws s)
 
-pub lines_start : (bs ws : List ℕ) (out : List ℕ) (at : ℕ) → at ≤ length out → Wrote out at (lines_to bs ws 0) out at
+pub lines_start : (bs ws : List ℕ) (o : Output) → o.at ≤ length o.bytes.now → Put o (lines_to bs ws 0) o
 unfolding syms_of lines_from
-lines_start bs ws out at h = wrote_none out at h
+lines_start bs ws o h = put_none o h
 
 -- ---- the whole
 
-pub symbols_parts : (bs ws : List ℕ) (n : ℕ) {out o₁ o₂ o₃ : List ℕ} {p₁ p₂ p₃ : ℕ} →
-    Wrote out 0 (text "symbols ") o₁ p₁ → Wrote o₁ p₁ (numeral n ++ (10 ∷ [])) o₂ p₂ →
-    Wrote o₂ p₂ (lines_to bs ws n) o₃ p₃ → Wrote out 0 (symbol_lines (uses_at ws) (syms_of bs ws n)) o₃ p₃
+pub symbols_parts : (bs ws : List ℕ) (n : ℕ) {o o₁ o₂ o₃ : Output} → Put o (text "symbols ") o₁ →
+    Put o₁ (numeral n ++ (10 ∷ [])) o₂ → Put o₂ (lines_to bs ws n) o₃ →
+    Put o (symbol_lines (uses_at ws) (syms_of bs ws n)) o₃
 unfolding symbol_lines
 symbols_parts bs ws n w₁ w₂ w₃ =
-    rw (syms_length bs ws n) (wrote_then (rw newline at (wrote_both w₁ (numeral n) (10 ∷ []) w₂)) w₃)
+    rw (syms_length bs ws n) (put_then (rw newline at (put_both w₁ (numeral n) (10 ∷ []) w₂)) w₃)

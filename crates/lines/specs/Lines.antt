@@ -5,7 +5,6 @@ use Rattle.model.specs.Text.{text}
 use Rattle.model.specs.Intern.{Node}
 use Rattle.model.specs.Lister.{numeral, hex_byte, tag_of, opcode_shown, lines_from}
 use Rattle.regions.specs.Regions.{SLOTS, WORDS}
-use Rattle.record.specs.Record.{Laid}
 use Rattle.symbols.specs.Symbols.{syms_of, AllSound}
 use Rattle.gate.specs.Gate.{uses_at}
 
@@ -20,7 +19,6 @@ lines_to bs ws n = lines_from (uses_at ws) 0 (syms_of bs ws n)
 
 -- words hold n symbols of the forest
 pub record Listable (bs ws : List ℕ) (n : ℕ) : Type 0 where
-  pub laid : Laid bs
   pub few : n ≤ 512
   pub words : WORDS ≤ length ws
   pub sound : AllSound bs ws SLOTS.size n

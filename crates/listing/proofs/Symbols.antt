@@ -1,4 +1,4 @@
--- Symbols as the pass leaves them in the words. In order: they can be listed; lines by uses that are the same; the lines
+-- Symbols as the pass leaves them in the words. In order: their forest stands; they can be listed; lines by uses that are the same; the lines
 -- are the definition's.
 -- Assumes nothing.
 use Prim.Native.Nat.{ℕ, suc, ◌+◌, ◌<◌}
@@ -13,6 +13,7 @@ use Rattle.model.specs.Gate.{usage}
 use Rattle.model.specs.Call.{interned, reached_of}
 use Rattle.model.specs.Lister.{lines_from, symbol_lines}
 use Rattle.laws.proofs.Apart.{good_inj}
+use Rattle.record.specs.Record.{Laid}
 use Rattle.codec.proofs.Accepting.{accept-passed}
 use Rattle.symbols.specs.Symbols.{syms_of}
 use Rattle.symbols.proofs.Laws.{syms_length}
@@ -20,11 +21,14 @@ use Rattle.gate.specs.Gate.{uses_at}
 use Rattle.lines.specs.Lines.{Listable}
 use Rattle.cse.specs.Call.{Held}
 
+-- the forest stands
+pub held_laid : (bs ws : List ℕ) (n : ℕ) → Held bs ws n → Laid bs
+held_laid bs ws n held = (accept-passed bs (trees_of bs) held.accepted).shaped.sound.laid
+
 pub listable : (bs ws : List ℕ) (n : ℕ) → Held bs ws n → Listable bs ws n
 listable bs ws n held = record {
-  laid = (accept-passed bs (trees_of bs) held.accepted).shaped.sound.laid;
   few = held.arena.scoped.few;
-  words = held.arena.scoped.words;
+  words = held.words;
   sound = held.arena.sound;
 }
 

@@ -7,6 +7,8 @@ ghost use Rattle.regions.specs.Regions.{WORDS};
 ghost use Rattle.cse.specs.Call.{LentOnly};
 ghost use Rattle.listing.specs.Listing.{Listed};
 
+use record::Forest;
+
 // The lister: the main call's pass, lent 65,535 output bytes, decides whether there is a refusal, and leaves the symbols
 // and their uses from the root in the words; the text is written over the output's start, and the answer is its length.
 // What the first 16,384 words hold afterwards is left free.
@@ -19,7 +21,7 @@ pub fn list(forest: &[u8], out: &mut [u8], work: &mut [u32]) -> usize
     ensures lent_only { LentOnly work.old work.new }
 {
     match cse::pass(forest, out, work) {
-        Ok(w) => lines::put_symbols(forest, work, w.symbols as usize, out),
+        Ok(w) => lines::put_symbols(&Forest::new(forest), work, w.symbols as usize, out),
         Err(r) => text::put_refusal(out, u64::from(r.check.number()), u64::from(r.place)),
     }
 }

@@ -1,25 +1,53 @@
--- What is asked and answered of the root: its uses are counted, and its tree is planned.
+-- What is asked and answered of the root: its uses are counted, and its tree is planned. bs are the forest's bytes, ws
+-- the words: n symbols in m scopes, their uses counted, and region PLAN.
 -- Assumes nothing.
-use Rattle.std.specs.Prelude.{ℕ, ◌<◌, ◌≡◌, List, Option}
+use Rattle.std.specs.Prelude.{ℕ, ◌+◌, ◌*◌, ◌<◌, ◌≤◌, ◌≡◌, List, Option, MatchOption, length, get_or}
+use Rattle.model.specs.Tree.{Tree, rows, depth}
 use Rattle.model.specs.Gate.{reachable, usage}
 use Rattle.model.specs.Gate as model
 use Rattle.model.specs.Materialize.{materialize}
+use Rattle.laws.specs.Frame.{Agree, Frame}
+use Rattle.regions.specs.Regions.{PLAN, end}
 use Rattle.symbols.specs.Symbols.{syms_of}
 use Rattle.scopes.specs.Scopes.{scopes_of}
 use Rattle.gate.specs.Gate.{uses_at}
-use Rattle.graph.specs.declared.Graph.{Graph}
+use Rattle.plan.specs.Plan.{plan_from, AllWritable, planned_rows}
 use Rattle.planner.specs.declared.Plan.{Plan}
-use Rattle.planner.specs.Grew.{Grown}
 
-abbrev pub root_graph : List ℕ → List ℕ → Graph → ℕ → model.Graph
-root_graph bs ws g root = reachable (syms_of bs ws g.symbols) (scopes_of ws g.scopes) root
+abbrev pub root_graph : List ℕ → List ℕ → ℕ → ℕ → ℕ → model.Graph
+root_graph bs ws n m root = reachable (syms_of bs ws n) (scopes_of ws m) root
 
--- the uses of the symbols reached from the root are counted
-abbrev pub Counted : List ℕ → List ℕ → Graph → ℕ → Type 0
-Counted bs ws g root = (s : ℕ) → s < g.symbols → uses_at ws s ≡ usage (root_graph bs ws g root) s
+-- the written tree
+abbrev pub root_tree : List ℕ → List ℕ → ℕ → ℕ → ℕ → Tree
+root_tree bs ws n m root = materialize (syms_of bs ws n) (scopes_of ws m) root
 
--- the root's tree is planned, after no rows
-abbrev pub Materialized : List ℕ → List ℕ → Graph → ℕ → List ℕ → Option Plan → Type 0
-Materialized bs ws g root ws' r =
-    Grown bs ws (record { rows = 0; deepest = 0 }) 0
-    (materialize (syms_of bs ws g.symbols) (scopes_of ws g.scopes) root) ws' r
+-- the uses of the symbols reached from the root are counted, in words us
+abbrev pub CountedIn : List ℕ → List ℕ → ℕ → ℕ → ℕ → List ℕ → Type 0
+CountedIn bs ws n m root us = (s : ℕ) → s < n → get_or us s 0 ≡ usage (root_graph bs ws n m root) s
+
+-- and in region USES
+abbrev pub Counted : List ℕ → List ℕ → ℕ → ℕ → ℕ → Type 0
+Counted bs ws n m root = (s : ℕ) → s < n → uses_at ws s ≡ usage (root_graph bs ws n m root) s
+
+-- the plan that planning begins with
+abbrev pub no_rows : Plan
+no_rows = record { rows = 0; deepest = 0 }
+
+-- no word changed but the plan's
+abbrev pub PlanOnly : List ℕ → List ℕ → Type 0
+PlanOnly ws ws' = Frame PLAN.first (end PLAN) ws ws'
+
+-- tree t is plan p. Words of the plan's region past its rows are as they were
+pub record PlannedAs (bs ws : List ℕ) (t : Tree) (ws' : List ℕ) (p : Plan) : Type 0 where
+  pub count : p.rows ≡ length (rows t)
+  pub few : p.rows ≤ 256
+  pub plan : planned_rows bs ws' PLAN.first p.rows ≡ rows t
+  pub writable : AllWritable bs (plan_from ws' PLAN.first p.rows)
+  pub deepest : p.deepest ≡ depth t
+  pub rest : Agree ws ws' (PLAN.first + 3 * p.rows) (end PLAN)
+
+-- the root's tree is planned, unless it has more rows than a plan
+pub record Materialized (bs ws : List ℕ) (n m root : ℕ) (ws' : List ℕ) (r : Option Plan) : Type 0 where
+  pub planned : MatchOption r (256 < length (rows (root_tree bs ws n m root)))
+      (λ p. PlannedAs bs ws (root_tree bs ws n m root) ws' p)
+  pub kept : PlanOnly ws ws'

@@ -5,22 +5,24 @@
 // Where the plan has no room for a row, planning ends.
 // What nests: `build`, `fresh`, `operands`, `operand` once a symbol, with no array. `lambda`, and `thunk` where it gives
 // ids, open a copy of the ids (2 KB), `define` an order (1 KB); these nest once a scope.
+// `last`, `above` and `p` stay three parameters, and `Site` a clause over them: nearly every call changes two or three.
 #![tactic(auto)]
 
 ghost use Rattle.std.specs.Prelude.{◌≡◌, ◌∷◌, [], ℕ, ◌+◌, ◌<◌, ◌≤◌, length, get_or, IfSome, MatchOption};
 ghost use Rattle.model.specs.Materialize.{build_value, process_scope};
 ghost use Rattle.key.specs.declared.Node.TheVariants.{Lambda, Op};
 ghost use Rattle.key.specs.Key.{symbol_at};
-ghost use Rattle.record.specs.Record.{Laid};
+ghost use Rattle.regions.specs.Regions.{PLAN, WORDS};
 ghost use Rattle.planner.specs.Building.{Buildable, operand_tree};
 ghost use Rattle.planner.specs.Planning.{fresh_tree, Site, Plans, Defines, DefinesOver};
-ghost use Rattle.materialize.specs.Materialize.{Counted, Materialized};
+ghost use Rattle.planner.specs.Grew.{Grown};
+ghost use Rattle.materialize.specs.Materialize.{CountedIn, Counted, no_rows, root_tree, Materialized};
 
 use arrayvec::ArrayVec;
-use graph::Graph;
 use key::{Func, Node, Operation};
 use plan::Planned;
-use planner::Plan;
+use planner::{Plan, Source};
+use record::Forest;
 
 // The definitions of a scope: the plan with them, and the last id given.
 #[derive(Clone, Copy, Debug, PartialEq, Eq)]
@@ -34,53 +36,47 @@ struct Defined {
 // Symbol s, as a use where it has an id. Rules out: the value of a symbol that is defined; a use of another id.
 #[cycle(building)]
 fn build(
-    forest: &[u8],
-    work: &mut [u32],
-    g: Graph,
+    source: &Source,
+    plan: &mut [u32],
     s: usize,
     ids: &[u32; 512],
     last: u32,
     above: usize,
     p: Plan,
 ) -> Option<Plan>
-    requires laid { Laid forest.now }
-    requires buildable { Buildable forest.now work.old g.symbols g.scopes }
-    requires site { Site g.symbols s 0 last above p }
-    ensures { Plans forest.now work.old g ids.now p above
-        (λ gr sc env. build_value gr s sc env last) work.new result }
+    requires site { Site source.now.graph.symbols s 0 last above p plan.old }
+    ensures { Plans source.now ids.now plan.old p above
+        (λ gr sc env. build_value gr s sc env last) plan.new result }
 {
     let id = ids[s];
     if id != 0 {
-        return planner::put(work, p, above, Planned::ValUse(id));
+        return planner::put(plan, p, above, Planned::ValUse(id));
     }
-    fresh(forest, work, g, s, ids, last, above, p)
+    fresh(source, plan, s, ids, last, above, p)
 }
 
 // Symbol s, which has no id. An argument outside its lambda is never met; the definition writes a use of 0.
 #[cycle(building)]
 fn fresh(
-    forest: &[u8],
-    work: &mut [u32],
-    g: Graph,
+    source: &Source,
+    plan: &mut [u32],
     s: usize,
     ids: &[u32; 512],
     last: u32,
     above: usize,
     p: Plan,
 ) -> Option<Plan>
-    requires laid { Laid forest.now }
-    requires buildable { Buildable forest.now work.old g.symbols g.scopes }
-    requires site { Site g.symbols s 0 last above p }
-    ensures { Plans forest.now work.old g ids.now p above
-        (fresh_tree s last) work.new result }
+    requires site { Site source.now.graph.symbols s 0 last above p plan.old }
+    ensures { Plans source.now ids.now plan.old p above
+        (fresh_tree s last) plan.new result }
 {
-    match key::load(work, s).node {
+    match key::load(source.graph.words, s).node {
         Node::Const(l) | Node::Unparsed(l) => {
-            planner::put(work, p, above, Planned::Copy(l.source))
+            planner::put(plan, p, above, Planned::Copy(l.source))
         }
-        Node::Arg(_) => planner::put(work, p, above, Planned::ValUse(0)),
-        Node::Lambda(f) => lambda(forest, work, g, s, f, ids, last, above, p),
-        Node::Op(o) => operands(forest, work, g, s, o, ids, last, above, p),
+        Node::Arg(_) => planner::put(plan, p, above, Planned::ValUse(0)),
+        Node::Lambda(f) => lambda(source, plan, s, f, ids, last, above, p),
+        Node::Op(o) => operands(source, plan, s, o, ids, last, above, p),
     }
 }
 
@@ -89,9 +85,8 @@ fn fresh(
 // Operation s with its operands.
 #[cycle(building)]
 fn operands(
-    forest: &[u8],
-    work: &mut [u32],
-    g: Graph,
+    source: &Source,
+    plan: &mut [u32],
     s: usize,
     o: Operation,
     ids: &[u32; 512],
@@ -99,21 +94,17 @@ fn operands(
     above: usize,
     p: Plan,
 ) -> Option<Plan>
-    requires laid { Laid forest.now }
-    requires buildable { Buildable forest.now work.old g.symbols g.scopes }
-    requires site { Site g.symbols s 0 last above p }
-    requires s_value { (symbol_at work.old s).node ≡ Op o }
-    ensures { Plans forest.now work.old g ids.now p above
-        (fresh_tree s last) work.new result }
+    requires site { Site source.now.graph.symbols s 0 last above p plan.old }
+    requires s_value { (symbol_at source.now.graph.words.now s).node ≡ Op o }
+    ensures { Plans source.now ids.now plan.old p above
+        (fresh_tree s last) plan.new result }
 {
-    let opcode = record::opcode(forest, o.source as usize);
-    let y = key::load(work, s);
-    let at = regions::SLOTS + y.kids as usize;
-    let mut q = planner::put(work, p, above, planner::row_of(o))?;
-    for j in 0..y.count as usize {
-        let kid = work[at + j] as usize;
+    let opcode = source.forest.opcode(o.source as usize);
+    let kids = graph::children(source.graph.words, key::load(source.graph.words, s));
+    let mut q = planner::put(plan, p, above, planner::row_of(o))?;
+    for (j, &kid) in kids.iter().enumerate() {
         let scope = planner::operand_scope(opcode, o, j);
-        q = operand(forest, work, g, kid, scope, ids, last, above + 1, q)?;
+        q = operand(source, plan, kid as usize, scope, ids, last, above + 1, q)?;
     }
     Some(q)
 }
@@ -121,9 +112,8 @@ fn operands(
 // One operand, in its parent's scope or in a thunk of its own.
 #[cycle(building)]
 fn operand(
-    forest: &[u8],
-    work: &mut [u32],
-    g: Graph,
+    source: &Source,
+    plan: &mut [u32],
     s: usize,
     scope: Option<u32>,
     ids: &[u32; 512],
@@ -131,16 +121,14 @@ fn operand(
     above: usize,
     p: Plan,
 ) -> Option<Plan>
-    requires laid { Laid forest.now }
-    requires buildable { Buildable forest.now work.old g.symbols g.scopes }
-    requires site { Site g.symbols s 600 last above p }
-    requires scope_low { IfSome scope (λ b. b < g.scopes) }
-    ensures { Plans forest.now work.old g ids.now p above
-        (λ gr sc env. operand_tree scope gr s sc env last) work.new result }
+    requires site { Site source.now.graph.symbols s 600 last above p plan.old }
+    requires scope_low { IfSome scope (λ b. b < source.now.graph.scopes) }
+    ensures { Plans source.now ids.now plan.old p above
+        (λ gr sc env. operand_tree scope gr s sc env last) plan.new result }
 {
     match scope {
-        None => build(forest, work, g, s, ids, last, above, p),
-        Some(sc) => thunk(forest, work, g, s, sc as usize, ids, last, above, p),
+        None => build(source, plan, s, ids, last, above, p),
+        Some(sc) => thunk(source, plan, s, sc as usize, ids, last, above, p),
     }
 }
 
@@ -149,9 +137,8 @@ fn operand(
 // The scope of a thunk. If it gives ids, it has a copy of them, so those that it gives are not known outside.
 #[cycle(building)]
 fn thunk(
-    forest: &[u8],
-    work: &mut [u32],
-    g: Graph,
+    source: &Source,
+    plan: &mut [u32],
     root: usize,
     sc: usize,
     ids: &[u32; 512],
@@ -159,27 +146,24 @@ fn thunk(
     above: usize,
     p: Plan,
 ) -> Option<Plan>
-    requires laid { Laid forest.now }
-    requires buildable { Buildable forest.now work.old g.symbols g.scopes }
-    requires site { Site g.symbols root 600 last above p }
-    requires sc_lt_scopes { sc < g.scopes }
-    ensures { Plans forest.now work.old g ids.now p above
-        (λ gr x env. process_scope gr (build_value gr) root sc env last) work.new result }
+    requires site { Site source.now.graph.symbols root 600 last above p plan.old }
+    requires sc_lt_scopes { sc < source.now.graph.scopes }
+    ensures { Plans source.now ids.now plan.old p above
+        (λ gr at env. process_scope gr (build_value gr) root sc env last) plan.new result }
 {
-    if !planner::any_member(forest, work, g, root, sc, ids) {
-        return build(forest, work, g, root, ids, last, above, p);
+    if !source.any_member(root, sc, ids) {
+        return build(source, plan, root, ids, last, above, p);
     }
     let mut map = *ids;
-    define(forest, work, g, root, sc, &mut map, last, above, p)
+    define(source, plan, root, sc, &mut map, last, above, p)
 }
 
 // Lambda s. Its arguments get the ids after `last`; the first definition in its body gets the second after them.
 // Rules out: the first definition numbered right after the arguments.
 #[cycle(building)]
 fn lambda(
-    forest: &[u8],
-    work: &mut [u32],
-    g: Graph,
+    source: &Source,
+    plan: &mut [u32],
     s: usize,
     f: Func,
     ids: &[u32; 512],
@@ -187,24 +171,20 @@ fn lambda(
     above: usize,
     p: Plan,
 ) -> Option<Plan>
-    requires laid { Laid forest.now }
-    requires buildable { Buildable forest.now work.old g.symbols g.scopes }
-    requires site { Site g.symbols s 0 last above p }
-    requires s_value { (symbol_at work.old s).node ≡ Lambda f }
-    ensures { Plans forest.now work.old g ids.now p above
-        (fresh_tree s last) work.new result }
+    requires site { Site source.now.graph.symbols s 0 last above p plan.old }
+    requires s_value { (symbol_at source.now.graph.words.now s).node ≡ Lambda f }
+    ensures { Plans source.now ids.now plan.old p above
+        (fresh_tree s last) plan.new result }
 {
-    let count = record::aux(forest, f.source as usize);
-    let y = key::load(work, s);
-    let root = work[regions::SLOTS + y.kids as usize] as usize;
-    let q = planner::put(work, p, above, Planned::Lambda(f.source, last))?;
+    let count = source.forest.aux(f.source as usize);
+    let root = graph::children(source.graph.words, key::load(source.graph.words, s))[0] as usize;
+    let q = planner::put(plan, p, above, Planned::Lambda(f.source, last))?;
     let mut map = *ids;
     planner::number(&mut map, f.first as usize, usize::from(count), last);
     let next = last + u32::from(count) + 1;
     define(
-        forest,
-        work,
-        g,
+        source,
+        plan,
         root,
         f.body as usize,
         &mut map,
@@ -218,9 +198,8 @@ fn lambda(
 // Rules out: a block around a result without definitions; one definition left out of its block.
 #[cycle(building)]
 fn define(
-    forest: &[u8],
-    work: &mut [u32],
-    g: Graph,
+    source: &Source,
+    plan: &mut [u32],
     root: usize,
     sc: usize,
     map: &mut [u32; 512],
@@ -228,35 +207,32 @@ fn define(
     above: usize,
     p: Plan,
 ) -> Option<Plan>
-    requires laid { Laid forest.now }
-    requires buildable { Buildable forest.now work.old g.symbols g.scopes }
-    requires site { Site g.symbols root 600 last above p }
-    requires sc_lt_scopes { sc < g.scopes }
-    ensures { Plans forest.now work.old g map.old p above
-        (λ gr x env. process_scope gr (build_value gr) root sc env last) work.new result }
+    requires site { Site source.now.graph.symbols root 600 last above p plan.old }
+    requires sc_lt_scopes { sc < source.now.graph.scopes }
+    ensures { Plans source.now map.old plan.old p above
+        (λ gr at env. process_scope gr (build_value gr) root sc env last) plan.new result }
 {
-    if !planner::any_member(forest, work, g, root, sc, map) {
-        return build(forest, work, g, root, map, last, above, p);
+    if !source.any_member(root, sc, map) {
+        return build(source, plan, root, map, last, above, p);
     }
     let mut order = ArrayVec::new();
-    schedule::schedule(forest, work, g, root, sc, &mut order);
+    schedule::schedule(source.forest, &source.graph, root, sc, &mut order);
     let order = order.as_slice();
-    let k = planner::members(forest, work, g, order, sc, map);
+    let k = source.members(order, sc, map);
     // a member need not stand in the order
     if k == 0 {
-        return build(forest, work, g, root, map, last, above, p);
+        return build(source, plan, root, map, last, above, p);
     }
-    let q = planner::put(work, p, above, Planned::Block(k + 1))?;
-    let d = definitions(forest, work, g, root, sc, order, map, last, above + 1, q)?;
-    build(forest, work, g, root, map, d.last, above + 1, d.plan)
+    let q = planner::put(plan, p, above, Planned::Block(k + 1))?;
+    let d = definitions(source, plan, root, sc, order, map, last, above + 1, q)?;
+    build(source, plan, root, map, d.last, above + 1, d.plan)
 }
 
 // The definitions of the symbols of an order, none of which is higher than `root`.
 #[cycle(building)]
 fn definitions(
-    forest: &[u8],
-    work: &mut [u32],
-    g: Graph,
+    source: &Source,
+    plan: &mut [u32],
     root: usize,
     sc: usize,
     order: &[u16],
@@ -265,29 +241,17 @@ fn definitions(
     above: usize,
     p: Plan,
 ) -> Option<Defined>
-    requires laid { Laid forest.now }
-    requires buildable { Buildable forest.now work.old g.symbols g.scopes }
-    requires site { Site g.symbols root 590 last above p }
+    requires site { Site source.now.graph.symbols root 590 last above p plan.old }
     requires order_bound { length order.now ≤ 512 }
     requires by_index { (k : ℕ) → k < length order.now → get_or order.now k 0 ≤ root }
     ensures { MatchOption result
-        (DefinesOver forest.now work.old g map.old p sc order.now last work.new)
-        (λ d. Defines forest.now work.old g map.old p above sc order.now last
-        (length order.now) work.new map.new d.plan d.last) }
+        (DefinesOver source.now map.old p sc order.now last)
+        (λ d. Defines source.now map.old plan.old p above sc order.now last
+        (length order.now) plan.new map.new d.plan d.last) }
 {
     let mut d = Defined { plan: p, last };
     for &s in order {
-        d = definition(
-            forest,
-            work,
-            g,
-            usize::from(s),
-            sc,
-            map,
-            d.last,
-            above,
-            d.plan,
-        )?;
+        d = definition(source, plan, usize::from(s), sc, map, d.last, above, d.plan)?;
     }
     Some(d)
 }
@@ -296,9 +260,8 @@ fn definitions(
 // Rules out: a value that is a use of itself.
 #[cycle(building)]
 fn definition(
-    forest: &[u8],
-    work: &mut [u32],
-    g: Graph,
+    source: &Source,
+    plan: &mut [u32],
     s: usize,
     sc: usize,
     map: &mut [u32; 512],
@@ -306,41 +269,69 @@ fn definition(
     above: usize,
     p: Plan,
 ) -> Option<Defined>
-    requires laid { Laid forest.now }
-    requires buildable { Buildable forest.now work.old g.symbols g.scopes }
-    requires site { Site g.symbols s 10 last above p }
+    requires site { Site source.now.graph.symbols s 10 last above p plan.old }
     ensures { MatchOption result
-        (DefinesOver forest.now work.old g map.old p sc (s ∷ []) last work.new)
-        (λ d. Defines forest.now work.old g map.old p above sc (s ∷ []) last 1
-        work.new map.new d.plan d.last) }
+        (DefinesOver source.now map.old p sc (s ∷ []) last)
+        (λ d. Defines source.now map.old plan.old p above sc (s ∷ []) last 1
+        plan.new map.new d.plan d.last) }
 {
-    if planner::member(forest, work, g, s, sc, map) {
+    if source.member(s, sc, map) {
         let id = last + 1;
-        let q = planner::put(work, p, above, Planned::ValDef(id))?;
-        let plan = build(forest, work, g, s, map, last, above + 1, q)?;
+        let q = planner::put(plan, p, above, Planned::ValDef(id))?;
+        let r = build(source, plan, s, map, last, above + 1, q)?;
         map[s] = id;
-        return Some(Defined { plan, last: id });
+        return Some(Defined { plan: r, last: id });
     }
     Some(Defined { plan: p, last })
 }
 
 // ---- the root
 
-// Plans the written tree of a root's symbol, in region PLAN; how many rows, and how deep, or none if it has more than
-// 256 records. The uses are counted (gate).
-// Rules out: a tree for a symbol that is used twice written twice; a plan of the rows past the 256th; a word of the
-// region past the rows changed.
-pub fn materialize(forest: &[u8], work: &mut [u32], g: Graph, root: usize) -> Option<Plan>
-    requires laid { Laid forest.now }
-    requires buildable { Buildable forest.now work.old g.symbols g.scopes }
-    requires root_lt_symbols { root < g.symbols }
-    requires counted { Counted forest.now work.old g root }
-    ensures { Materialized forest.now work.old g root work.new result }
+// Plans the written tree of a root's symbol, in words apart from those of its graph and its counts.
+fn plan_root<'a>(
+    forest: &'a Forest<'a>,
+    words: &'a [u32],
+    symbols: usize,
+    scopes: usize,
+    uses: &'a [u32],
+    plan: &mut [u32],
+    root: usize,
+) -> Option<Plan>
+    requires buildable { Buildable forest.now words.now symbols scopes }
+    requires long { (symbols ≤ length uses.now) × (PLAN.size ≤ length plan.old) }
+    requires root_lt_symbols { root < symbols }
+    requires counted { CountedIn forest.now words.now symbols scopes root uses.now }
+    ensures { Grown forest.now plan.old no_rows 0 (root_tree forest.now words.now symbols scopes root) plan.new result }
 {
+    let source = Source::new(forest, words, symbols, scopes, uses);
     let mut map = [0; 512];
     let p = Plan {
         rows: 0,
         deepest: 0,
     };
-    define(forest, work, g, root, 0, &mut map, 0, 0, p)
+    define(&source, plan, root, 0, &mut map, 0, 0, p)
+}
+
+// Plans the written tree of a root's symbol, in region PLAN; how many rows, and how deep, or none if it has more than
+// 256 records. The uses are counted (gate).
+// Rules out: a tree for a symbol that is used twice written twice; a plan of the rows past the 256th; a word of the
+// region past the rows changed.
+pub fn materialize(
+    forest: &Forest,
+    work: &mut [u32],
+    symbols: usize,
+    scopes: usize,
+    root: usize,
+) -> Option<Plan>
+    requires buildable { Buildable forest.now work.old symbols scopes }
+    requires long { WORDS ≤ length work.old }
+    requires root_lt_symbols { root < symbols }
+    requires counted { Counted forest.now work.old symbols scopes root }
+    ensures { Materialized forest.now work.old symbols scopes root work.new result }
+{
+    let (made, rest) = work.split_at_mut(regions::PLAN);
+    let (plan, counts) = rest.split_at_mut(planner::WORDS);
+    let uses = &counts[regions::USES - regions::PLAN - planner::WORDS..];
+    // the forest is lent again, for as long as the words
+    plan_root(&*forest, made, symbols, scopes, uses, plan, root)
 }

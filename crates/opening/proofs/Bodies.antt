@@ -68,7 +68,7 @@ module _ {bs ws : List ℕ} {st : State} {cur first count : ℕ} (rep : Rep bs w
   body_abs t is =
       scope_abs rep few word t t is cur (Some (range first count)) (abs_of bs ws t st).tables
       (tables_agree ws ws₁ t st.entries is (scope_same rep few word).entries)
-      (scopes_lambda ws st.scopes cur (omega (arith, rep.arena.scoped.words)) current (omega arith) first count low
+      (scopes_lambda ws st.scopes cur (omega (arith, rep.words)) current (omega arith) first count low
       (omega arith))
 
   -- ---- what holds of it
@@ -77,7 +77,7 @@ module _ {bs ws : List ℕ} {st : State} {cur first count : ℕ} (rep : Rep bs w
       Rep bs ws₁ (with_scope st)
   body_rep own =
       scope_rep rep few word
-      (nested_lambda ws st.scopes cur (omega (arith, rep.arena.scoped.words)) current (omega arith) first count low (omega arith)
+      (nested_lambda ws st.scopes cur (omega (arith, rep.words)) current (omega arith) first count low (omega arith)
       rep.arena.scoped.nested)
       (λ xs e. subst (Every (AtLevel ws st.symbols (level_of word)))
       (same_Some _ _ (sym word_args ∙ e))

@@ -29,6 +29,7 @@ module _ (bs ws : List ℕ) (t : Tables) (st : State) where
 pub readings_rep : (bs ws : List ℕ) (st : State) (n : ℕ) → Rep bs ws st → st.readings + n ≤ 2048 →
     Rep bs ws (with_readings st n)
 readings_rep bs ws st n rep few = record {
+  words = rep.words;
   arena = rep.arena;
   slots = rep.slots;
   sourced = rep.sourced;

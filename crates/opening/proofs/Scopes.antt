@@ -43,7 +43,7 @@ module _ {bs ws : List ℕ} {st : State} (rep : Rep bs ws st) (few : st.scopes �
       (omega arith)
 
   pub scope_new : scope_word ws₁ st.scopes ≡ w
-  scope_new = get_or-set_same ws (SCOPES.first + st.scopes) w 0 (omega (arith, rep.arena.scoped.words))
+  scope_new = get_or-set_same ws (SCOPES.first + st.scopes) w 0 (omega (arith, rep.words))
 
   pub scope_same : Same ws ws₁ st
   scope_same = record {
@@ -96,7 +96,7 @@ module _ {bs ws : List ℕ} {st : State} (rep : Rep bs ws st) (few : st.scopes �
     arena_more = record {
       scoped = record {
         few = rep.arena.scoped.few;
-        words = old.arena.scoped.words;
+        long = old.arena.scoped.long;
         some_scope = omega arith;
         few_scopes = omega arith;
         nested = nested;
@@ -118,6 +118,7 @@ module _ {bs ws : List ℕ} {st : State} (rep : Rep bs ws st) (few : st.scopes �
 
     pub scope_rep : Rep bs ws₁ (with_scope st)
     scope_rep = record {
+      words = old.words;
       arena = arena_more;
       slots = old.slots;
       sourced = old.sourced;

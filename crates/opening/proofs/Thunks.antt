@@ -38,7 +38,7 @@ module _ {bs ws : List ℕ} {st : State} {cur : ℕ} (rep : Rep bs ws st) (few :
   pub thunk_rep : Rep bs ws₁ (with_scope st)
   thunk_rep =
       scope_rep rep few (thunk_word ws cur)
-      (nested_thunk ws st.scopes cur (omega (arith, rep.arena.scoped.words)) current (omega arith) rep.arena.scoped.nested)
+      (nested_thunk ws st.scopes cur (omega (arith, rep.words)) current (omega arith) rep.arena.scoped.nested)
       (λ xs e. none_some (sym word_args ∙ e))
 
   module _ (t : Tables) (is : Open t st.entries) (room : length t < 64) where
@@ -49,7 +49,7 @@ module _ {bs ws : List ℕ} {st : State} {cur : ℕ} (rep : Rep bs ws st) (few :
         (opened-tables t st.entries is room ws₁
         ∙ ap (λ (ts : List (List ℕ)). [] ∷ ts)
         (tables_agree ws ws₁ t st.entries is (scope_same rep few (thunk_word ws cur)).entries))
-        (scopes_thunk ws st.scopes cur (omega (arith, rep.arena.scoped.words)) current (omega arith))
+        (scopes_thunk ws st.scopes cur (omega (arith, rep.words)) current (omega arith))
 
 -- ---- its table dropped: t are the tables around it, and there were `top` entries before it
 
@@ -63,6 +63,7 @@ module _ (bs ws : List ℕ) (t : Tables) (st : State) (top : ℕ) (is : Open t t
 
     pub closed_rep : Rep bs ws (thunk_closed st top)
     closed_rep = record {
+      words = rep.words;
       arena = rep.arena;
       slots = rep.slots;
       sourced = rep.sourced;

@@ -1,42 +1,61 @@
-// Bytes put over an output, front to back: one, a number, a run of them. Each function gives the place after its bytes.
+// Bytes put over an output, front to back. In order: an output with the place that it has come to; what is put there:
+// one byte, a number, bytes in a row. The rest of the output is as it was.
+// `Room` stays a clause: how much is asked differs from call to call.
 #![tactic(auto)]
 
-ghost use Rattle.std.specs.Prelude.{[], ◌∷◌, ◌+◌, ◌<◌, ◌≤◌, length};
+ghost use Rattle.std.specs.Prelude.{◌≡◌, [], ◌∷◌, ◌<◌, length};
 ghost use Rattle.model.specs.Bytes.{put16, put32};
-ghost use Rattle.output.specs.Output.{Wrote};
+ghost use Rattle.output.specs.Output.{Room, Put};
 
-// One byte at `at`. Rules out: the byte after it touched; `at` itself as the next place.
-pub fn put_byte(out: &mut [u8], at: usize, b: u8) -> usize
-    requires { at + 1 ≤ length out.old }
-    ensures { Wrote out.old at (b ∷ []) out.new result }
-{
-    out[at] = b;
-    at + 1
+// An output, and the place at which the next byte goes.
+#[derive(Drop)]
+pub struct Output<'a> {
+    pub bytes: &'a mut [u8],
+    pub at: usize,
 }
 
-// A 16-bit number at `at`. Rules out: the high byte first; the byte after it touched.
-pub fn put_16(out: &mut [u8], at: usize, n: usize) -> usize
-    requires at_in_bounds { at + 2 ≤ length out.old }
-    requires n_bound { n < 65536 }
-    ensures { Wrote out.old at (put16 n) out.new result }
-{
-    put_bytes(out, at, &(n as u16).to_le_bytes())
-}
+impl<'a> Output<'a> {
+    // These bytes, from their start on. Rules out: other memory; a place past the start.
+    pub fn new(bytes: &'a mut [u8]) -> Output<'a>
+        ensures same { result.bytes.ghost_name ≡ bytes.entry.ghost_name }
+        ensures start { (result.bytes.now ≡ bytes.old) × (result.at ≡ 0) }
+    {
+        Output { bytes, at: 0 }
+    }
 
-// A 32-bit number at `at`. Rules out: the high byte first; the byte after it touched.
-pub fn put_32(out: &mut [u8], at: usize, n: u32) -> usize
-    requires { at + 4 ≤ length out.old }
-    ensures { Wrote out.old at (put32 n) out.new result }
-{
-    put_bytes(out, at, &n.to_le_bytes())
-}
+    // One byte. Rules out: the byte after it touched; the same place as the next.
+    pub fn put_byte(&mut self, b: u8)
+        requires { Room self.old 1 }
+        ensures { Put self.old (b ∷ []) self.new }
+    {
+        self.bytes[self.at] = b;
+        self.at += 1;
+    }
 
-// Bytes in a row, from `at` on. Rules out: the last one left out; a byte past their end touched.
-pub fn put_bytes(out: &mut [u8], at: usize, bytes: &[u8]) -> usize
-    requires { at + length bytes.now ≤ length out.old }
-    ensures { Wrote out.old at bytes.now out.new result }
-{
-    let next = at + bytes.len();
-    out[at..next].copy_from_slice(bytes);
-    next
+    // A 16-bit number. Rules out: the high byte first; the byte after it touched.
+    pub fn put_16(&mut self, n: usize)
+        requires room { Room self.old 2 }
+        requires n_bound { n < 65536 }
+        ensures { Put self.old (put16 n) self.new }
+    {
+        self.put_bytes(&(n as u16).to_le_bytes());
+    }
+
+    // A 32-bit number. Rules out: the high byte first; the byte after it touched.
+    pub fn put_32(&mut self, n: u32)
+        requires { Room self.old 4 }
+        ensures { Put self.old (put32 n) self.new }
+    {
+        self.put_bytes(&n.to_le_bytes());
+    }
+
+    // Bytes in a row. Rules out: the last one left out; a byte past their end touched.
+    pub fn put_bytes(&mut self, bytes: &[u8])
+        requires { Room self.old (length bytes.now) }
+        ensures { Put self.old bytes.now self.new }
+    {
+        let next = self.at + bytes.len();
+        self.bytes[self.at..next].copy_from_slice(bytes);
+        self.at = next;
+    }
 }

@@ -13,13 +13,14 @@ use Rattle.std.proofs.lemmas.List.{take_more}
 use Rattle.std.specs.List.{list_any}
 use Rattle.std.proofs.lemmas.Bool.Decides.{nat_tests}
 use Rattle.model.specs.Lists.{is_in, add, union}
-use Rattle.model.specs.Gate.{Graph}
+use Rattle.model.specs.Gate as model
 use Rattle.laws.specs.Members.{Under}
 use Rattle.laws.proofs.Members.{add_cases}
 use Rattle.laws.proofs.Once.{add_once}
 use Rattle.laws.proofs.Short.{once_short}
 use Rattle.laws.proofs.Adding.{union-last}
-use Rattle.graph.specs.Graph.{graph_of}
+use Rattle.graph.specs.declared.held.Graph.{Graph}
+use Rattle.graph.specs.Tests.{held_in}
 use Rattle.outsiders.specs.Outsiders.{Held, Listed}
 
 -- ---- a search
@@ -93,17 +94,17 @@ union_next list run j d lt e =
 
 -- ---- what becomes of a list
 
-module _ {bs ws : List ℕ} {n m : ℕ} where
-  pub listed_none : {list : List ℕ} → Held n list → Listed bs ws n m (λ g o. o) list list
+module _ {bs : List ℕ} {g : Graph} where
+  pub listed_none : {list : List ℕ} → Held g.symbols list → Listed bs g (λ h o. o) list list
   listed_none h = record { held = h; is = λ slots. refl }
 
-  pub listed_as : {f h : Graph → List ℕ → List ℕ} {a b : List ℕ} → Listed bs ws n m f a b →
-      ((slots o : List ℕ) → f (graph_of bs ws n m slots) o ≡ h (graph_of bs ws n m slots) o) → Listed bs ws n m h a b
+  pub listed_as : {f h : model.Graph → List ℕ → List ℕ} {a b : List ℕ} → Listed bs g f a b →
+      ((slots o : List ℕ) → f (held_in g bs slots) o ≡ h (held_in g bs slots) o) → Listed bs g h a b
   listed_as {a = a} p e = record { held = p.held; is = λ slots. p.is slots ∙ e slots a }
 
-  pub listed_then : {f h : Graph → List ℕ → List ℕ} {a b c : List ℕ} → Listed bs ws n m f a b → Listed bs ws n m h b c →
-      Listed bs ws n m (λ g o. h g (f g o)) a c
+  pub listed_then : {f h : model.Graph → List ℕ → List ℕ} {a b c : List ℕ} → Listed bs g f a b → Listed bs g h b c →
+      Listed bs g (λ k o. h k (f k o)) a c
   listed_then {h = h} p q = record {
     held = q.held;
-    is = λ slots. q.is slots ∙ ap (h (graph_of bs ws n m slots)) (p.is slots);
+    is = λ slots. q.is slots ∙ ap (h (held_in g bs slots)) (p.is slots);
   }

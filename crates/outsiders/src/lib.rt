@@ -10,12 +10,12 @@ ghost use Rattle.model.specs.Lists.{add, union};
 ghost use Rattle.model.specs.Gate.{sym_of};
 ghost use Rattle.model.specs.Schedule.{operands, local_dep_order, outsiders};
 ghost use Rattle.laws.specs.Members.{Under};
-ghost use Rattle.record.specs.Record.{Laid};
-ghost use Rattle.graph.specs.Graph.{Arena, Scoped};
+ghost use Rattle.graph.specs.Tests.{Over};
 ghost use Rattle.outsiders.specs.Outsiders.{offered, Held, Listed};
 
 use arrayvec::ArrayVec;
 use graph::Graph;
+use record::Forest;
 
 // An entry of a run of symbols: a word of the work memory, or an entry of a list. `numbers` are the symbols of a run.
 pub trait Entry: Copy {
@@ -79,81 +79,62 @@ pub fn add_run(run: &[u32], list: &mut ArrayVec<u16, 512>)
 }
 
 // With d, if it is an outsider that the list has not.
-fn offer(work: &[u32], g: Graph, cs: usize, d: usize, list: &mut ArrayVec<u16, 512>)
-    requires scoped { Scoped work.now g.symbols g.scopes }
-    requires d_lt_symbols { d < g.symbols }
-    requires held { Held g.symbols list.old.items }
-    ensures { (bs : List ℕ) → Listed bs work.now g.symbols g.scopes (offered cs (d ∷ [])) list.old.items
-        list.new.items }
+// `Held` stays a clause of lists: its bound is the graph's, so a type of such lists would have to carry the graph.
+fn offer(g: &Graph, cs: usize, d: usize, list: &mut ArrayVec<u16, 512>)
+    requires d_lt_symbols { d < g.now.symbols }
+    requires held { Held g.now.symbols list.old.items }
+    ensures { (bs : List ℕ) → Listed bs g.now (offered cs (d ∷ [])) list.old.items list.new.items }
 {
-    if graph::is_outsider(work, g, cs, d) {
+    if g.is_outsider(cs, d) {
         add(d, list);
     }
 }
 
 // With the outsiders of scope `cs` among the symbols of a run, each once.
 // Rules out: an argument among them; one that the list has already, put there again.
-pub fn offer_run<T: Entry>(
-    work: &[u32],
-    g: Graph,
-    cs: usize,
-    run: &[T],
-    list: &mut ArrayVec<u16, 512>,
-)
-    requires scoped { Scoped work.now g.symbols g.scopes }
-    requires below { Under g.symbols (T.numbers run.now) }
-    requires held { Held g.symbols list.old.items }
-    ensures { (bs : List ℕ) → Listed bs work.now g.symbols g.scopes (offered cs (T.numbers run.now)) list.old.items
-        list.new.items }
+pub fn offer_run<T: Entry>(g: &Graph, cs: usize, run: &[T], list: &mut ArrayVec<u16, 512>)
+    requires below { Under g.now.symbols (T.numbers run.now) }
+    requires held { Held g.now.symbols list.old.items }
+    ensures { (bs : List ℕ) → Listed bs g.now (offered cs (T.numbers run.now)) list.old.items list.new.items }
 {
     for &d in run {
-        offer(work, g, cs, d.symbol(), list);
+        offer(g, cs, d.symbol(), list);
     }
 }
 
 // With the outsiders among the operands of a record with this opcode that are thunks, or among those that are none:
 // `thunks` says which, as in the definition (`operands`).
 fn offer_operands(
-    work: &[u32],
-    g: Graph,
+    g: &Graph,
     cs: usize,
     opcode: u8,
     thunks: bool,
     run: &[u32],
     list: &mut ArrayVec<u16, 512>,
 )
-    requires scoped { Scoped work.now g.symbols g.scopes }
-    requires below { Under g.symbols run.now }
-    requires held { Held g.symbols list.old.items }
-    ensures { (bs : List ℕ) → Listed bs work.now g.symbols g.scopes (offered cs (operands thunks opcode 0 run.now))
-        list.old.items list.new.items }
+    requires below { Under g.now.symbols run.now }
+    requires held { Held g.now.symbols list.old.items }
+    ensures { (bs : List ℕ) → Listed bs g.now (offered cs (operands thunks opcode 0 run.now)) list.old.items
+        list.new.items }
 {
     for (j, &d) in run.iter().enumerate() {
         if shape::is_thunked(opcode, j) == thunks {
-            offer(work, g, cs, d as usize, list);
+            offer(g, cs, d as usize, list);
         }
     }
 }
 
 // With the outsiders of scope `cs` among the children of s, thunks first (`local_dep_order`).
 // Rules out: the children in the order in which they stand; an argument among them.
-pub fn offer_kids(
-    forest: &[u8],
-    work: &[u32],
-    g: Graph,
-    cs: usize,
-    s: usize,
-    list: &mut ArrayVec<u16, 512>,
-)
-    requires laid { Laid forest.now }
-    requires arena { Arena forest.now work.now g.symbols g.scopes }
-    requires s_lt_symbols { s < g.symbols }
-    requires held { Held g.symbols list.old.items }
-    ensures { Listed forest.now work.now g.symbols g.scopes (λ h. outsiders h cs (local_dep_order (sym_of h s)))
-        list.old.items list.new.items }
+pub fn offer_kids(forest: &Forest, g: &Graph, cs: usize, s: usize, list: &mut ArrayVec<u16, 512>)
+    requires arena { Over forest.now g.now }
+    requires s_lt_symbols { s < g.now.symbols }
+    requires held { Held g.now.symbols list.old.items }
+    ensures { Listed forest.now g.now (λ h. outsiders h cs (local_dep_order (sym_of h s))) list.old.items
+        list.new.items }
 {
-    let opcode = record::opcode(forest, key::source(work, s));
-    let run = graph::children(work, key::load(work, s));
-    offer_operands(work, g, cs, opcode, true, run, list);
-    offer_operands(work, g, cs, opcode, false, run, list);
+    let opcode = forest.opcode(key::source(g.words, s));
+    let run = graph::children(g.words, key::load(g.words, s));
+    offer_operands(g, cs, opcode, true, run, list);
+    offer_operands(g, cs, opcode, false, run, list);
 }

@@ -1,4 +1,4 @@
--- The graph in the words as the laws of building ask for it. In order: symbol s by its node; children are lower; a
+-- The graph that a source has, as the laws of building ask for it. In order: symbol s by its node; children are lower; a
 -- lambda has a child; only arguments have records of uses; a schedule holds each symbol once.
 -- Assumes nothing.
 use Prim.Native.Nat.{ℕ, ◌+◌, ◌<◌}
@@ -29,32 +29,34 @@ use Rattle.symbols.proofs.Laws.{syms_length}
 use Rattle.symbols.proofs.Words.{words_length}
 use Rattle.graph.proofs.Laws as graph
 use Rattle.symbols.specs.Sourced.{Sourced}
-use Rattle.planner.specs.Building.{NoUse, Buildable, GraphIn}
+use Rattle.planner.specs.declared.source.Source.{Source}
+use Rattle.planner.specs.Building.{NoUse}
+use Rattle.planner.specs.Sources.{GraphIn}
 use Rattle.planner.proofs.Membership.{graph_is, sym_is}
 
-module _ {bs ws : List ℕ} {n m : ℕ} {gr : Graph} (b : Buildable bs ws n m) (st : GraphIn bs ws n m gr) where
+module _ {x : Source} {gr : Graph} (st : GraphIn x gr) where
   -- ---- symbol s
 
-  module _ (s : ℕ) (lt : s < n) where
-    pub node_is : (sym_of gr s).node ≡ model_node bs (symbol_at ws s).node
+  module _ (s : ℕ) (lt : s < x.graph.symbols) where
+    pub node_is : (sym_of gr s).node ≡ model_node x.forest.now (symbol_at x.graph.words.now s).node
     unfolding words.sym_of
     node_is = ap (λ (y : Sym). y.node) (sym_is st s lt)
 
-    pub rec_is : (sym_of gr s).rec ≡ rec_of bs (symbol_at ws s).node
+    pub rec_is : (sym_of gr s).rec ≡ rec_of x.forest.now (symbol_at x.graph.words.now s).node
     unfolding words.sym_of
     rec_is = ap (λ (y : Sym). y.rec) (sym_is st s lt)
 
-    pub kids_is : (sym_of gr s).kids ≡ kids_at ws s
+    pub kids_is : (sym_of gr s).kids ≡ kids_at x.graph.words.now s
     unfolding words.sym_of
     kids_is = ap (λ (y : Sym). y.kids) (sym_is st s lt)
 
     kid_some : (xs : ArgList) (body : ℕ) → (sym_of gr s).node ≡ func xs body → 0 < length (sym_of gr s).kids
     kid_some xs body e =
-        let one = go (symbol_at ws s).node (sym node_is ∙ e) (b.sourced s lt) in
-        omega (arith, ap length kids_is, words_length ws (SLOTS.first + (symbol_at ws s).kids) (symbol_at ws s).count)
+        let one = go (symbol_at x.graph.words.now s).node (sym node_is ∙ e) (x.buildable.sourced s lt) in
+        omega (arith, ap length kids_is, words_length x.graph.words.now (SLOTS.first + (symbol_at x.graph.words.now s).kids) (symbol_at x.graph.words.now s).count)
       where
-        go : (nd : Node) → model_node bs nd ≡ func xs body → Sourced bs nd (symbol_at ws s).count
-            → (symbol_at ws s).count ≡ 1
+        go : (nd : Node) → model_node x.forest.now nd ≡ func xs body → Sourced x.forest.now nd (symbol_at x.graph.words.now s).count
+            → (symbol_at x.graph.words.now s).count ≡ 1
         go (Const l) e h = absurd (omega (arith, apart e))
           where
             apart : intern.constant ≡ func xs body → ◌≡◌ {A = ℕ} 0 1
@@ -76,9 +78,9 @@ module _ {bs ws : List ℕ} {n m : ℕ} {gr : Graph} (b : Buildable bs ws n m) (
     no_use_here : is_arg (sym_of gr s).node ≡ false → eqb (sym_of gr s).rec.shape 7 ≡ false
     no_use_here e =
         ap (λ (r : Rec). eqb r.shape 7) rec_is
-        ∙ go (symbol_at ws s).node (sym (ap is_arg node_is) ∙ e) (b.no_use s lt)
+        ∙ go (symbol_at x.graph.words.now s).node (sym (ap is_arg node_is) ∙ e) (x.buildable.no_use s lt)
       where
-        go : (nd : Node) → is_arg (model_node bs nd) ≡ false → NoUse bs nd → eqb (rec_of bs nd).shape 7 ≡ false
+        go : (nd : Node) → is_arg (model_node x.forest.now nd) ≡ false → NoUse x.forest.now nd → eqb (rec_of x.forest.now nd).shape 7 ≡ false
         go (Const l) f h = ne_eqb _ 7 h
         go (Unparsed l) f h = ne_eqb _ 7 h
         go (Arg l) f h = false_true (sym f)
@@ -87,15 +89,15 @@ module _ {bs ws : List ℕ} {n m : ℕ} {gr : Graph} (b : Buildable bs ws n m) (
 
   -- ---- all symbols
 
-  many_syms : length gr.syms ≡ n
-  many_syms = ap length st.syms ∙ syms_length bs ws n
+  many_syms : length gr.syms ≡ x.graph.symbols
+  many_syms = ap length st.syms ∙ syms_length x.forest.now x.graph.words.now x.graph.symbols
 
   pub kids_low : (s : ℕ) → Under s (sym_of gr s).kids
   kids_low s =
       subst (λ (h : Graph). Under s (sym_of h s).kids) (sym (graph_is st))
-      (graph.kids_low bs ws n m b.arena gr.slots s)
+      (graph.kids_low x.forest.now x.graph.words.now x.graph.symbols x.graph.scopes x.buildable.arena gr.slots s)
 
-  pub body_lower : (s : ℕ) → s < n → BodyLow gr s
+  pub body_lower : (s : ℕ) → s < x.graph.symbols → BodyLow gr s
   body_lower s lt = body_low gr s (kids_low s) (kid_some s lt)
 
   pub only_arguments : NoUses gr

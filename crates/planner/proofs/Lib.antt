@@ -3,7 +3,6 @@ pub mod Growing
 pub mod Operands
 pub mod Membership
 pub mod Ids
-pub mod Keeping
 pub mod Graphs
 pub mod Loaded
 pub mod Sites

@@ -1,16 +1,14 @@
 -- A symbol loaded from the words, as its tree's first row. In order: a record copied; what the code has loaded, and a
 -- row that it has put; a symbol of a known node; an operation's row.
 -- Assumes nothing.
-use Prim.Native.Nat.{ℕ, ◌+◌, ◌*◌, ◌<◌, ◌≤◌}
+use Prim.Native.Nat.{ℕ, ◌+◌, ◌<◌}
 use mathlib.Core.Path.{◌≡◌, refl, sym, ap, ◌∙◌, subst}
-use mathlib.Core.Bool.{Bool, true, false}
-use Rattle.std.specs.Prelude.{Option}
+use Rattle.std.specs.Prelude.{Option, None, Some}
+use Rattle.std.specs.Option.{unwrap_or}
 use mathlib.Core.List.{List, [], ◌∷◌}
 use native.Mathlib.Omega.{arith}
-use lib.Dec.{eqb}
-use lib.ListN.{get_or}
-use borrow.Author.Tests.{eqb-true, eqb-false}
-use Rattle.model.specs.Tree.{Rec, rec, Row, node, nil, rows, depth}
+use lib.ListN.{length}
+use Rattle.model.specs.Tree.{Rec, Row, node, nil, rows, depth}
 use Rattle.model.specs.Forest.{record_count}
 use Rattle.model.specs.Intern.{Env}
 use Rattle.model.specs.Intern as intern
@@ -18,22 +16,27 @@ use Rattle.model.specs.Gate.{sym_of}
 use Rattle.model.specs.Gate as model
 use Rattle.model.specs.Materialize.{build_node, build_value}
 use Rattle.laws.proofs.Trees.{leaf_rows, leaf_depth}
+use Rattle.regions.specs.Regions.{SLOTS}
 use Rattle.record.specs.Record.{row_at}
 use Rattle.key.specs.declared.Symbol.{Symbol}
-use Rattle.key.specs.declared.Parts.{Parts}
 use Rattle.key.specs.declared.Operation.{Operation}
 use Rattle.key.specs.declared.Node.{Node}
-use Rattle.key.specs.declared.Node.TheVariants.{Const, Unparsed, Arg, Lambda, Op}
-use Rattle.key.specs.Key.{parts_of, parts_in, choose, symbol_at}
-use Rattle.symbols.specs.Symbols.{key_rec, rec_of, model_node}
-use Rattle.symbols.specs.Sourced.{Sourced}
+use Rattle.key.specs.declared.Node.TheVariants.{Op}
+use Rattle.key.specs.Key.{parts_of, node_field, FieldFits, symbol_at}
+use Rattle.key.proofs.Laws.{loaded_field}
+use Rattle.symbols.specs.Words.{slots_from}
+use Rattle.symbols.specs.Symbols.{key_rec, rec_of, model_node, kids_at}
+use Rattle.symbols.proofs.Words.{words_length}
+use Rattle.symbols.specs.Sourced.{Sourced, OpSourced}
+use Rattle.symbols.proofs.Same.{key_plain, key_field}
 use Rattle.plan.specs.declared.Planned.{Planned}
-use Rattle.plan.specs.declared.Planned.TheVariants.{Copy, Field}
+use Rattle.plan.specs.declared.Planned.TheVariants.{Copy}
 use Rattle.plan.specs.Plan.{row_for, Writable}
-use Rattle.plan.specs.Plan as plan
 use Rattle.planner.specs.declared.Plan.{Plan}
 use Rattle.planner.specs.Grew.{Grows}
-use Rattle.planner.specs.Building.{Opens, Buildable, GraphIn, row_of}
+use Rattle.planner.specs.declared.source.Source.{Source}
+use Rattle.planner.specs.Building.{Opens, row_by, row_of}
+use Rattle.planner.specs.Sources.{GraphIn}
 use Rattle.planner.specs.Planning.{fresh_tree}
 use Rattle.planner.proofs.Graphs.{node_is, rec_is}
 
@@ -55,86 +58,66 @@ pub node_loaded : (ws : List ℕ) (s : ℕ) {y : Symbol} {nd : Node} → y ≡ s
     → (symbol_at ws s).node ≡ nd
 node_loaded ws s e f = sym (ap (λ (y : Symbol). y.node) e) ∙ f
 
-pub put_as : {bs ws : List ℕ} {p : Plan} {row row₁ : Planned} {d : ℕ} {ws' : List ℕ} {r : Option Plan} → row ≡ row₁
-    → ((cs : List ℕ) → Writable cs row → Grows cs ws p (row_for cs row ∷ []) d ws' r) → Writable bs row₁
-    → Grows bs ws p (row_for bs row₁ ∷ []) d ws' r
-put_as {bs} {ws} {p} {row} {row₁} {d} {ws'} {r} e h w =
-    subst (λ (x : Planned). Grows bs ws p (row_for bs x ∷ []) d ws' r) e (h bs (subst (Writable bs) (sym e) w))
+pub kids_many : (ws : List ℕ) (s : ℕ) → length (kids_at ws s) ≡ (symbol_at ws s).count
+kids_many ws s = words_length ws (SLOTS.first + (symbol_at ws s).kids) (symbol_at ws s).count
+
+pub kids_loaded : (ws : List ℕ) (s : ℕ) {y : Symbol} {ks : List ℕ} → y ≡ symbol_at ws s
+    → ks ≡ slots_from ws y.kids y.count → ks ≡ kids_at ws s
+kids_loaded ws s e f = f ∙ ap (λ (z : Symbol). slots_from ws z.kids z.count) e
+
+pub put_as : {bs pl : List ℕ} {p : Plan} {row row₁ : Planned} {d : ℕ} {pl' : List ℕ} {r : Option Plan} → row ≡ row₁
+    → ((cs : List ℕ) → Writable cs row → Grows cs pl p (row_for cs row ∷ []) d pl' r) → Writable bs row₁
+    → Grows bs pl p (row_for bs row₁ ∷ []) d pl' r
+put_as {bs} {pl} {p} {row} {row₁} {d} {pl'} {r} e h w =
+    subst (λ (x : Planned). Grows bs pl p (row_for bs x ∷ []) d pl' r) e (h bs (subst (Writable bs) (sym e) w))
 
 -- ---- symbol s
 
-module _ {bs ws : List ℕ} {n m : ℕ} (b : Buildable bs ws n m) (s : ℕ) (lt : s < n) where
+module _ (x : Source) (s : ℕ) (lt : s < x.graph.symbols) where
   -- a symbol of node nd
-  module _ (nd : Node) (e : (symbol_at ws s).node ≡ nd) where
-    pub fresh_is : (gr : model.Graph) (sc : ℕ) (env : Env) (last : ℕ) → GraphIn bs ws n m gr
-        → fresh_tree s last gr sc env ≡ build_node gr (build_value gr) (sym_of gr s) (model_node bs nd) sc env last
+  module _ (nd : Node) (e : (symbol_at x.graph.words.now s).node ≡ nd) where
+    pub fresh_is : (gr : model.Graph) (sc : ℕ) (env : Env) (last : ℕ) → GraphIn x gr
+        → fresh_tree s last gr sc env ≡ build_node gr (build_value gr) (sym_of gr s) (model_node x.forest.now nd) sc env last
     fresh_is gr sc env last st =
-        ap (λ (x : intern.Node). build_node gr (build_value gr) (sym_of gr s) x sc env last)
-        (node_is b st s lt ∙ ap (model_node bs) e)
+        ap (λ (y : intern.Node). build_node gr (build_value gr) (sym_of gr s) y sc env last)
+        (node_is st s lt ∙ ap (model_node x.forest.now) e)
 
-    pub rec_of_lem : (gr : model.Graph) → GraphIn bs ws n m gr → (sym_of gr s).rec ≡ rec_of bs nd
-    rec_of_lem gr st = rec_is b st s lt ∙ ap (rec_of bs) e
+    pub rec_of_lem : (gr : model.Graph) → GraphIn x gr → (sym_of gr s).rec ≡ rec_of x.forest.now nd
+    rec_of_lem gr st = rec_is st s lt ∙ ap (rec_of x.forest.now) e
 
-    pub source_low : (parts_of nd).source < record_count bs
-    source_low = subst (λ (x : Node). (parts_of x).source < record_count bs) e (b.arena.sound s lt).from
+    pub source_low : (parts_of nd).source < record_count x.forest.now
+    source_low = subst (λ (y : Node). (parts_of y).source < record_count x.forest.now) e (x.buildable.arena.sound s lt).from
 
-    pub source_fits : Sourced bs nd (symbol_at ws s).count
-    source_fits = subst (λ (x : Node). Sourced bs x (symbol_at ws s).count) e (b.sourced s lt)
+    pub source_fits : Sourced x.forest.now nd (symbol_at x.graph.words.now s).count
+    source_fits = subst (λ (y : Node). Sourced x.forest.now y (symbol_at x.graph.words.now s).count) e (x.buildable.sourced s lt)
 
-    pub node_opens : Opens bs m s nd
-    node_opens = subst (Opens bs m s) e (b.opens s lt)
+    pub node_opens : Opens x.forest.now x.graph.scopes s nd
+    node_opens = subst (Opens x.forest.now x.graph.scopes s) e (x.buildable.opens s lt)
 
   -- ---- an operation's row
 
-  field_low : (o : Operation) → (symbol_at ws s).node ≡ Op o → o.field < 4
-  unfolding symbol_at
-  field_low o e =
-      let a = get_or ws (5 * s) 0 in
-      let q = parts_in a (get_or ws (5 * s + 1) 0) (get_or ws (5 * s + 2) 0) in
-      let l = subst (λ (x : Node). (parts_of x).field ≤ q.field) e
-      (go q (eqb q.tag 0) (eqb q.tag 1) (eqb q.tag 2) (eqb q.tag 3)) in
-      omega arith
-    where
-      go : (q : Parts) (b0 b1 b2 b3 : Bool) →
-          (parts_of (choose b0 (Const (record { source = q.source }))
-          (choose b1 (Unparsed (record { source = q.source }))
-          (choose b2 (Arg (record { source = q.source }))
-          (choose b3 (Lambda (record { source = q.source; first = q.first; body = q.second }))
-          (Op (record {
-            source = q.source;
-            field = q.field;
-            branches = q.branches;
-            first = q.first;
-            second = q.second;
-          }))))))).field ≤ q.field
-      go q true b1 b2 b3 = omega arith
-      go q false true b2 b3 = omega arith
-      go q false false true b3 = omega arith
-      go q false false false true = omega arith
-      go q false false false false = omega arith
+  op_field : (o : Operation) → (symbol_at x.graph.words.now s).node ≡ Op o → FieldFits o.field
+  op_field o e = subst (λ (y : Node). FieldFits (node_field y)) e (loaded_field x.graph.words.now s)
 
-  pub row_writable : (o : Operation) → (symbol_at ws s).node ≡ Op o → Writable bs (row_of o)
-  row_writable o e = go (eqb o.field 0)
+  pub row_writable : (o : Operation) → (symbol_at x.graph.words.now s).node ≡ Op o → Writable x.forest.now (row_of o)
+  row_writable o e = go o.field (op_field o e)
     where
-      go : (t : Bool) → Writable bs (plan.choose t (Copy o.source) (Field o.field))
-      go true = source_low (Op o) e
-      go false = let l = field_low o e in omega arith
+      go : (f : Option ℕ) → FieldFits f → Writable x.forest.now (row_by o.source f)
+      go None h = source_low (Op o) e
+      go (Some f) h = omega (arith, h.1)
 
-  pub row_is : (o : Operation) → (symbol_at ws s).node ≡ Op o
-      → row_for bs (row_of o) ≡ record { rec = rec_of bs (Op o); kids = (symbol_at ws s).count }
-  unfolding row_for key_rec
-  row_is o e = go (eqb o.field 0) refl
+  pub row_is : (o : Operation) → (symbol_at x.graph.words.now s).node ≡ Op o
+      → row_for x.forest.now (row_of o)
+      ≡ record { rec = rec_of x.forest.now (Op o); kids = (symbol_at x.graph.words.now s).count }
+  unfolding row_for
+  row_is o e = go o.field (op_field o e) (source_fits (Op o) e)
     where
-      src : Rec
-      src = (row_at bs o.source).rec
-
-      go : (t : Bool) → eqb o.field 0 ≡ t → row_for bs (plan.choose t (Copy o.source) (Field o.field))
+      go : (f : Option ℕ) → FieldFits f → OpSourced x.forest.now o.source f (symbol_at x.graph.words.now s).count
+          → row_for x.forest.now (row_by o.source f)
           ≡ record {
-            rec = elim t [ true ↦ src | false ↦ rec src.shape src.opcode 0 (o.field ∷ []) ];
-            kids = (symbol_at ws s).count;
+            rec = key_rec x.forest.now o.source (unwrap_or f 0);
+            kids = (symbol_at x.graph.words.now s).count;
           }
-      go true f =
-          sym (copied_row bs o.source (symbol_at ws s).count ((source_fits (Op o) e).plain (eqb-true o.field 0 f)))
-      go false f =
-          let m = (source_fits (Op o) e).made (eqb-false o.field 0 f) in
-          rw (m.shape, m.opcode, m.one)
+      go None h k = rw (key_plain x.forest.now o.source 0 refl) (sym (copied_row x.forest.now o.source _ k))
+      go (Some f) h m =
+          rw (key_field x.forest.now o.source f (λ z. omega (arith, h.0)), m.shape, m.opcode, m.one)

@@ -23,46 +23,47 @@ use Rattle.laws.specs.Range.{range}
 use Rattle.laws.proofs.Defining.{members_append, members_member, members_other}
 use Rattle.laws.specs.Members.{In, Under}
 use Rattle.laws.proofs.Ranges.{in_range}
-use Rattle.regions.specs.Regions.{USES}
 use Rattle.key.specs.declared.Symbol.{Symbol}
 use Rattle.key.specs.Key.{symbol_at}
 use Rattle.symbols.specs.Symbols.{syms_of, sym_from}
 use Rattle.symbols.specs.Symbols as words
 use Rattle.symbols.proofs.Laws.{sym_at_lem}
 use Rattle.gate.proofs.Gate.{hoist_few}
-use Rattle.graph.specs.Graph.{Tests, graph_of}
-use Rattle.planner.specs.Building.{GraphIn, Maps, id_in}
+use Rattle.graph.specs.Tests.{Tests, held_in}
+use Rattle.planner.specs.declared.source.Source.{Source}
+use Rattle.planner.specs.Building.{Maps, id_in}
+use Rattle.planner.specs.Sources.{GraphIn}
 
--- ---- the graph in the words
+-- ---- the graph that a source has
 
-module _ {bs ws : List ℕ} {n m : ℕ} {gr : Graph} (st : GraphIn bs ws n m gr) where
-  pub graph_is : gr ≡ graph_of bs ws n m gr.slots
+module _ {x : Source} {gr : Graph} (st : GraphIn x gr) where
+  pub graph_is : gr ≡ held_in x.graph x.forest.now gr.slots
   graph_is = rw (← st.syms, ← st.scopes)
 
-  module _ (s : ℕ) (lt : s < n) where
-    pub sym_is : sym_of gr s ≡ sym_from bs (syms_of bs ws s) ws s
-    sym_is = ap (λ (ss : List Sym). sym_at ss s) st.syms ∙ sym_at_lem bs ws n s lt
+  module _ (s : ℕ) (lt : s < x.graph.symbols) where
+    pub sym_is : sym_of gr s ≡ sym_from x.forest.now (syms_of x.forest.now x.graph.words.now s) x.graph.words.now s
+    sym_is = ap (λ (ss : List Sym). sym_at ss s) st.syms ∙ sym_at_lem x.forest.now x.graph.words.now x.graph.symbols s lt
 
-    pub scope_is : (sym_of gr s).scope ≡ (symbol_at ws s).scope
+    pub scope_is : (sym_of gr s).scope ≡ (symbol_at x.graph.words.now s).scope
     unfolding words.sym_of
     scope_is = ap (λ (y : Sym). y.scope) sym_is
 
     -- what the code has loaded and tested
-    pub in_scope : {y : Symbol} (sc : ℕ) → y ≡ symbol_at ws s → eqb (sym_of gr s).scope sc ≡ eqb y.scope sc
+    pub in_scope : {y : Symbol} (sc : ℕ) → y ≡ symbol_at x.graph.words.now s → eqb (sym_of gr s).scope sc ≡ eqb y.scope sc
     in_scope {y} sc e = ap (λ (k : ℕ). eqb k sc) (scope_is ∙ sym (ap (λ (y : Symbol). y.scope) e))
 
-    pub arg_is : {r : Bool} → Tests ws n m (λ h. is_arg (sym_of h s).node) r → is_arg (sym_of gr s).node ≡ r
-    arg_is t = ap (λ (h : Graph). is_arg (sym_of h s).node) graph_is ∙ sym (t bs gr.slots)
+    pub arg_is : {r : Bool} → Tests x.graph (λ h. is_arg (sym_of h s).node) r → is_arg (sym_of gr s).node ≡ r
+    arg_is t = ap (λ (h : Graph). is_arg (sym_of h s).node) graph_is ∙ sym (t x.forest.now gr.slots)
 
     pub hoist_is : {r : Bool}
-        → ((k : ℕ) → s < k → r ≡ should_hoist (sym_at (syms_of bs ws k) s) (get_or ws (USES.first + s) 0))
+        → ((k : ℕ) → s < k → r ≡ should_hoist (sym_at (syms_of x.forest.now x.graph.words.now k) s) (get_or x.uses.now s 0))
         → r ≡ should_hoist (sym_of gr s) (usage gr s)
     hoist_is h =
-        h n lt ∙ ap₂ should_hoist (sym (ap (λ (ss : List Sym). sym_at ss s) st.syms)) (st.uses s lt)
+        h x.graph.symbols lt ∙ ap₂ should_hoist (sym (ap (λ (ss : List Sym). sym_at ss s) st.syms)) (st.uses s lt)
 
-    pub rare_is : get_or ws (USES.first + s) 0 < 2 → should_hoist (sym_of gr s) (usage gr s) ≡ false
+    pub rare_is : get_or x.uses.now s 0 < 2 → should_hoist (sym_of gr s) (usage gr s) ≡ false
     rare_is l =
-        ap (should_hoist (sym_of gr s)) (sym (st.uses s lt)) ∙ sym (hoist_few (sym_of gr s) (get_or ws (USES.first + s) 0) l)
+        ap (should_hoist (sym_of gr s)) (sym (st.uses s lt)) ∙ sym (hoist_few (sym_of gr s) (get_or x.uses.now s 0) l)
 
 -- ---- a member's four tests
 

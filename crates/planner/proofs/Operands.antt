@@ -2,26 +2,26 @@
 -- that can be thunks; the first of them; all are there; one operand of an operation.
 -- Assumes nothing.
 use Prim.Native.Nat.{ℕ, zero, suc, ◌<◌}
-use mathlib.Core.Path.{◌≡◌, refl, sym, ap, subst, ◌∙◌}
+use mathlib.Core.Path.{◌≡◌, refl, sym, subst}
 use mathlib.Core.Logic.{inl, inr}
 use mathlib.Core.Bool.{Bool, true, false, ◌&&◌, ◌||◌}
-use Rattle.std.specs.Prelude.{Option, None, Some, IfSome}
+use Rattle.std.specs.Prelude.{Option, None, IfSome}
 use Rattle.std.specs.Bool.{then_some}
 use mathlib.Core.List.{List, [], ◌∷◌}
-use native.Mathlib.Omega.{arith}
-use lib.Dec.{eqb, ltb}
-use lib.ListN.{take, drop}
-use borrow.Author.Tests.{eqb-true, ne_eqb, lt-ltb}
+use lib.Dec.{eqb}
+use lib.ListN.{drop}
+use borrow.Author.Tests.{eqb-true, eqb-false, ne_eqb}
 use Rattle.model.specs.Tree.{Trees, cons}
 use Rattle.model.specs.Intern.{thunked, Env}
 use Rattle.model.specs.Gate.{Graph}
 use Rattle.model.specs.Materialize.{build_op, build_value}
-use Rattle.laws.specs.Members.{In, Every}
+use Rattle.laws.specs.Members.{Every, Under}
 use Rattle.laws.proofs.Apart.{false_true}
 use Rattle.laws.proofs.Building.{op_left, op_eager, op_thunk}
 use Rattle.key.specs.declared.Operation.{Operation}
 use Rattle.shape.proofs.Thunks.{first_eager}
-use Rattle.planner.specs.Building.{Thunks, branches_of, left_at, first_scope, opened_at, operand_tree}
+use Rattle.key.specs.Key.{branches_of}
+use Rattle.planner.specs.Building.{left_at, first_scope, opened_at, operand_tree}
 
 -- ---- the scopes left
 
@@ -49,13 +49,10 @@ left_none op (suc j) = go (thunked op j) (left_none op j)
     go false e = e
 
 -- an operation without thunks
-pub opened_unbranched : (op : ℕ) (o : Operation) (j : ℕ) → o.branches ≡ 0 → opened_at op (branches_of o) j ≡ None
+pub opened_zero : (op j : ℕ) → opened_at op [] j ≡ None
 unfolding opened_at
-opened_unbranched op o j e = go (thunked op j) (ap (λ (brs : List ℕ). left_at op brs j) none ∙ left_none op j)
+opened_zero op j = go (thunked op j) (left_none op j)
   where
-    none : branches_of o ≡ []
-    none = rw e
-
     go : (b : Bool) {brs : List ℕ} → brs ≡ [] → ◌≡◌ {A = Option ℕ} (elim b [ true ↦ first_scope brs | false ↦ None ]) None
     go true f = rw f
     go false f = refl
@@ -78,17 +75,15 @@ module _ (op : ℕ) (brs : List ℕ) (j : ℕ) where
       let two : left_at op brs j ≡ drop 1 brs = rw (w.0, w.1) in
       rw (e, opened_at, two)
 
--- ---- the two scopes, of which b count
+-- ---- one thunk
 
-module _ (f s : ℕ) where
-  pub scope_first : (b : ℕ) → (b ≡ 0 → ⊥) → first_scope (take b (f ∷ s ∷ [])) ≡ Some f
-  scope_first zero n = absurd (n refl)
-  scope_first (suc b) n = refl
-
-  pub scope_second : (b : ℕ) → first_scope (drop 1 (take b (f ∷ s ∷ []))) ≡ then_some (ltb 1 b) s
-  scope_second zero = refl
-  scope_second (suc zero) = refl
-  scope_second (suc (suc b)) = rw (lt-ltb 1 (suc (suc b)) (omega arith))
+module _ (op j : ℕ) (is : thunked op j ≡ true) where
+  pub opened_one : (a : ℕ) → opened_at op (a ∷ []) j ≡ then_some (eqb j 1) a
+  opened_one a = go (eqb j 1) refl
+    where
+      go : (t : Bool) → eqb j 1 ≡ t → opened_at op (a ∷ []) j ≡ then_some t a
+      go true e = opened-first op (a ∷ []) j is (eqb-true j 1 e)
+      go false e = opened_second op (a ∷ []) j is (eqb-false j 1 e)
 
 -- ---- all scopes are there
 
@@ -119,25 +114,10 @@ module _ (m : ℕ) where
       go true = low_first (left_at op brs j) (low_left op brs h j)
       go false = tt
 
-  low_branches : (b f s : ℕ) → (0 < b → f < m) → (1 < b → s < m) → Every (λ x. x < m) (take b (f ∷ s ∷ []))
-  low_branches zero f s p q x i = absurd i
-  low_branches (suc zero) f s p q x (inl e) = subst (λ (z : ℕ). z < m) (sym e) (p (omega arith))
-  low_branches (suc zero) f s p q x (inr i) = absurd i
-  low_branches (suc (suc b)) f s p q x (inl e) = subst (λ (z : ℕ). z < m) (sym e) (p (omega arith))
-  low_branches (suc (suc b)) f s p q x (inr (inl e)) = subst (λ (z : ℕ). z < m) (sym e) (q (omega arith))
-  low_branches (suc (suc b)) f s p q x (inr (inr i)) = go b i
-    where
-      go : (k : ℕ) → In x (take k []) → x < m
-      go zero i = absurd i
-      go (suc k) i = absurd i
-
-  opened_low : (op : ℕ) (o : Operation) (j : ℕ) → Thunks m o → IfSome (opened_at op (branches_of o) j) (λ b. b < m)
-  opened_low op o j h =
-      low_opened op (branches_of o) (low_branches o.branches o.first o.second h.first h.second) j
-
-pub opened_there : {m : ℕ} (op : ℕ) (o : Operation) (j : ℕ) {w : Option ℕ} → w ≡ opened_at op (branches_of o) j
-    → Thunks m o → IfSome w (λ b. b < m)
-opened_there {m} op o j e h = subst (λ (x : Option ℕ). IfSome x (λ b. b < m)) (sym e) (opened_low m op o j h)
+pub opened_there : {m : ℕ} (op : ℕ) (o : Operation) (j : ℕ) {w : Option ℕ} → w ≡ opened_at op (branches_of o.branches) j
+    → Under m (branches_of o.branches) → IfSome w (λ b. b < m)
+opened_there {m} op o j e h =
+    subst (λ (x : Option ℕ). IfSome x (λ b. b < m)) (sym e) (low_opened m op (branches_of o.branches) h j)
 
 -- ---- one operand
 

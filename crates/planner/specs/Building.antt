@@ -1,32 +1,27 @@
 -- What is asked of the words, and how they stand for what is built. In order: symbols that a tree can be built from;
--- the graph in the words; the ids of symbols; an operation's row and the scopes of its thunks; members of a scope.
+-- the ids of symbols; an operation's row and the scopes of its thunks. bs are the forest's bytes, ws the words.
 -- Assumes nothing.
-use Rattle.std.specs.Prelude.{ℕ, zero, suc, ◌+◌, ◌<◌, ◌≤◌, ◌≡◌, Bool, true, false, List, [], ◌∷◌, eqb, ltb, get_or, take, drop, Option, None, Some}
+use Rattle.std.specs.Prelude.{ℕ, zero, suc, ◌+◌, ◌<◌, ◌≤◌, ◌≡◌, true, false, List, [], ◌∷◌, get_or, drop, Option, None, Some}
+use Rattle.std.proofs.Props.{props}
 use Rattle.model.specs.Opcodes.{ValUse}
 use Rattle.model.specs.Shape.{a_id, a_opt, ◌then◌, times, whole}
 use Rattle.model.specs.Intern.{Env, thunked}
-use Rattle.model.specs.Gate.{usage}
 use Rattle.model.specs.Gate as model
 use Rattle.model.specs.Tree.{Tree}
-use Rattle.model.specs.Materialize.{id_given, member, build_value, process_scope}
-use Rattle.laws.specs.Defining.{members_in}
-use Rattle.laws.specs.Range.{range}
+use Rattle.model.specs.Materialize.{id_given, build_value, process_scope}
+use Rattle.laws.specs.Members.{Under}
 use Rattle.record.specs.Record.{row_at}
 use Rattle.key.specs.declared.Func.{Func}
 use Rattle.key.specs.declared.Operation.{Operation}
 use Rattle.key.specs.declared.Node.{Node}
 use Rattle.key.specs.declared.Node.TheVariants.{Const, Unparsed, Arg, Lambda, Op}
-use Rattle.key.specs.Key.{symbol_at}
-use Rattle.symbols.specs.Symbols.{syms_of, rec_of}
-use Rattle.scopes.specs.Scopes.{scopes_of}
-use Rattle.symbols.specs.Sourced.{AllSourced}
-use Rattle.gate.specs.Gate.{uses_at}
-use Rattle.graph.specs.declared.Graph.{Graph}
+use Rattle.key.specs.Key.{branches_of, symbol_at}
+use Rattle.symbols.specs.Symbols.{rec_of}
+use Rattle.symbols.specs.Sourced.{OpSourced, Sourced, AllSourced}
 use Rattle.graph.specs.Graph.{Arena, graph_of}
 use Rattle.free_lists.specs.FreeLists.{Lists}
 use Rattle.plan.specs.declared.Planned.{Planned}
 use Rattle.plan.specs.declared.Planned.TheVariants.{Copy, Field}
-use Rattle.plan.specs.Plan.{choose}
 
 -- ---- symbols that a tree can be built from
 
@@ -37,17 +32,13 @@ pub record Lambdas (bs : List ℕ) (m s : ℕ) (f : Func) : Type 0 where
   pub few : (row_at bs f.source).rec.aux ≤ 15
   pub args : whole (times (row_at bs f.source).rec.aux (a_id then a_opt)) (row_at bs f.source).rec.lit ≡ true
 
--- the scopes of an operation's thunks are there
-pub record Thunks (m : ℕ) (o : Operation) : Type 0 where
-  pub first : 0 < o.branches → o.first < m
-  pub second : 1 < o.branches → o.second < m
-
+-- and the scopes of an operation's thunks are there
 abbrev pub Opens : List ℕ → ℕ → ℕ → Node → Type 0
 Opens bs m s (Const l) = Unit {0}
 Opens bs m s (Unparsed l) = Unit {0}
 Opens bs m s (Arg l) = Unit {0}
 Opens bs m s (Lambda f) = Lambdas bs m s f
-Opens bs m s (Op o) = Thunks m o
+Opens bs m s (Op o) = Under m (branches_of o.branches)
 
 -- only an argument can have been made for a use
 abbrev pub NoUse : List ℕ → Node → Type 0
@@ -64,12 +55,35 @@ pub record Buildable (bs ws : List ℕ) (n m : ℕ) : Type 0 where
   pub opens : (s : ℕ) → s < n → Opens bs m s (symbol_at ws s).node
   pub no_use : (s : ℕ) → s < n → NoUse bs (symbol_at ws s).node
 
--- ---- the graph in the words, with the uses counted
+-- that is one fact, however it is proved
 
-pub record GraphIn (bs ws : List ℕ) (n m : ℕ) (gr : model.Graph) : Type 0 where
-  pub syms : gr.syms ≡ syms_of bs ws n
-  pub scopes : gr.scopes ≡ scopes_of ws m
-  pub uses : (s : ℕ) → s < n → uses_at ws s ≡ usage gr s
+OpSourced-prop : (bs : List ℕ) (i : ℕ) (field : Option ℕ) (count : ℕ) → IsProp (OpSourced bs i field count)
+OpSourced-prop bs i None count = Prim.hlevel props
+OpSourced-prop bs i (Some field) count = Prim.hlevel props
+
+Sourced-prop : (bs : List ℕ) (nd : Node) (count : ℕ) → IsProp (Sourced bs nd count)
+Sourced-prop bs (Const l) count = Prim.hlevel props
+Sourced-prop bs (Unparsed l) count = Prim.hlevel props
+Sourced-prop bs (Arg l) count = Prim.hlevel props
+Sourced-prop bs (Lambda f) count = Prim.hlevel props
+Sourced-prop bs (Op o) count = OpSourced-prop bs o.source o.field count
+
+Opens-prop : (bs : List ℕ) (m s : ℕ) (nd : Node) → IsProp (Opens bs m s nd)
+Opens-prop bs m s (Const l) = Prim.hlevel props
+Opens-prop bs m s (Unparsed l) = Prim.hlevel props
+Opens-prop bs m s (Arg l) = Prim.hlevel props
+Opens-prop bs m s (Lambda f) = Prim.hlevel props
+Opens-prop bs m s (Op o) = Prim.hlevel props
+
+NoUse-prop : (bs : List ℕ) (nd : Node) → IsProp (NoUse bs nd)
+NoUse-prop bs (Const l) = Prim.hlevel props
+NoUse-prop bs (Unparsed l) = Prim.hlevel props
+NoUse-prop bs (Arg l) = Prim.hlevel props
+NoUse-prop bs (Lambda f) = Prim.hlevel props
+NoUse-prop bs (Op o) = Prim.hlevel props
+
+pub Buildable-prop : (bs ws : List ℕ) (n m : ℕ) → IsProp (Buildable bs ws n m)
+Buildable-prop bs ws n m = Prim.hlevel (props, Sourced-prop, Opens-prop, NoUse-prop)
 
 -- ---- the ids of symbols
 
@@ -84,11 +98,12 @@ pub record Maps (ids : List ℕ) (env : Env) : Type 0 where
 
 -- ---- operations
 
-abbrev pub row_of : Operation → Planned
-row_of o = choose (eqb o.field 0) (Copy o.source) (Field o.field)
+abbrev pub row_by : ℕ → Option ℕ → Planned
+row_by source None = Copy source
+row_by source (Some field) = Field field
 
-abbrev pub branches_of : Operation → List ℕ
-branches_of o = take o.branches (o.first ∷ o.second ∷ [])
+abbrev pub row_of : Operation → Planned
+row_of o = row_by o.source o.field
 
 -- the scopes that are left at operand j: each thunk before it has taken one
 unfoldable pub left_at : ℕ → List ℕ → ℕ → List ℕ
@@ -107,20 +122,3 @@ opened_at op brs j = elim (thunked op j) [ true ↦ first_scope (left_at op brs 
 abbrev pub operand_tree : Option ℕ → model.Graph → ℕ → ℕ → Env → ℕ → Tree
 operand_tree None gr k sc env last = build_value gr k sc env last
 operand_tree (Some b) gr k sc env last = process_scope gr (build_value gr) k b env last
-
--- ---- members of a scope
-
-abbrev pub Member : List ℕ → List ℕ → Graph → List ℕ → ℕ → ℕ → Bool → Type 0
-Member bs ws g ids sc s r =
-    (gr : model.Graph) (env : Env) → GraphIn bs ws g.symbols g.scopes gr → Maps ids env → r ≡ member gr sc env s
-
-abbrev pub Members : List ℕ → List ℕ → Graph → List ℕ → ℕ → List ℕ → ℕ → Type 0
-Members bs ws g ids sc order r =
-    (gr : model.Graph) (env : Env) → GraphIn bs ws g.symbols g.scopes gr → Maps ids env
-    → r ≡ members_in gr sc env order
-
--- whether there is one among the symbols up to `root`
-abbrev pub AnyMember : List ℕ → List ℕ → Graph → List ℕ → ℕ → ℕ → Bool → Type 0
-AnyMember bs ws g ids sc root r =
-    (gr : model.Graph) (env : Env) → GraphIn bs ws g.symbols g.scopes gr → Maps ids env
-    → r ≡ ltb 0 (members_in gr sc env (range 0 (root + 1)))

@@ -1,19 +1,28 @@
 // What planning a tree is made of. In order: the plan so far, and one row more; ids given; where an operand is built;
-// the symbols that get a definition in a scope.
+// what is planned from (source.rt), and the symbols that get a definition in a scope.
 #![tactic(auto)]
+
+mod source;
 
 ghost use Rattle.std.specs.Prelude.{◌≡◌, ℕ, ◌+◌, ◌<◌, ◌≤◌, length, get_or};
 ghost use Rattle.std.proofs.lemmas.List.Edits.{sets};
 ghost use Rattle.laws.specs.Range.{range};
-ghost use Rattle.regions.specs.Regions.{WORDS};
-ghost use Rattle.record.specs.Record.{Laid};
+ghost use Rattle.regions.specs.Regions.{PLAN};
+ghost use Rattle.key.specs.Key.{branches_of};
 ghost use Rattle.planner.specs.Grew.{RowPut};
-ghost use Rattle.planner.specs.Building.{Buildable, row_of, branches_of, opened_at};
-ghost use Rattle.planner.specs.Building.{Member, Members, AnyMember};
+ghost use Rattle.planner.specs.Building.{Buildable, row_of, opened_at};
+ghost use Rattle.planner.specs.Sources.{Member, Members, AnyMember};
 
 use graph::Graph;
-use key::Operation;
+use key::{Branches, Operation};
 use plan::Planned;
+use record::Forest;
+pub use source::Source;
+
+// The most rows that a plan has, and its words: three a row.
+pub const ROWS: usize = 256;
+
+pub const WORDS: usize = 3 * ROWS;
 
 // The plan so far: how many rows, at most 256, and the greatest depth.
 #[derive(Clone, Copy, Debug, PartialEq, Eq)]
@@ -26,14 +35,14 @@ pub struct Plan {
 
 // One row more, `above` levels below the root: the plan with it, or none where that has 256 rows.
 // Rules out: a row over the one before it; a row at the depth of its parent; a row stored past the 256th.
-pub fn put(work: &mut [u32], p: Plan, above: usize, row: Planned) -> Option<Plan>
-    requires { (WORDS ≤ length work.old) × (p.rows ≤ 256) × (above < 4294967296) }
-    ensures { RowPut work.old p row (above + 1) work.new result }
+pub fn put(plan: &mut [u32], p: Plan, above: usize, row: Planned) -> Option<Plan>
+    requires { (PLAN.size ≤ length plan.old) × (p.rows ≤ 256) × (above < 4294967296) }
+    ensures { RowPut plan.old p row (above + 1) plan.new result }
 {
-    if p.rows == 256 {
+    if p.rows == ROWS {
         return None;
     }
-    plan::store(work, regions::PLAN + 3 * p.rows, row);
+    plan::store(plan, 3 * p.rows, row);
     Some(Plan {
         rows: p.rows + 1,
         deepest: p.deepest.max(above + 1),
@@ -45,17 +54,18 @@ pub fn put(work: &mut [u32], p: Plan, above: usize, row: Planned) -> Option<Plan
 pub fn row_of(o: Operation) -> Planned
     ensures { result ≡ row_of o }
 {
-    if o.field == 0 {
-        return Planned::Copy(o.source);
+    match o.field {
+        None => Planned::Copy(o.source),
+        Some(field) => Planned::Field(field),
     }
-    Planned::Field(o.field)
 }
 
-// ---- the ids of symbols: word s is the id of symbol s, 0 if it has none
+// ---- the ids of symbols: word s is the id of symbol s, 0 if it has none. Memory is fixed: `Option<u32>` would double
+// these 2 KB, of which up to 257 are nested on a stack of 2 MiB
 
 // The symbols from `first` on get the ids after `last`. Rules out: `last` itself; the same id for two.
-pub fn number(ids: &mut [u32; 512], first: usize, count: usize, last: u32)
-    requires { (0 < count → first + count ≤ 512) × (last + count < 4294967296) }
+pub fn number(ids: &mut [u32], first: usize, count: usize, last: u32)
+    requires { (0 < count → first + count ≤ length ids.old) × (last + count < 4294967296) }
     ensures { ids.new ≡ sets ids.old first (range (last + 1) count) }
 {
     // by index: with no argument to number, `first` may lie past the ids
@@ -70,75 +80,85 @@ pub fn number(ids: &mut [u32; 512], first: usize, count: usize, last: u32)
 // and 2, so the scopes are met in their order.
 // Rules out: the second thunk's scope for the first; a scope for an operand that is no thunk.
 pub fn operand_scope(opcode: u8, o: Operation, j: usize) -> Option<u32>
-    ensures { result ≡ opened_at opcode (branches_of o) j }
+    ensures { result ≡ opened_at opcode (branches_of o.branches) j }
 {
-    if o.branches == 0 || !shape::is_thunked(opcode, j) {
+    if !shape::is_thunked(opcode, j) {
         return None;
     }
-    if j == 1 {
-        return Some(o.first);
+    match o.branches {
+        Branches::Zero => None,
+        Branches::One(first) => (j == 1).then_some(first),
+        Branches::Two(first, second) => Some(if j == 1 { first } else { second }),
     }
-    (1 < o.branches).then_some(o.second)
 }
 
-// ---- the symbols that get a definition
+// ---- what is planned from, and the symbols that get a definition
 
-// Whether symbol s gets a definition in scope `sc`.
-// Rules out: one of another scope; a context property, however often it is used.
-pub fn member(forest: &[u8], work: &[u32], g: Graph, s: usize, sc: usize, ids: &[u32; 512]) -> bool
-    requires laid { Laid forest.now }
-    requires buildable { Buildable forest.now work.now g.symbols g.scopes }
-    requires s_lt_symbols { s < g.symbols }
-    ensures { Member forest.now work.now g ids.now sc s result }
-{
-    let uses = work[regions::USES + s];
-    // asked first, since most symbols are used once
-    1 < uses
-        && ids[s] == 0
-        && key::load(work, s).scope as usize == sc
-        && !graph::is_arg(work, g, s)
-        && gate::should_hoist(forest, work, s, uses)
-}
-
-// How many symbols of an order get a definition in scope `sc`, seen from before the first of them.
-// Rules out: symbols of other scopes counted too; one that has an id counted again.
-pub fn members(
-    forest: &[u8],
-    work: &[u32],
-    g: Graph,
-    order: &[u16],
-    sc: usize,
-    ids: &[u32; 512],
-) -> u32
-    requires laid { Laid forest.now }
-    requires buildable { Buildable forest.now work.now g.symbols g.scopes }
-    requires order_bound { length order.now ≤ 512 }
-    requires by_index { (k : ℕ) → k < length order.now → get_or order.now k 0 < g.symbols }
-    ensures { (result ≤ 512) × Members forest.now work.now g ids.now sc order.now result }
-{
-    let mut k = 0;
-    for &s in order {
-        if member(forest, work, g, usize::from(s), sc, ids) {
-            k += 1;
+impl<'a> Source<'a> {
+    // The forest, the graph in these words, and its counts. Rules out: other words; counts of other symbols.
+    pub fn new(
+        forest: &'a Forest<'a>,
+        words: &'a [u32],
+        symbols: usize,
+        scopes: usize,
+        uses: &'a [u32],
+    ) -> Source<'a>
+        requires buildable { Buildable forest.now words.now symbols scopes }
+        requires counted { symbols ≤ length uses.now }
+        ensures forest { result.forest.now ≡ forest.entry.now }
+        ensures words { result.graph.words.now ≡ words.entry.now }
+        ensures many { (result.graph.symbols ≡ symbols) × (result.graph.scopes ≡ scopes) }
+        ensures uses { result.uses.now ≡ uses.entry.now }
+    {
+        let graph = Graph {
+            words,
+            symbols,
+            scopes,
+        };
+        Source {
+            forest,
+            graph,
+            uses,
         }
     }
-    k
-}
 
-// Whether any symbol up to `root` gets a definition in scope `sc`. Where none does, the scope needs no order.
-// Rules out: false where `root` itself gets one; true for a symbol of another scope.
-pub fn any_member(
-    forest: &[u8],
-    work: &[u32],
-    g: Graph,
-    root: usize,
-    sc: usize,
-    ids: &[u32; 512],
-) -> bool
-    requires laid { Laid forest.now }
-    requires buildable { Buildable forest.now work.now g.symbols g.scopes }
-    requires root_lt_symbols { root < g.symbols }
-    ensures { AnyMember forest.now work.now g ids.now sc root result }
-{
-    (0..root + 1).any(|s| member(forest, work, g, s, sc, ids))
+    // Whether symbol s gets a definition in scope `sc`.
+    // Rules out: one of another scope; a context property, however often it is used.
+    pub fn member(&self, s: usize, sc: usize, ids: &[u32; 512]) -> bool
+        requires s_lt_symbols { s < self.now.graph.symbols }
+        ensures { Member self.now ids.now sc s result }
+    {
+        let uses = self.uses[s];
+        // asked first, since most symbols are used once
+        1 < uses
+            && ids[s] == 0
+            && key::load(self.graph.words, s).scope as usize == sc
+            && !self.graph.is_arg(s)
+            && gate::should_hoist(self.forest, self.graph.words, s, uses)
+    }
+
+    // How many symbols of an order get a definition in scope `sc`, seen from before the first of them.
+    // Rules out: symbols of other scopes counted too; one that has an id counted again.
+    pub fn members(&self, order: &[u16], sc: usize, ids: &[u32; 512]) -> u32
+        requires order_bound { length order.now ≤ 512 }
+        requires by_index { (k : ℕ) → k < length order.now → get_or order.now k 0 < self.now.graph.symbols }
+        ensures { (result ≤ 512) × Members self.now ids.now sc order.now result }
+    {
+        let mut k = 0;
+        for &s in order {
+            if self.member(usize::from(s), sc, ids) {
+                k += 1;
+            }
+        }
+        k
+    }
+
+    // Whether any symbol up to `root` gets a definition in scope `sc`. Where none does, the scope needs no order.
+    // Rules out: false where `root` itself gets one; true for a symbol of another scope.
+    pub fn any_member(&self, root: usize, sc: usize, ids: &[u32; 512]) -> bool
+        requires root_lt_symbols { root < self.now.graph.symbols }
+        ensures { AnyMember self.now ids.now sc root result }
+    {
+        (0..root + 1).any(|s| self.member(s, sc, ids))
+    }
 }

@@ -6,6 +6,8 @@
 ghost use Rattle.std.specs.Prelude.{◌≡◌};
 ghost use Rattle.reader.specs.Held.{Reached, reaching, onward, lit_at};
 
+use record::Forest;
+
 #[derive(Clone, Copy)]
 pub struct Reader<'a> {
     forest: &'a [u8],
@@ -46,7 +48,7 @@ impl<'a> Reader<'a> {
         requires { Reached self.forest.now self.at }
         ensures { result.now ≡ lit_at self.entry.forest.now self.entry.at }
     {
-        record::literal(self.forest, self.at)
+        Forest::new(self.forest).literal(self.at)
     }
 }
 

@@ -17,7 +17,7 @@ use Rattle.model.specs.Lists.{first}
 use Rattle.model.specs.Bytes.{u16}
 use Rattle.model.specs.Tree.{Row, row_len}
 use Rattle.model.specs.Shape.{Pairs}
-use Rattle.model.specs.Forest.{record_count, pairs_at, pairs_of, row_of, rows_at, rows_in, body_start}
+use Rattle.model.specs.Forest.{tree_count, record_count, pairs_at, pairs_of, row_of, rows_at, rows_in, body_start}
 use Rattle.model.specs.Forest.{bad_pairs, check3}
 use Rattle.laws.proofs.Apart.{some_none}
 use Rattle.laws.specs.Clear.{Clear}
@@ -122,6 +122,15 @@ laid_lies bs i laid l = record {
 
 pub records_few : (bs : List ℕ) → Laid bs → record_count bs ≤ 256
 records_few bs laid = (header_of bs laid.header).records_most
+
+pub header_long : (bs : List ℕ) → Laid bs → 4 ≤ length bs
+header_long bs laid = (header_of bs laid.header).least
+
+pub trees_few : (bs : List ℕ) → Laid bs → tree_count bs ≤ 16
+trees_few bs laid = (header_of bs laid.header).trees_most
+
+-- `tree_count` and `record_count` of a forest
+pub ruleset counts = (header_long, trees_few, records_few)
 
 pub pairs_inside : (bs : List ℕ) → Laid bs → 4 + 4 * record_count bs ≤ length bs
 unfolding body_start

@@ -2,7 +2,9 @@
 // what they hold; contracts cite those, so a constant that differs from its region is refused where it is used.
 #![tactic(auto)]
 
-// The words that the main call is lent at least.
+// The words that the main call is lent at least. That they are there stays a clause where words are lent (here, and of
+// IDS in the checks): an array of so many would ask more of callers, its length exactly, and a struct around the `&mut`
+// would have to promise at each call that it still holds the same words.
 pub const WORDS: usize = 16384;
 
 // While symbols are made. (The ids in force while checks run, and the symbols, begin at word 0.)

@@ -61,7 +61,7 @@ fn number(head: &[u8], i: usize) -> u32
     requires { 4 * i + 4 ≤ length head.now }
     ensures { result ≡ u32 (drop (4 * i) head.now) }
 {
-    shape::id_at(head, 4 * i)
+    shape::id(&head[4 * i..])
 }
 
 // The row of a head, unless the list ends within it.
@@ -115,7 +115,8 @@ fn all_are<T: Copy + PartialEq>(xs: &[T], x: T) -> bool
     xs.iter().all(|&y| y == x)
 }
 
-// Whether the output is the tree, and then the bytes that it was filled with.
+// Whether the output is the tree, and then the bytes that it was filled with. Here and below a shorter list is turned
+// away first: `split_at` asks for the length, and one expression would nest a block.
 fn is_output(out: &[u8], tree: &[u8]) -> bool
     ensures { IsTrue result ↔ (out.now ≡ rows.before tree.now (length out.now) BYTE) }
 {
@@ -154,6 +155,7 @@ fn agrees(row: Row, forest: &[u8], tree: &[u8], out: &mut [u8], work: &mut [u32]
     ensures output { IsTrue result → out_after (rows.call_in row forest.now) (replicate row.room BYTE)
         ++ replicate (length out.old - row.room) BYTE ≡ rows.before tree.now (length out.old) BYTE }
 {
+    // a row that the memory has no room for is not run
     if out.len() < row.room || work.len() < row.words {
         return false;
     }

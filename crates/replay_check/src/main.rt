@@ -19,7 +19,7 @@ fn answer<W: Write>(output: &mut W, forest: &[u8], work: &mut [u32; 3840]) -> io
     ensures { OnOk result (Appends (W.contents output.old) (W.contents output.new) (line forest.now)) }
 {
     match codec::check(forest, work) {
-        Ok(()) => output.write_all(b"accepted\n"),
+        Ok(_) => output.write_all(b"accepted\n"),
         Err(refused) => streams::write_refusal(output, refused),
     }
 }
@@ -51,7 +51,8 @@ fn row<R: Read, W: Write>(
     Ok(true)
 }
 
-// Answers up to 65,536 rows. Rules out: a row left out; a line after a row that the list ends in.
+// Answers up to 65,536 rows; `_k` has a name, since the proof counts the rows by it.
+// Rules out: a row left out; a line after a row that the list ends in.
 fn rows<R: Read, W: Write>(
     input: &mut R,
     output: &mut W,

@@ -16,12 +16,18 @@ use Rattle.laws.proofs.Short.{visit_adds}
 use Rattle.laws.proofs.Orders.{each_same, unless, each_body, visited, visit_opens, Adds, each_fresh}
 use Rattle.scopes.specs.declared.Rel as code
 use Rattle.scopes.specs.Relation.{rel_in}
-use Rattle.graph.specs.Graph.{graph_of, Related}
-use Rattle.schedule.specs.declared.Order.{Order}
-use Rattle.schedule.specs.declared.Order.TheVariants.{Body, Schedule}
+use Rattle.graph.specs.declared.held.Graph as held
+use Rattle.graph.specs.Tests.{held_in, Related}
+use Rattle.graph.proofs.Laws.{kids_low}
+use Rattle.schedule.specs.declared.scheduler.Order.{Order}
+use Rattle.schedule.specs.declared.scheduler.Order.TheVariants.{Body, Schedule}
+use Rattle.schedule.specs.declared.scheduler.Scheduler.{Scheduler}
 use Rattle.schedule.specs.Schedule.{scope_of, order_of, passed, stops, near_of, step_of, needs_of}
 
 -- ---- neighbours fall
+
+pub low_kids : (w : Scheduler) (slots : List ℕ) (s : ℕ) → Under s (sym_of (held_in w.graph w.forest.now slots) s).kids
+low_kids w = kids_low w.forest.now w.graph.words.now w.graph.symbols w.graph.scopes w.stocked.arena
 
 module _ (g : Graph) (kids_low : (s : ℕ) → Under s (sym_of g s).kids) where
   order_falls : (o : Order) (s : ℕ) → Under s (order_of g o s)
@@ -126,6 +132,6 @@ unfolding needs_of
 needs_rel g cs s r f = rw (needs_of, ← f)
 
 -- what a match on the relation tells
-pub told : (bs ws : List ℕ) (n m s cur : ℕ) {r v : code.Rel} → r ≡ v → Related ws n m s cur r → (slots : List ℕ) →
-    rel_in v ≡ rel_of (graph_of bs ws n m slots) s cur
-told bs ws n m s cur e h slots = ap rel_in (sym e) ∙ h bs slots
+pub told : (k : held.Graph) (s cur : ℕ) {r v : code.Rel} → r ≡ v → Related k s cur r → (bs slots : List ℕ) →
+    rel_in v ≡ rel_of (held_in k bs slots) s cur
+told k s cur e h bs slots = ap rel_in (sym e) ∙ h bs slots

@@ -7,10 +7,12 @@ use Rattle.model.specs.Gate.{Graph, sym_of}
 use Rattle.model.specs.Schedule.{is_arg, local, deeper, outside, is_outside, rel_of, visit, body_neighbours, neighbours}
 use Rattle.model.specs.Schedule.{collect, free_vars, schedule, local_dep_order}
 use Rattle.laws.specs.Members.{Under}
-use Rattle.graph.specs.Graph.{graph_of}
+use Rattle.graph.specs.declared.held.Graph as code
+use Rattle.graph.specs.Tests.{held_in}
 use Rattle.outsiders.specs.Outsiders.{Held}
-use Rattle.schedule.specs.declared.Order.{Order}
-use Rattle.schedule.specs.declared.Order.TheVariants.{Body, Schedule}
+use Rattle.schedule.specs.declared.scheduler.Order.{Order}
+use Rattle.schedule.specs.declared.scheduler.Order.TheVariants.{Body, Schedule}
+use Rattle.schedule.specs.declared.scheduler.Scheduler.{Scheduler}
 
 -- ---- the two orders: a body's order in a scope, a scope's schedule
 
@@ -52,17 +54,21 @@ needs_of g cs s = elim (rel_of g s cs) [ local ↦ local_dep_order (sym_of g s) 
 abbrev pub visit_of : Graph → Order → ℕ → List ℕ → List ℕ
 visit_of g o s = visit (order_of g o) s
 
--- ---- the neighbours of a symbol; bs are the forest's bytes, ws the words
+-- ---- the neighbours of a symbol
+
+-- the graph of a scheduler
+abbrev pub graph_in : Scheduler → Graph
+graph_in w = held_in w.graph w.forest.now []
 
 -- they are these, all lower
-pub record Near (bs ws : List ℕ) (n m : ℕ) (o : Order) (s : ℕ) (near : List ℕ) : Type 0 where
+pub record Near (w : Scheduler) (s : ℕ) (near : List ℕ) : Type 0 where
   pub below : Under s near
-  pub is : near ≡ near_of (graph_of bs ws n m []) o s
+  pub is : near ≡ near_of (graph_in w) w.order s
 
 -- s lies deeper, so they are its free list
-pub record LiesDeeper (bs ws : List ℕ) (n m : ℕ) (o : Order) (s : ℕ) : Type 0 where
-  pub goes_on : stops (graph_of bs ws n m []) o s ≡ false
-  pub lies : rel_of (graph_of bs ws n m []) s (scope_of o) ≡ deeper
+pub record LiesDeeper (w : Scheduler) (s : ℕ) : Type 0 where
+  pub goes_on : stops (graph_in w) w.order s ≡ false
+  pub lies : rel_of (graph_in w) s (scope_of w.order) ≡ deeper
 
 -- ---- lists that are lent
 
@@ -72,26 +78,25 @@ listed g (Body cs) vs = collect g (free_vars g) cs vs []
 listed g (Schedule sc) vs = vs
 
 -- symbols vs were visited: these were seen, and the list has what their order lists of them
-pub record Shows (bs ws : List ℕ) (n m : ℕ) (o : Order) (seen : List Bool) (list vs : List ℕ) : Type 0 where
-  pub held : Held n list
+pub record Shows (w : Scheduler) (seen : List Bool) (list vs : List ℕ) : Type 0 where
+  pub held : Held w.graph.symbols list
   pub known : (s : ℕ) → s < 512 → get_or seen s false ≡ is_in s vs
-  pub is : list ≡ listed (graph_of bs ws n m []) o vs
+  pub is : list ≡ listed (graph_in w) w.order vs
 
 -- some symbols were
-pub record Lent (bs ws : List ℕ) (n m : ℕ) (o : Order) (seen : List Bool) (list : List ℕ) : Type 0 where
+pub record Lent (w : Scheduler) (seen : List Bool) (list : List ℕ) : Type 0 where
   pub visited : List ℕ
-  pub shows : Shows bs ws n m o seen list visited
+  pub shows : Shows w seen list visited
 
 -- ---- what the functions give
 
 -- whichever were visited before, f of them have been now
-pub record Walked (bs ws : List ℕ) (n m : ℕ) (o : Order) (f : Graph → List ℕ → List ℕ) (seen : List Bool)
-    (list : List ℕ) (seen' : List Bool) (list' : List ℕ) : Type 0 where
-  pub shows : (vs : List ℕ) → Shows bs ws n m o seen list vs →
-      Shows bs ws n m o seen' list' (f (graph_of bs ws n m []) vs)
+pub record Walked (w : Scheduler) (f : Graph → List ℕ → List ℕ) (seen : List Bool) (list : List ℕ) (seen' : List Bool)
+    (list' : List ℕ) : Type 0 where
+  pub shows : (vs : List ℕ) → Shows w seen list vs → Shows w seen' list' (f (graph_in w) vs)
 
--- the schedule of scope `sc` from `root`
-pub record Scheduled (bs ws : List ℕ) (n m root sc : ℕ) (order : List ℕ) : Type 0 where
+-- the schedule of scope `sc` from `root`, of a graph that is held, over a forest of bytes bs
+pub record Scheduled (bs : List ℕ) (g : code.Graph) (root sc : ℕ) (order : List ℕ) : Type 0 where
   pub fit : length order ≤ 512
-  pub is : (slots : List ℕ) → order ≡ schedule (graph_of bs ws n m slots) root sc
+  pub is : (slots : List ℕ) → order ≡ schedule (held_in g bs slots) root sc
   pub low : (k : ℕ) → k < length order → get_or order k 0 ≤ root

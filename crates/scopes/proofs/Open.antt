@@ -52,14 +52,6 @@ nested_agree ws us m z e h =
           rw (word k lt, word (parent_of (scope_word ws k)) (omega arith)) (h.level k p lt);
     }
 
--- fewer scopes
-pub nested_less : (ws : List ℕ) (m n : ℕ) → n ≤ m → Nested ws m → Nested ws n
-nested_less ws m n le h = record {
-  outermost = h.outermost;
-  lower = λ k p lt. h.lower k p (omega arith);
-  level = λ k p lt. h.level k p (omega arith);
-}
-
 -- ---- the outermost scope
 
 pub scopes_outermost : (ws : List ℕ) → scopes_of ws 1 ≡ root_scope ∷ []

@@ -1,5 +1,6 @@
 // A set of numbers below 64, as the bits of a word: the nesting levels of the lambdas that a symbol depends on.
 // In order: the empty set, a test, a level put in and taken out, two sets joined.
+// That a level is below 64 stays a clause: levels are read from scopes' words, where no type holds it.
 ghost use Rattle.std.specs.Prelude.{◌≡◌, false, not, ◌&&◌, ◌||◌, ℕ, ◌<◌, ◌^◌, eqb};
 ghost use Rattle.scopes.specs.Levels.{has};
 

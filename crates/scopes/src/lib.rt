@@ -1,5 +1,6 @@
 // Scopes in work words: opening one, its parts, where a new symbol is placed, where a scope lies seen from another.
 // levels.rt has sets of nesting levels. A climb from scope to scope is a `while`: no range or list holds its steps.
+// That a scope's word is there, and its level below 63, stay clauses: they tie a number to words.
 #![tactic(auto)]
 
 pub mod levels;
@@ -120,6 +121,7 @@ fn is_ancestor(work: &[u32], ancestor: usize, sc: usize) -> bool
     let mut k = sc;
     while 0 < k {
         k = parent(work, k);
+        // the climb ends where it is found
         if k == ancestor {
             return true;
         }

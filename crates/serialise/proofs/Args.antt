@@ -1,118 +1,96 @@
--- A lambda's arguments written one by one. In order: an opt as a part of its literal; how long the renumbered literal
--- is; one turn of the loop that writes it; the loop's start and end.
+-- A lambda's arguments written one by one. In order: how long the renumbered literal is; what is left to be written; the
+-- loop's start, a turn, its end.
 -- Assumes nothing.
-use Prim.Native.Nat.{ℕ, zero, suc, ◌+◌, ◌-◌, ◌<◌, ◌≤◌}
-use mathlib.Core.Path.{◌≡◌, refl, sym, ap, ap₂, ◌∙◌}
-use Rattle.std.specs.Prelude.{Option, None, Some}
+use Prim.Native.Nat.{ℕ, zero, suc, ◌+◌, ◌≤◌}
+use mathlib.Core.Path.{◌≡◌, refl, sym, ap, ◌∙◌}
 use mathlib.Core.List.{List, [], ◌∷◌, ◌++◌, append_assoc}
 use native.Mathlib.Omega.{arith}
-use lib.ListN.{length, take, drop, length-append}
-use Rattle.model.specs.Bytes.{put32}
-use Rattle.model.specs.Shape.{a_opt}
+use lib.ListN.{length, drop, length-append}
+use Rattle.model.specs.Bytes.{u32, put32}
 use Rattle.model.specs.Binding.{opt_of, args_of}
 use Rattle.model.specs.Materialize.{arg_lit}
-use Rattle.shape.specs.Args.{Left, ArgEnd, next_arg}
-use Rattle.shape.proofs.Args.{args_step, left_next, left_stands, left_none, stands_within, turn_next, turn_args}
-use Rattle.output.specs.Output.{over}
-use Rattle.output.proofs.Over.{over-over, over-nil, over_then}
+use Rattle.laws.proofs.ArgLists.{args_length}
+use Rattle.shape.specs.Reading.{AllArgs}
+use Rattle.shape.proofs.Reading.{further, all_none, all_stand}
+use Rattle.output.specs.declared.Output.{Output}
+use Rattle.output.specs.Output.{Room, Put}
+use Rattle.output.proofs.Put.{put_none, put_as, put_then}
 
 pub put32-length : (n : ℕ) → length (put32 n) ≡ 4
 unfolding put32
 put32-length n = refl
 
--- ---- an opt is a prefix of what it is read from
-
-take_cut : (n : ℕ) (l : List ℕ) → take (length (take n l)) l ≡ take n l
-take_cut zero l = refl
-take_cut (suc n) [] = refl
-take_cut (suc n) (x ∷ l) = ap (λ (r : List ℕ). x ∷ r) (take_cut n l)
-
-opt_prefix : (l : List ℕ) → take (length (opt_of l)) l ≡ opt_of l
-unfolding opt_of
-opt_prefix l = go (a_opt l)
-  where
-    part : Option (List ℕ) → List ℕ
-    part o = elim o [ None ↦ [] | Some rest ↦ take (length l - length rest) l ]
-
-    go : (o : Option (List ℕ)) → take (length (part o)) l ≡ part o
-    go None = refl
-    go (Some rest) = take_cut (length l - length rest) l
-
 -- ---- renumbered arguments take as many bytes as they took
 
-pub lit_length : (n : ℕ) (lit : List ℕ) (at last : ℕ) → Left n lit at → at ≤ length lit
-    → length (arg_lit last (args_of n (drop at lit))) ≡ length lit - at
+-- one argument more
+more_length : (last : ℕ) (a : ℕ × List ℕ) (xs : List (ℕ × List ℕ))
+    → length (arg_lit last (a ∷ xs)) ≡ 4 + length a.1 + length (arg_lit (suc last) xs)
+unfolding arg_lit
+more_length last a xs =
+    length-append (put32 (suc last)) (a.1 ++ arg_lit (suc last) xs)
+    ∙ omega (arith, put32-length (suc last), length-append a.1 (arg_lit (suc last) xs))
+
+pub lit_length : (n : ℕ) (lit : List ℕ) (last : ℕ) → AllArgs n lit → length (arg_lit last (args_of n lit)) ≡ length lit
 unfolding arg_lit args_of
-lit_length zero lit at last l h = omega (arith, left_none l)
-lit_length (suc n) lit at last l h =
-    let opt = opt_of (drop (at + 4) lit) in
-    let rest = arg_lit (suc last) (args_of n (drop (next_arg lit at) lit)) in
-    let within = stands_within lit at (left_stands l) in
-    let later = lit_length n lit (next_arg lit at) (suc last) (left_next l) within in
-    ap (λ (xs : List (ℕ × List ℕ)). length (arg_lit last xs)) (args_step n lit at)
-    ∙ (length-append (put32 (suc last)) (opt ++ rest)
-    ∙ omega (arith, put32-length (suc last), length-append opt rest, within, later))
+lit_length zero lit last h = sym (all_none lit h)
+lit_length (suc n) lit last h =
+    let f = further n lit h in
+    ap (λ (xs : List (ℕ × List ℕ)). length (arg_lit last xs)) f.args
+    ∙ more_length last (u32 lit, opt_of (drop 4 lit)) (args_of n f.rest)
+    ∙ omega (arith, lit_length n f.rest (suc last) f.all, f.size)
 
--- ---- one turn: argument j, at `p`, is written at `at + p`, and what is left is written after it
+-- ---- the loop
 
-module _ {lit : List ℕ} {n j p end : ℕ} (h : j < n) (l : Left (n - j) lit p) (a : ArgEnd lit p end) where
-  opt : List ℕ
-  opt = opt_of (drop (p + 4) lit)
+-- xs are left, to be numbered after id; once they are written, so is the whole literal, numbered after last
+pub record Writing (lit : List ℕ) (n last : ℕ) (o₀ o : Output) (xs : List (ℕ × List ℕ)) (id : ℕ) : Type 0 where
+  pub count : id + length xs ≡ last + n
+  pub room : Room o (length (arg_lit id xs))
+  pub rest : (o' : Output) → Put o (arg_lit id xs) o' → Put o₀ (arg_lit last (args_of n lit)) o'
 
-  later : ℕ → List ℕ
-  later id = arg_lit (id + 1) (args_of (n - (j + 1)) (drop end lit))
+module _ (lit : List ℕ) (n last : ℕ) (o₀ : Output) where
+  pub lit_start : (xs : List (ℕ × List ℕ)) → xs ≡ args_of n lit → AllArgs n lit → Room o₀ (length lit) →
+      Writing lit n last o₀ o₀ xs last
+  lit_start xs e all room = record {
+    count = omega (arith, ap length e, args_length n lit);
+    room = omega (arith, ap (λ (ys : List (ℕ × List ℕ)). length (arg_lit last ys)) e, lit_length n lit last all);
+    rest = λ o' p. put_as (ap (arg_lit last) e) p;
+  }
 
-  turn_lit : (id : ℕ) → arg_lit id (args_of (n - j) (drop p lit)) ≡ put32 (id + 1) ++ (opt ++ later id)
-  unfolding arg_lit opt later
-  turn_lit id = let e : id + 1 ≡ suc id = omega arith in rw (turn_args h l a, e)
+  module _ (o : Output) (xs : List (ℕ × List ℕ)) (id : ℕ) (w : Writing lit n last o₀ o xs id) where
+    module _ (a : ℕ × List ℕ) (more : List (ℕ × List ℕ)) (e : xs ≡ a ∷ more) where
+      next : arg_lit id xs ≡ put32 (id + 1) ++ a.1 ++ arg_lit (id + 1) more
+      unfolding arg_lit
+      next =
+          let f : id + 1 ≡ suc id = omega arith in
+          rw (e, f) (sym (append_assoc (put32 (suc id)) a.1 (arg_lit (suc id) more)))
 
-  later_length : (id : ℕ) → length (later id) ≡ length lit - end
-  unfolding later
-  later_length id = lit_length (n - (j + 1)) lit end (id + 1) (turn_next h l a) a.within
+      lengths : length (arg_lit id xs) ≡ 4 + length a.1 + length (arg_lit (id + 1) more)
+      lengths =
+          ap length next
+          ∙ omega (
+            arith,
+            put32-length (id + 1),
+            length-append (put32 (id + 1) ++ a.1) (arg_lit (id + 1) more),
+            length-append (put32 (id + 1)) a.1,
+          )
 
-  pub turn_over : (id at next : ℕ) (out o₁ o₂ : List ℕ) → next ≡ at + p + 4 → at + length lit ≤ length out
-      → o₁ ≡ over out (at + p) (put32 (id + 1)) → o₂ ≡ over o₁ next (take (end - (p + 4)) (drop (p + 4) lit))
-      → over o₂ (at + end) (arg_lit (id + 1) (args_of (n - (j + 1)) (drop end lit)))
-      ≡ over out (at + p) (arg_lit id (args_of (n - j) (drop p lit)))
-  unfolding opt later
-  turn_over id at next out o₁ o₂ e fit w₁ w₂ =
-      ap₂ (λ (o : List ℕ) (k : ℕ). over o k (later id)) both place
-      ∙ (over-over out (at + p) (head ++ opt) (later id) room
-      ∙ ap (over out (at + p)) (append_assoc head opt (later id) ∙ sym (turn_lit id)))
-    where
-      head : List ℕ
-      head = put32 (id + 1)
+      pub lit_id : id + 1 ≤ last + n
+      lit_id = omega (arith, w.count, ap length e)
 
-      lengths : length (head ++ opt) ≡ 4 + length opt
-      lengths = length-append head opt ∙ omega (arith, put32-length (id + 1))
+      pub lit_room : Room o (4 + length a.1)
+      lit_room = omega (arith, w.room, lengths)
 
-      part : o₂ ≡ over o₁ next opt
-      part =
-          let k : end - (p + 4) ≡ length opt = omega (arith, a.is) in
-          rw (k, opt_prefix) at w₂
+      pub lit_turn : {o₁ o₂ : Output} → Put o (put32 (id + 1)) o₁ → Put o₁ a.1 o₂ → Writing lit n last o₀ o₂ more (id + 1)
+      lit_turn p q =
+          let both = put_then p q in
+          record {
+            count = omega (arith, w.count, ap length e);
+            room = omega (arith, w.room, lengths, both.ends, both.len, put32-length (id + 1), length-append (put32 (id + 1)) a.1);
+            rest = λ o' r. w.rest o' (put_as (sym next) (put_then both r));
+          }
 
-      both : o₂ ≡ over out (at + p) (head ++ opt)
-      both =
-          let k = put32-length (id + 1) in
-          over_then out o₁ o₂ (at + p) next head opt w₁ part (omega arith) (omega (arith, a.is, a.within))
+    pub lit_end : xs ≡ [] → Put o₀ (arg_lit last (args_of n lit)) o
+    unfolding arg_lit
+    lit_end e = w.rest o (put_as (sym (ap (arg_lit id) e)) (put_none o (omega (arith, w.room))))
 
-      place : at + end ≡ at + p + length (head ++ opt)
-      place = omega (arith, lengths, a.is)
-
-      room : at + p + length (head ++ opt) + length (later id) ≤ length out
-      room = omega (arith, lengths, later_length id, a.is, a.within)
-
--- ---- before the first argument, and after the last
-
-module _ (lit : List ℕ) (n : ℕ) where
-  pub args_start : (out : List ℕ) (at id : ℕ)
-      → over out (at + 0) (arg_lit id (args_of (n - 0) lit)) ≡ over out at (arg_lit id (args_of n lit))
-  args_start out at id = let e : at + 0 ≡ at = omega arith in let f : n - 0 ≡ n = omega arith in rw (e, f)
-
-  module _ (j p : ℕ) (h : n ≤ j) where
-    pub args_end : (out : List ℕ) (at id : ℕ) → over out at (arg_lit id (args_of (n - j) (drop p lit))) ≡ out
-    unfolding arg_lit args_of
-    args_end out at id = let e : n - j ≡ 0 = omega arith in rw e (over-nil out at)
-
-    pub left_end : Left (n - j) lit p → length lit ≤ p
-    left_end l = let e : n - j ≡ 0 = omega arith in left_none (rw e at l)
+pub ruleset writing = (all_stand, lit_start, lit_id, lit_room, lit_turn, lit_end)

@@ -11,10 +11,10 @@ use lib.ListN.{length}
 use Rattle.model.specs.Tree.{Row}
 use Rattle.model.specs.Shape.{shapes, fits}
 use Rattle.model.specs.Shape.{a_arg}
-use Rattle.shape.specs.Args.{Left}
+use Rattle.shape.specs.Reading.{AllArgs}
 use Rattle.shape.proofs.Part.{never, whole_stands, whole_id, whole_byte}
 use Rattle.shape.proofs.Table.{shape_at}
-use Rattle.shape.proofs.Args.{stands_id}
+use Rattle.shape.proofs.Reading.{arg_there}
 
 -- ---- the tests of `fits`
 
@@ -63,8 +63,8 @@ module _ (r : Row) (h : fits r ≡ true) where
   unfolding shapes
   fits_def e =
       let f = fitting r h in
-      let s = stands_id r.rec.lit 0 (whole_stands a_arg r.rec.lit (rw e at f.literal)) in
-      (omega (arith, rw e at f.few, rw e at f.many), omega (arith, s))
+      let s = arg_there r.rec.lit (whole_stands a_arg r.rec.lit (rw e at f.literal)) in
+      (omega (arith, rw e at f.few, rw e at f.many), s)
 
   -- BlockValue: a result
   pub fits_block : r.rec.shape ≡ 11 → 1 ≤ r.kids
@@ -72,11 +72,11 @@ module _ (r : Row) (h : fits r ≡ true) where
   fits_block e = rw e at (fitting r h).few
 
   -- FuncValue: one child, the body; aux arguments and no more
-  pub fits_func : r.rec.shape ≡ 12 → (r.kids ≡ 1) × (r.rec.aux ≤ 15) × Left r.rec.aux r.rec.lit 0
+  pub fits_func : r.rec.shape ≡ 12 → (r.kids ≡ 1) × (r.rec.aux ≤ 15) × AllArgs r.rec.aux r.rec.lit
   unfolding shapes
   fits_func e =
       let f = fitting r h in
-      (omega (arith, rw e at f.few, rw e at f.many), rw e at f.aux, record { is = rw e at f.literal })
+      (omega (arith, rw e at f.few, rw e at f.many), rw e at f.aux, rw e at f.literal)
 
   -- SelectField: one child, the input; a byte
   pub fits_field : r.rec.shape ≡ 17 → (r.kids ≡ 1) × (length r.rec.lit ≡ 1)

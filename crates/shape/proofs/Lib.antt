@@ -1,6 +1,6 @@
 -- Laws that no one function owns, in reading order. `Fitting`, `Args` and `Thunks` are for callers. Assumes nothing.
 pub mod Part
 pub mod Table
-pub mod Args
+pub mod Reading
 pub mod Fitting
 pub mod Thunks

@@ -1,2 +1,3 @@
 -- What the contracts cite. Assumes nothing.
-pub mod Args
+pub mod Reading
+pub mod Iterating

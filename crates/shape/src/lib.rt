@@ -1,17 +1,17 @@
 // Checks 4 and 5 of one record: its children, aux and literal against its shape, and its opcode against its shape.
-// Then which operands are thunks, and the arguments in a lambda's literal. In order: names of shapes and
-// opcodes; the table of shapes; opcodes; ids, arguments. The parts of a literal are in parts.rt.
+// Then which operands are thunks. In order: names of shapes and opcodes; the table of shapes; opcodes. Ids and a
+// lambda's arguments are in arguments.rt, the other parts of a literal in parts.rt.
 #![tactic(auto)]
 
+mod arguments;
 mod parts;
 
-ghost use Rattle.std.specs.Prelude.{◌≡◌, ◌&&◌, ℕ, ◌+◌, ◌≤◌, List, leb, length, drop};
-ghost use Rattle.model.specs.Bytes.{u32};
+ghost use Rattle.std.specs.Prelude.{◌≡◌, ◌&&◌, ℕ, List, leb};
 ghost use Rattle.model.specs.Tree.{rec};
 ghost use Rattle.model.specs.Shape as model;
 ghost use Rattle.model.specs.Intern.{thunked};
-ghost use Rattle.shape.specs.Args.{ArgEnd};
 
+pub use arguments::{Arg, Args, id, split_arg};
 use parts::{
     all_bits, arg_part, args_part, byte_part, byte_type_part, id_part, is_whole, method_part,
     type_part,
@@ -196,26 +196,4 @@ pub fn is_thunked(opcode: u8, j: usize) -> bool
         2 => opcode == IF_OP,
         _ => false,
     }
-}
-
-// ---- ids and arguments
-
-// The id at `at`, little-endian.
-// Rules out: the bytes the other way round; the id at the literal's start whatever `at` is.
-#[tactic(auto, using(crate::proofs::Args::u32_at))]
-pub fn id_at(lit: &[u8], at: usize) -> u32
-    requires { at + 4 ≤ length lit.now }
-    ensures { result ≡ u32 (drop at lit.now) }
-{
-    u32::from_le_bytes([lit[at], lit[at + 1], lit[at + 2], lit[at + 3]])
-}
-
-// Where the argument at `at` ends, and the next begins.
-// Rules out: a place before the opt's type; a place past the literal's end.
-pub fn arg_end(lit: &[u8], at: usize) -> usize
-    requires { model.a_arg (drop at lit.now) ≡ None → ⊥ }
-    ensures { ArgEnd lit.now at result }
-{
-    let rest = arg_part(&lit[at..]).unwrap();
-    lit.len() - rest.len()
 }

@@ -1,8 +1,9 @@
 // The parts of a literal, read from its front: each gives what is left after it, or None if it does not stand there.
-// In order: a byte, an id, a type, an opt; arguments; types; a byte and a type; a method call's parts; whether a part
-// is the whole literal; bits.
+// In order: a byte, an id, a type, an opt; an argument; parts of one kind: arguments, types; a byte and a type; a method
+// call's parts; whether a part is the whole literal; bits.
 ghost use Rattle.std.specs.Prelude.{◌≡◌, ℕ, List, option_copied};
 ghost use Rattle.model.specs.Shape.{Reader, whole, a_byte, a_id, a_type, a_opt, a_arg, ◌then◌, times, a_counted, bits};
+ghost use Rattle.shape.specs.Reading.{TakesOff};
 
 // A byte, whatever it is.
 #[tactic(auto, unfolding(model::specs::Shape::a_byte))]
@@ -51,28 +52,33 @@ pub fn arg_part(lit: &[u8]) -> Option<&[u8]>
     opt_part(id_part(lit)?)
 }
 
-// `n` arguments. Rules out: one fewer; as many as stand there.
+// `n` parts of one kind, each taken off by `part`.
 #[tactic(auto, using(crate::proofs::Part::turns))]
-pub fn args_part(lit: &[u8], n: u8) -> Option<&[u8]>
-    ensures { option_copied result ≡ times n a_arg lit.now }
+fn times_part<F: Fn(&[u8]) -> Option<&[u8]>>(part: F, lit: &[u8], n: u8) -> Option<&[u8]>
+    requires { F.IsAlwaysCallable part }
+    ensures { (f : Reader) → TakesOff (F.post part) f → option_copied result ≡ times n f lit.now }
 {
     let mut rest = lit;
     for _ in 0..n {
-        rest = arg_part(rest)?;
+        rest = part(rest)?;
     }
     Some(rest)
 }
 
+// `n` arguments. Rules out: one fewer; as many as stand there.
+pub fn args_part(lit: &[u8], n: u8) -> Option<&[u8]>
+    ensures { option_copied result ≡ times n a_arg lit.now }
+{
+    times_part(arg_part, lit, n)
+}
+
 // A count byte, and so many types.
-#[tactic(auto, using(crate::proofs::Part::turns), unfolding(model::specs::Shape::a_counted))]
+#[tactic(auto, unfolding(model::specs::Shape::a_counted))]
 fn types_part(lit: &[u8]) -> Option<&[u8]>
     ensures { option_copied result ≡ a_counted a_type lit.now }
 {
-    let (n, mut rest) = lit.split_first()?;
-    for _ in 0..*n {
-        rest = type_part(rest)?;
-    }
-    Some(rest)
+    let (n, types) = lit.split_first()?;
+    times_part(type_part, types, *n)
 }
 
 // A byte and a type. Rules out: a type alone; a byte and an opt.

@@ -1,5 +1,5 @@
--- Texts put into a buffer as far as there is room. In order: nothing; one text after another; a text from a buffer of
--- its own; spaces; bytes in hex.
+-- Texts put into an output as far as there is room. In order: nothing; the same text; over a buffer's start; one text
+-- after another; a text from a buffer of its own; spaces; bytes in hex.
 -- Assumes nothing.
 use Prim.Native.Nat.{ℕ, ◌+◌, ◌-◌, ◌<◌, ◌≤◌}
 use mathlib.Core.Path.{◌≡◌, refl, sym, ap, ◌∙◌, subst}
@@ -16,26 +16,33 @@ use Rattle.std.proofs.Common.{min}
 use Rattle.std.proofs.lemmas.List.{take_min, take-replicate}
 use Rattle.std.proofs.lemmas.Slice.{put_mid-paste}
 use Rattle.model.specs.Lister.{hex_byte}
-use Rattle.output.proofs.Over.{over_front, paste_over}
 use Rattle.model.specs.Sheet.{hex_bytes}
-use Rattle.output.specs.Output.{over, Wrote}
-use Rattle.output.proofs.Wrote.{wrote_none, wrote_part, wrote_as, wrote_length, wrote_then}
-use Rattle.sheet.specs.Clip.{Clipped}
+use Rattle.output.specs.declared.Output.{Output}
+use Rattle.output.specs.Output.{over, Wrote, Room}
+use Rattle.output.proofs.Over.{over_front, paste_over}
+use Rattle.output.proofs.Put.{put_none, put_part, put_as, put_then, put_wrote}
+use Rattle.output.proofs.Wrote.{wrote_as}
+use Rattle.sheet.specs.Clip.{Clipped, PutClipped}
 
-pub clipped_none : (out : List ℕ) (at : ℕ) → at ≤ length out → Clipped out at [] out at
-clipped_none out at h = record { is = wrote_as (sym (take-nil (length out - at))) (wrote_none out at h) }
+pub clipped_none : (o : Output) → Room o 0 → PutClipped o [] o
+clipped_none o h = record {
+  is = put_as (sym (take-nil (length o.bytes.now - o.at))) (put_none o (omega (arith, h)));
+}
 
-module _ {out : List ℕ} {at : ℕ} {s out' : List ℕ} {r : ℕ} (v : Clipped out at s out' r) where
-  pub clipped_length : length out' ≡ length out
-  clipped_length = wrote_length v.is
-
+module _ {o o' : Output} {s : List ℕ} (v : PutClipped o s o') where
   -- the next text may follow
-  pub clipped_room : r ≤ length out'
-  clipped_room = omega (arith, v.is.fits, clipped_length)
+  pub clipped_room : Room o' 0
+  clipped_room = omega (arith, v.is.fits)
 
   -- the same text
-  pub clipped_as : {t : List ℕ} → s ≡ t → Clipped out at t out' r
-  clipped_as {t} e = subst (λ (z : List ℕ). Clipped out at z out' r) e v
+  pub clipped_as : {t : List ℕ} → s ≡ t → PutClipped o t o'
+  clipped_as {t} e = subst (λ (z : List ℕ). PutClipped o z o') e v
+
+  -- over a buffer's start
+  pub clipped_over : {out : List ℕ} → o.bytes.now ≡ out → o.at ≡ 0 → Clipped out 0 s o'.bytes.now o'.at
+  clipped_over {out} e z =
+      let n : length o.bytes.now - o.at ≡ length out - 0 = omega (arith, ap length e) in
+      record { is = wrote_as (ap (λ (k : ℕ). take k s) n) (put_wrote e z v.is) }
 
 -- ---- one text after another
 
@@ -54,11 +61,11 @@ take_both s t n = go (ltb n (length s)) refl
         ap (λ (k : ℕ). take k (s ++ t)) z ∙ (take-append-add s t (n - length s)
         ∙ ap (λ (x : List ℕ). x ++ take (n - length x) t) (sym (take_all n s l)))
 
-pub clipped_then : {s t a b c : List ℕ} {i j k : ℕ} → Clipped a i s b j → Clipped b j t c k → Clipped a i (s ++ t) c k
-clipped_then {s} {t} {a} {b} {c} {i} {j} {k} v w =
-    let n = length a - i in
-    let e : length b - j ≡ n - length (take n s) = omega (arith, clipped_length v, v.is.ends) in record {
-      is = wrote_as (ap (λ (m : ℕ). take n s ++ take m t) e ∙ sym (take_both s t n)) (wrote_then v.is w.is);
+pub clipped_then : {s t : List ℕ} {o o₁ o₂ : Output} → PutClipped o s o₁ → PutClipped o₁ t o₂ → PutClipped o (s ++ t) o₂
+clipped_then {s} {t} {o} {o₁} v w =
+    let n = length o.bytes.now - o.at in
+    let e : length o₁.bytes.now - o₁.at ≡ n - length (take n s) = omega (arith, v.is.len, v.is.ends) in record {
+      is = put_as (ap (λ (m : ℕ). take n s ++ take m t) e ∙ sym (take_both s t n)) (put_then v.is w.is);
     }
 
 -- ---- a text from a buffer of its own
@@ -76,14 +83,17 @@ some_of x n k room e =
     let f : min room (length (replicate n x)) ≡ k = omega (arith, length-replicate n x) in
     sym (take_min room (replicate n x)) ∙ rw f (take-replicate k n x (omega arith))
 
-pub spaces_put : (out : List ℕ) (at n k : ℕ) (s : List ℕ) → at ≤ length out → k ≡ min n (length out - at) →
-    s ≡ replicate k 32 → Clipped out at (replicate n 32) (put_mid at (at + k - at) out s) (at + k)
-spaces_put out at n k s h e f =
+pub spaces_put : {o o' : Output} (n k : ℕ) (s : List ℕ) → Room o 0 → k ≡ min n (length o.bytes.now - o.at) →
+    s ≡ replicate k 32 → o'.bytes.ghost_name ≡ o.bytes.ghost_name → o'.at ≡ o.at + k →
+    o'.bytes.now ≡ put_mid o.at (o.at + k - o.at) o.bytes.now s → PutClipped o (replicate n 32) o'
+spaces_put {o} {o'} n k s h e f same ends holds =
     let t : List ℕ = replicate k 32 in
     let l : length t ≡ k = length-replicate k 32 in
-    let o : put_mid at (at + k - at) out s ≡ over out at t =
-    put_mid-paste at (at + k - at) out s t (length t) f (omega arith) refl ∙ paste_over out at t in
-    record { is = wrote_as (sym (some_of 32 n k (length out - at) e)) (wrote_part (omega arith) (omega arith) o) }
+    let w : o'.bytes.now ≡ over o.bytes.now o.at t =
+    holds ∙ (put_mid-paste o.at (o.at + k - o.at) o.bytes.now s t (length t) f (omega arith) refl
+    ∙ paste_over o.bytes.now o.at t) in record {
+      is = put_as (sym (some_of 32 n k (length o.bytes.now - o.at) e)) (put_part (omega arith) same (omega arith) w);
+    }
 
 -- ---- bytes in hex
 
@@ -97,13 +107,12 @@ hex_one : (b : ℕ) → hex_bytes (b ∷ []) ≡ hex_byte b
 unfolding hex_bytes
 hex_one b = append-nil (hex_byte b)
 
-pub hex_start : (out : List ℕ) (at : ℕ) → at ≤ length out → Clipped out at (hex_bytes []) out at
+pub hex_start : (o : Output) → Room o 0 → PutClipped o (hex_bytes []) o
 unfolding hex_bytes
-hex_start out at h = clipped_none out at h
+hex_start o h = clipped_none o h
 
-pub hex_turn : (s : List ℕ) (m : ℕ) {a b c : List ℕ} {i j k : ℕ} → m < length s →
-    Clipped a i (hex_bytes (take m s)) b j → Clipped b j (hex_byte (get_or s m 0)) c k →
-    Clipped a i (hex_bytes (take (m + 1) s)) c k
+pub hex_turn : (s : List ℕ) (m : ℕ) {o o₁ o₂ : Output} → m < length s → PutClipped o (hex_bytes (take m s)) o₁ →
+    PutClipped o₁ (hex_byte (get_or s m 0)) o₂ → PutClipped o (hex_bytes (take (m + 1) s)) o₂
 hex_turn s m l v w =
     let e : take (m + 1) s ≡ take m s ++ (get_or s m 0 ∷ []) =
     ap (λ (n : ℕ). take n s) (add-one m) ∙ take-suc s m 0 l in

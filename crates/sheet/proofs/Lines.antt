@@ -1,33 +1,30 @@
 -- The texts of a record's line. In order: how many spaces stand before a number; a literal; a lambda's arguments; a
 -- constant's mark and class; what a record of a shape has; a line; what is required of its record.
 -- Assumes nothing.
-use Prim.Native.Nat.{ℕ, zero, suc, ◌+◌, ◌-◌, ◌/◌, ◌<◌, ◌≤◌}
-use mathlib.Core.Path.{◌≡◌, refl, ap, ◌∙◌}
+use Prim.Native.Nat.{ℕ, zero, suc, ◌-◌, ◌/◌, ◌<◌, ◌≤◌}
+use mathlib.Core.Path.{◌≡◌, refl, ap}
 use mathlib.Core.Bool.{Bool, true, false}
-use Rattle.std.specs.Prelude.{None}
 use mathlib.Core.List.{List, [], ◌∷◌, ◌++◌, map}
 use native.Mathlib.Omega.{arith}
 use native.Mathlib.Decide.{dec_lt}
 use borrow.Author.Tests.{ne_eqb}
 use lib.Dec.{eqb}
-use lib.ListN.{length, get_or, drop}
+use lib.ListN.{length, get_or}
 use Rattle.model.specs.Text.{text}
 use Rattle.model.specs.Bytes.{u32}
 use Rattle.model.specs.Tree.{Rec, rec, class, mark}
-use Rattle.model.specs.Shape.{a_arg}
 use Rattle.model.specs.Forest.{record_count}
-use Rattle.model.specs.Binding.{block, other, kind, id_of, arg_ids}
+use Rattle.model.specs.Binding.{block, other, kind, id_of, arg_ids, args_of}
 use Rattle.model.specs.Lister.{numeral}
 use Rattle.model.specs.Sheet.{named, shape_names, class_names, hex_bytes, id_texts, args_text, id_text, mark_text, const_text}
 use Rattle.model.specs.Sheet.{own_text, literal_text, place_text, opcode_text, record_line}
 use Rattle.text.proofs.Numbers.{numeral_least, numeral_before}
-use Rattle.shape.specs.Args.{Left, next_arg, ArgEnd}
-use Rattle.shape.proofs.Args.{args_step, args_none, left_id, left_stands, left_next}
 use Rattle.record.specs.Record.{row_at}
 use Rattle.walk.specs.Words.{arg_ids_at}
 use Rattle.walk.specs.Walk.{WellFormed}
 use Rattle.walk.proofs.Bridge.{row_fits}
-use Rattle.sheet.specs.Clip.{Clipped}
+use Rattle.output.specs.declared.Output.{Output}
+use Rattle.sheet.specs.Clip.{PutClipped}
 use Rattle.sheet.specs.Shown.{Fits}
 use Rattle.sheet.proofs.Clipping.{clipped_then, clipped_as}
 
@@ -69,43 +66,27 @@ literal_some (b ∷ bs) n = refl
 
 -- ---- a lambda's arguments
 
-pub ids_none : (n : ℕ) (lit : List ℕ) → n ≡ 0 → [] ≡ id_texts (arg_ids_at n lit)
+abbrev pub ids : List (ℕ × List ℕ) → List ℕ
+ids xs = map (λ (a : ℕ × List ℕ). a.0) xs
+
+pub ids_none : (left : List (ℕ × List ℕ)) → left ≡ [] → [] ≡ id_texts (ids left)
 unfolding id_texts
-ids_none n lit e = rw (e, args_none lit)
+ids_none left e = rw e
 
-module _ {n : ℕ} {lit : List ℕ} {at : ℕ} (h : n ≡ 0 → ⊥) (l : Left n lit at) where
-  one_more : Left (suc (n - 1)) lit at
-  one_more = let e : n ≡ suc (n - 1) = omega arith in rw e at l
-
-  pub ids_left : at + 4 ≤ length lit
-  ids_left = left_id one_more
-
-  pub ids_stands : a_arg (drop at lit) ≡ None → ⊥
-  ids_stands = left_stands one_more
-
-  pub ids_next : {r : ℕ} → ArgEnd lit at r → Left (n - 1) lit r
-  ids_next a = rw a.is (left_next one_more)
-
-ids_cons : (n : ℕ) (lit : List ℕ) (at : ℕ) → (n ≡ 0 → ⊥) →
-    arg_ids_at n (drop at lit) ≡ u32 (drop at lit) ∷ arg_ids_at (n - 1) (drop (next_arg lit at) lit)
-ids_cons n lit at h =
-    let e : n ≡ suc (n - 1) = omega arith in
-    ap (λ (m : ℕ). arg_ids_at m (drop at lit)) e ∙ ap (map (λ (a : ℕ × List ℕ). a.0)) (args_step (n - 1) lit at)
-
-pub ids_more : (n : ℕ) (lit : List ℕ) (at id next : ℕ) → (n ≡ 0 → ⊥) → id ≡ u32 (drop at lit) →
-    next ≡ next_arg lit at →
-    text " " ++ numeral id ++ id_texts (arg_ids_at (n - 1) (drop next lit)) ≡ id_texts (arg_ids_at n (drop at lit))
+pub ids_more : (left : List (ℕ × List ℕ)) (a : ℕ × List ℕ) (more : List (ℕ × List ℕ)) → left ≡ a ∷ more →
+    text " " ++ numeral a.0 ++ id_texts (ids more) ≡ id_texts (ids left)
 unfolding id_texts
-ids_more n lit at id next h e f = rw (e, f, ids_cons n lit at h)
+ids_more left a more e = rw e
 
 pub args_none_text : (n : ℕ) (lit : List ℕ) → n ≡ 0 → [] ≡ args_text (arg_ids_at n lit)
-unfolding args_text
-args_none_text n lit e = rw (e, args_none lit)
+unfolding args_text args_of
+args_none_text n lit e = rw e
 
 pub args_text_lem : (n : ℕ) (lit : List ℕ) → (n ≡ 0 → ⊥) →
     text "  args" ++ id_texts (arg_ids_at n lit) ≡ args_text (arg_ids_at n lit)
-unfolding args_text
-args_text_lem n lit h = rw (ids_cons n lit 0 h)
+unfolding args_text args_of
+args_text_lem zero lit h = absurd (h refl)
+args_text_lem (suc n) lit h = refl
 
 -- ---- a constant's mark and class
 
@@ -165,14 +146,14 @@ module _ (s op aux : ℕ) (lit : List ℕ) where
 -- ---- a line
 
 pub line_parts : (i depth : ℕ) (r : Rec) {s o a : ℕ} {l : List ℕ} → s ≡ r.shape → o ≡ r.opcode → a ≡ r.aux →
-    l ≡ r.lit → {b₀ b₁ b₂ b₃ b₄ b₅ b₆ : List ℕ} {p₀ p₁ p₂ p₃ p₄ p₅ p₆ : ℕ} →
-    Clipped b₀ p₀ (place_text i depth) b₁ p₁ →
-    Clipped b₁ p₁ (named [] shape_names s) b₂ p₂ →
-    Clipped b₂ p₂ (opcode_text o) b₃ p₃ →
-    ((op : ℕ) → Clipped b₃ p₃ (own_text (rec s op a l)) b₄ p₄) →
-    Clipped b₄ p₄ (literal_text l) b₅ p₅ →
-    Clipped b₅ p₅ (10 ∷ []) b₆ p₆ →
-    Clipped b₀ p₀ (record_line i depth r) b₆ p₆
+    l ≡ r.lit → {o₀ o₁ o₂ o₃ o₄ o₅ o₆ : Output} →
+    PutClipped o₀ (place_text i depth) o₁ →
+    PutClipped o₁ (named [] shape_names s) o₂ →
+    PutClipped o₂ (opcode_text o) o₃ →
+    ((op : ℕ) → PutClipped o₃ (own_text (rec s op a l)) o₄) →
+    PutClipped o₄ (literal_text l) o₅ →
+    PutClipped o₅ (10 ∷ []) o₆ →
+    PutClipped o₀ (record_line i depth r) o₆
 unfolding record_line text
 line_parts i depth r {s} {o} {a} {l} e f g h place shape opcode own literal end =
     let owned : own_text (rec s r.opcode a l) ≡ own_text r = rw (e, g, h) in

@@ -6,7 +6,6 @@ use Prim.Native.Nat.{ℕ, suc, ◌+◌, ◌-◌, ◌<◌, ◌≤◌}
 use mathlib.Core.Path.{◌≡◌, sym, ap, ap₂, ◌∙◌}
 use mathlib.Core.List.{List}
 use native.Mathlib.Omega.{arith}
-use lib.ListN.{length}
 use Rattle.model.specs.Tree.{Trees, cons, many, take_t, drop_t, size, sizes}
 use Rattle.model.specs.Forest.{record_count, tree_count, trees_of}
 use Rattle.model.specs.Sheet.{record_line, trees_lines, forest_lines}
@@ -14,8 +13,9 @@ use Rattle.record.specs.Record.{row_at}
 use Rattle.walk.specs.Walk.{trees_from, rec_at, kid_trees_at, rest_at, tree_at, WellFormed}
 use Rattle.walk.proofs.Bridge.{trees_at, trees_left}
 use Rattle.walk.proofs.Walking.{trees-whole}
-use Rattle.sheet.specs.declared.Progress.{Progress}
-use Rattle.sheet.specs.Clip.{Clipped}
+use Rattle.output.specs.declared.Output.{Output}
+use Rattle.output.specs.Output.{Room}
+use Rattle.sheet.specs.Clip.{PutClipped}
 use Rattle.sheet.specs.Shown.{Shown}
 use Rattle.sheet.proofs.Clipping.{clipped_none, clipped_then, clipped_as}
 
@@ -26,11 +26,10 @@ record_there bs i l some = trees_left bs i (omega arith)
 module _ (bs : List ℕ) (i depth count : ℕ) where
   -- ---- no trees
 
-  pub shown_none : (out : List ℕ) (at : Progress) → i ≡ at.record → count ≡ 0 → at.end ≤ length out →
-      Shown bs i depth count out at.end out at
+  pub shown_none : (o : Output) (r : ℕ) → i ≡ r → count ≡ 0 → Room o 0 → Shown bs i depth count o o r
   unfolding take_t drop_t sizes trees_lines
-  shown_none out at e z h = record {
-    lines = rw z (clipped_none out at.end h);
+  shown_none o r e z h = record {
+    lines = rw z (clipped_none o h);
     next = rw z (omega (arith, e));
     rest = rw (z, e);
   }
@@ -52,27 +51,27 @@ module _ (bs : List ℕ) (i depth count : ℕ) where
         ap (drop_t count) (trees_at bs i (record_there bs i l some))
         ∙ ap (λ (n : ℕ). drop_t n (cons (tree_at bs i) (rest_at bs i))) e
 
-    module _ (kids : ℕ) (k : kids ≡ (row_at bs i).kids) {out out₁ out₂ : List ℕ} {at end : ℕ} {below : Progress}
-        (v : Clipped out at (record_line i depth (rec_at bs i)) out₁ end)
-        (w : Shown bs (i + 1) (depth + 1) kids out₁ end out₂ below) where
+    module _ (kids : ℕ) (k : kids ≡ (row_at bs i).kids) {o o₁ o₂ : Output} {below : ℕ}
+        (v : PutClipped o (record_line i depth (rec_at bs i)) o₁)
+        (w : Shown bs (i + 1) (depth + 1) kids o₁ o₂ below) where
       children : take_t kids (trees_from bs (i + 1)) ≡ kid_trees_at bs i
       unfolding kid_trees_at
       children = rw k
 
       -- where the children end, the rest starts
-      after : trees_from bs below.record ≡ rest_at bs i
+      after : trees_from bs below ≡ rest_at bs i
       unfolding rest_at
       after = w.rest ∙ rw k
 
-      ends : below.record ≡ i + size (tree_at bs i)
+      ends : below ≡ i + size (tree_at bs i)
       unfolding size
       ends = omega (arith, w.next, ap sizes children)
 
-      pub onward : i + 1 ≤ below.record
+      pub onward : i + 1 ≤ below
       onward = omega (arith, w.next)
 
       -- the trees left are there
-      pub left_there : count - 1 ≤ many (trees_from bs below.record)
+      pub left_there : count - 1 ≤ many (trees_from bs below)
       unfolding many
       left_there = omega (arith, ap many after, ap many (trees_at bs i (record_there bs i l some)))
 
@@ -84,15 +83,14 @@ module _ (bs : List ℕ) (i depth count : ℕ) where
           ap (trees_lines (i + 1) (depth + 1)) children
           ∙ ap₂ (λ (n m : ℕ). trees_lines n m (kid_trees_at bs i)) e f
 
-      outer : trees_lines below.record depth (take_t (count - 1) (trees_from bs below.record)) ≡
+      outer : trees_lines below depth (take_t (count - 1) (trees_from bs below)) ≡
           trees_lines (i + size (tree_at bs i)) depth (take_t (count - 1) (rest_at bs i))
       outer = ap₂ (λ (n : ℕ) (ts : Trees). trees_lines n depth (take_t (count - 1) ts)) ends after
 
-      pub shown_more : {out₃ : List ℕ} {r : Progress} →
-          Shown bs below.record depth (count - 1) out₂ below.end out₃ r →
-          Shown bs i depth count out at out₃ r
+      pub shown_more : {o₃ : Output} {r : ℕ} → Shown bs below depth (count - 1) o₂ o₃ r →
+          Shown bs i depth count o o₃ r
       unfolding trees_lines sizes
-      shown_more {out₃} {r} x = record {
+      shown_more x = record {
         lines =
             clipped_as (clipped_then (clipped_then v (clipped_as w.lines inner)) (clipped_as x.lines outer))
             (ap (trees_lines i depth) (sym taken));
@@ -102,7 +100,7 @@ module _ (bs : List ℕ) (i depth count : ℕ) where
 
 -- ---- a forest
 
-pub shown_all : (bs : List ℕ) (count : ℕ) → WellFormed bs → count ≡ tree_count bs → {out out' : List ℕ} {r : Progress} →
-    Shown bs 0 1 count out 0 out' r → Clipped out 0 (forest_lines (trees_of bs)) out' r.end
+pub shown_all : (bs : List ℕ) (count : ℕ) → WellFormed bs → count ≡ tree_count bs → {o o' : Output} {r : ℕ} →
+    Shown bs 0 1 count o o' r → PutClipped o (forest_lines (trees_of bs)) o'
 unfolding forest_lines
 shown_all bs count h e s = clipped_as s.lines (ap (trees_lines 0 1) (trees-whole bs count h e))

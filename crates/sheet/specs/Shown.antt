@@ -5,8 +5,8 @@ use Rattle.model.specs.Tree.{rec, take_t, drop_t, sizes}
 use Rattle.model.specs.Shape.{fits}
 use Rattle.model.specs.Sheet.{trees_lines}
 use Rattle.walk.specs.Walk.{trees_from}
-use Rattle.sheet.specs.declared.Progress.{Progress}
-use Rattle.sheet.specs.Clip.{Clipped}
+use Rattle.output.specs.declared.Output.{Output}
+use Rattle.sheet.specs.Clip.{PutClipped}
 
 -- shape, aux and literal of a record that fits its shape
 pub record Fits (shape aux : ℕ) (lit : List ℕ) : Type 0 where
@@ -14,8 +14,8 @@ pub record Fits (shape aux : ℕ) (lit : List ℕ) : Type 0 where
   pub kids : ℕ
   pub is : fits (record { rec = rec shape opcode aux lit; kids = kids }) ≡ true
 
--- the lines of `count` trees from record i on were put, and r is the record after them and the text's end
-pub record Shown (bs : List ℕ) (i depth count : ℕ) (out : List ℕ) (at : ℕ) (out' : List ℕ) (r : Progress) : Type 0 where
-  pub lines : Clipped out at (trees_lines i depth (take_t count (trees_from bs i))) out' r.end
-  pub next : r.record ≡ i + sizes (take_t count (trees_from bs i))
-  pub rest : trees_from bs r.record ≡ drop_t count (trees_from bs i)
+-- the lines of `count` trees from record i on were put, and r is the record after them
+pub record Shown (bs : List ℕ) (i depth count : ℕ) (o o' : Output) (r : ℕ) : Type 0 where
+  pub lines : PutClipped o (trees_lines i depth (take_t count (trees_from bs i))) o'
+  pub next : r ≡ i + sizes (take_t count (trees_from bs i))
+  pub rest : trees_from bs r ≡ drop_t count (trees_from bs i)

@@ -1,70 +1,70 @@
-// Texts put into a buffer from a place on, as far as there is room: what would stand past the buffer's end is cut off.
-// Each function gives the place after what it put, at most the buffer's end; the rest of the buffer is as it was.
-// In order: a text; a byte; spaces; a number; hex.
-ghost use Rattle.std.specs.Prelude.{◌≤◌, [], ◌∷◌, length, replicate};
+// Texts put into an output, as far as there is room: what would stand past its end is cut off, and the rest of it is as
+// it was. In order: a text; a byte; spaces; a number; hex.
+ghost use Rattle.std.specs.Prelude.{[], ◌∷◌, replicate};
 ghost use Rattle.model.specs.Lister.{numeral, hex_byte};
 ghost use Rattle.model.specs.Sheet.{hex_bytes};
-ghost use Rattle.sheet.specs.Clip.{Clipped};
+ghost use Rattle.output.specs.Output.{Room};
+ghost use Rattle.sheet.specs.Clip.{PutClipped};
 
-// Bytes in a row at `at`; the answer is the place after them. Rules out: none of them where there is room for some; the
-// last ones instead of the first.
-pub fn put_text(out: &mut [u8], at: usize, text: &[u8]) -> usize
-    requires { at ≤ length out.old }
-    ensures { Clipped out.old at text.now out.new result }
+use output::Output;
+
+// Bytes in a row. Rules out: none of them where there is room for some; the last ones instead of the first.
+pub fn put_text(out: &mut Output, text: &[u8])
+    requires { Room out.old 0 }
+    ensures { PutClipped out.old text.now out.new }
 {
-    let n = text.len().min(out.len() - at);
-    output::put_bytes(out, at, &text[..n])
+    let n = text.len().min(out.bytes.len() - out.at);
+    out.put_bytes(&text[..n]);
 }
 
-// A byte at `at`; the answer is the place after it. Rules out: the byte one place on; the place that was given.
-pub fn put(out: &mut [u8], at: usize, b: u8) -> usize
-    requires { at ≤ length out.old }
-    ensures { Clipped out.old at (b ∷ []) out.new result }
+// A byte. Rules out: the byte one place on; the byte twice.
+pub fn put(out: &mut Output, b: u8)
+    requires { Room out.old 0 }
+    ensures { PutClipped out.old (b ∷ []) out.new }
 {
-    put_text(out, at, &[b])
+    put_text(out, &[b]);
 }
 
-// So many spaces at `at`; the answer is the place after them. Rules out: one fewer; tabs.
-pub fn put_spaces(out: &mut [u8], at: usize, n: usize) -> usize
-    requires { at ≤ length out.old }
-    ensures { Clipped out.old at (replicate n 32) out.new result }
+// So many spaces. Rules out: one fewer; tabs.
+pub fn put_spaces(out: &mut Output, n: usize)
+    requires { Room out.old 0 }
+    ensures { PutClipped out.old (replicate n 32) out.new }
 {
-    let end = at + n.min(out.len() - at);
-    out[at..end].fill(b' ');
-    end
+    let end = out.at + n.min(out.bytes.len() - out.at);
+    out.bytes[out.at..end].fill(b' ');
+    out.at = end;
 }
 
-// A number in decimal at `at`; the answer is the place after it. It is put into a buffer of its own first, since it may
-// be cut off. Rules out: its first digit cut off; zeros before it.
-pub fn put_number(out: &mut [u8], at: usize, n: u64) -> usize
-    requires { at ≤ length out.old }
-    ensures { Clipped out.old at (numeral n) out.new result }
+// A number in decimal. It is put into a buffer of its own first, since it may be cut off.
+// Rules out: its first digit cut off; zeros before it.
+pub fn put_number(out: &mut Output, n: u64)
+    requires { Room out.old 0 }
+    ensures { PutClipped out.old (numeral n) out.new }
 {
-    let mut digits = [0u8; 20];
-    let k = text::put_decimal(&mut digits, 0, n);
-    put_text(out, at, &digits[..k])
+    let mut buffer = [0u8; 20];
+    let mut digits = Output::new(&mut buffer);
+    text::put_decimal(&mut digits, n);
+    let k = digits.at;
+    put_text(out, &digits.bytes[..k]);
 }
 
-// A byte in hex at `at`; the answer is the place after it. Rules out: the low digit first; one digit for a byte below
-// 10.
-pub fn put_hex(out: &mut [u8], at: usize, b: u8) -> usize
-    requires { at ≤ length out.old }
-    ensures { Clipped out.old at (hex_byte b) out.new result }
+// A byte in hex. Rules out: the low digit first; one digit for a byte below 16.
+pub fn put_hex(out: &mut Output, b: u8)
+    requires { Room out.old 0 }
+    ensures { PutClipped out.old (hex_byte b) out.new }
 {
-    let mut digits = [0u8; 2];
-    let k = text::put_hex(&mut digits, 0, b);
-    put_text(out, at, &digits[..k])
+    let mut buffer = [0u8; 2];
+    let mut digits = Output::new(&mut buffer);
+    text::put_hex(&mut digits, b);
+    put_text(out, digits.bytes);
 }
 
-// Bytes in hex, in a row, at `at`; the answer is the place after them. Rules out: the last byte left out; the bytes the
-// other way round.
-pub fn put_hexes(out: &mut [u8], at: usize, bytes: &[u8]) -> usize
-    requires { at ≤ length out.old }
-    ensures { Clipped out.old at (hex_bytes bytes.now) out.new result }
+// Bytes in hex, in a row. Rules out: the last byte left out; the bytes the other way round.
+pub fn put_hexes(out: &mut Output, bytes: &[u8])
+    requires { Room out.old 0 }
+    ensures { PutClipped out.old (hex_bytes bytes.now) out.new }
 {
-    let mut end = at;
     for &b in bytes {
-        end = put_hex(out, end, b);
+        put_hex(out, b);
     }
-    end
 }

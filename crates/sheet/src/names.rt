@@ -1,12 +1,13 @@
-// Names, as model's `Sheet` has them, each behind what sets it off. A function that puts a text gives the place after
-// it, at most the buffer's end; the rest of the buffer is as it was.
+// Names, as model's `Sheet` has them, each behind what sets it off; put as far as there is room.
 // In order: the names of shapes, classes and opcodes; each put.
-ghost use Rattle.std.specs.Prelude.{◌≡◌, [], ◌≤◌, length};
+ghost use Rattle.std.specs.Prelude.{◌≡◌, []};
 ghost use Rattle.model.specs.Text.{text};
 ghost use Rattle.model.specs.Sheet.{named, shape_names, class_names, opcode_names, opcode_text};
-ghost use Rattle.sheet.specs.Clip.{Clipped};
+ghost use Rattle.output.specs.Output.{Room};
+ghost use Rattle.sheet.specs.Clip.{PutClipped};
 
 use crate::clip::{put, put_hex, put_text};
+use output::Output;
 
 #[tactic(auto, unfolding(model::specs::Text::text, model::specs::Sheet::named, model::specs::Sheet::shape_names))]
 fn shape_name(shape: u8) -> &'static [u8]
@@ -104,29 +105,28 @@ fn opcode_name(opcode: u8) -> &'static [u8]
     }
 }
 
-// A shape's name at `at`; the answer is the place after it. Rules out: another shape's; a name for a shape over 26.
-pub fn put_shape(out: &mut [u8], at: usize, shape: u8) -> usize
-    requires { at ≤ length out.old }
-    ensures { Clipped out.old at (named [] shape_names shape) out.new result }
+// A shape's name. Rules out: another shape's; a name for a shape over 26.
+pub fn put_shape(out: &mut Output, shape: u8)
+    requires { Room out.old 0 }
+    ensures { PutClipped out.old (named [] shape_names shape) out.new }
 {
-    put_text(out, at, shape_name(shape))
+    put_text(out, shape_name(shape));
 }
 
-// A constant's class at `at`; the answer is the place after it. Rules out: another class; a name for a class over 6.
-pub fn put_class(out: &mut [u8], at: usize, class: u8) -> usize
-    requires { at ≤ length out.old }
-    ensures { Clipped out.old at (named (text "  ") class_names class) out.new result }
+// A constant's class. Rules out: another class; a name for a class over 6.
+pub fn put_class(out: &mut Output, class: u8)
+    requires { Room out.old 0 }
+    ensures { PutClipped out.old (named (text "  ") class_names class) out.new }
 {
-    put_text(out, at, class_name(class))
+    put_text(out, class_name(class));
 }
 
-// An opcode in hex, and its name, at `at`; the answer is the place after them. Rules out: another opcode's name; the
-// name before the number.
-pub fn put_opcode(out: &mut [u8], at: usize, opcode: u8) -> usize
-    requires { at ≤ length out.old }
-    ensures { Clipped out.old at (opcode_text opcode) out.new result }
+// An opcode in hex, and its name. Rules out: another opcode's name; the name before the number.
+pub fn put_opcode(out: &mut Output, opcode: u8)
+    requires { Room out.old 0 }
+    ensures { PutClipped out.old (opcode_text opcode) out.new }
 {
-    let space = put(out, at, b' ');
-    let end = put_hex(out, space, opcode);
-    put_text(out, end, opcode_name(opcode))
+    put(out, b' ');
+    put_hex(out, opcode);
+    put_text(out, opcode_name(opcode));
 }

@@ -25,7 +25,7 @@ fn shown(forest: &[u8], work: &mut [u32; 3840], text: &mut [u8]) -> usize
     ensures { Clipped text.old 0 (model.sheet forest.now) text.new result }
 {
     match codec::check(forest, work) {
-        Ok(()) => sheet::write(forest, text),
+        Ok(accepted) => sheet::write(&accepted.formed, text),
         Err(refused) => sheet::write_refusal(refused.check.number(), refused.place as usize, text),
     }
 }

@@ -1,6 +1,6 @@
 -- The record that a symbol was made for: what is said of it by the symbol's node and count of children.
 -- Assumes nothing.
-use Rattle.std.specs.Prelude.{ℕ, ◌<◌, ◌≡◌, List}
+use Rattle.std.specs.Prelude.{ℕ, ◌<◌, ◌≡◌, List, Option, None, Some}
 use Rattle.record.specs.Record.{row_at}
 use Rattle.key.specs.declared.Node.{Node}
 use Rattle.key.specs.declared.Node.TheVariants.{Const, Unparsed, Arg, Lambda, Op}
@@ -13,9 +13,9 @@ pub record FieldRecord (bs : List ℕ) (i count : ℕ) : Type 0 where
   pub one : count ≡ 1
 
 -- record i stands for an operation as it is, or makes a projection to a field
-pub record OpSourced (bs : List ℕ) (i field count : ℕ) : Type 0 where
-  pub plain : field ≡ 0 → (row_at bs i).kids ≡ count
-  pub made : (field ≡ 0 → ⊥) → FieldRecord bs i count
+abbrev pub OpSourced : List ℕ → ℕ → Option ℕ → ℕ → Type 0
+OpSourced bs i None count = (row_at bs i).kids ≡ count
+OpSourced bs i (Some field) count = FieldRecord bs i count
 
 -- the record that a node was made for has `count` children; a lambda's is a lambda with one, and a projection that no
 -- record of the forest stands for was made for a SelectField

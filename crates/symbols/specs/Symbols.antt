@@ -1,7 +1,7 @@
 -- The symbols that work words hold, as model has them; bs are the forest's bytes, ws the words. In order: a symbol's
 -- record and node; the symbols; one more; what holds of the words of symbols.
 -- Assumes nothing.
-use Rattle.std.specs.Prelude.{ℕ, zero, suc, ◌+◌, ◌<◌, ◌≤◌, true, false, List, [], ◌∷◌, ◌++◌, eqb, length, get_or, take}
+use Rattle.std.specs.Prelude.{ℕ, zero, suc, ◌+◌, ◌<◌, ◌≤◌, true, false, List, [], ◌∷◌, ◌++◌, eqb, length, get_or}
 use Rattle.std.proofs.lemmas.List.Edits.{sets}
 use Rattle.model.specs.Lists.{without}
 use Rattle.model.specs.Tree.{Rec, rec}
@@ -13,7 +13,7 @@ use Rattle.record.specs.Record.{row_at}
 use Rattle.key.specs.declared.Symbol.{Symbol}
 use Rattle.key.specs.declared.Node.{Node}
 use Rattle.key.specs.declared.Node.TheVariants.{Const, Unparsed, Arg, Lambda, Op}
-use Rattle.key.specs.Key.{FitsWords, parts_of, symbol_at, store_symbol}
+use Rattle.key.specs.Key.{FitsWords, branches_of, parts_of, symbol_at, store_symbol}
 use Rattle.symbols.specs.Words.{slots_from, pending_from}
 use Rattle.laws.specs.Range.{range}
 use Rattle.regions.specs.Regions.{WORDS, SLOTS}
@@ -43,7 +43,7 @@ model_node bs (Arg l) = argument
 model_node bs (Lambda f) =
     let r = (row_at bs f.source).rec in
     func (with_opts (args_of r.aux r.lit) (range f.first r.aux)) f.body
-model_node bs (Op o) = operation (take o.branches (o.first ∷ o.second ∷ []))
+model_node bs (Op o) = operation (branches_of o.branches)
 
 -- what symbol s depends on, from the lower symbols: an argument on itself, any other on what its children ks do
 abbrev pub deps_of : List ℕ → List Sym → ℕ → Node → List ℕ → List ℕ

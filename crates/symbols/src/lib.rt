@@ -7,11 +7,11 @@ ghost use Rattle.std.proofs.lemmas.List.Edits.{sets};
 ghost use Rattle.model.specs.Lists.{same};
 ghost use Rattle.model.specs.Tree.{same_rec};
 ghost use Rattle.model.specs.Forest.{record_count};
-ghost use Rattle.record.specs.Record.{Laid};
 ghost use Rattle.symbols.specs.Words.{words_from};
 ghost use Rattle.symbols.specs.Symbols.{key_rec, made, RoomFor};
 
 use key::Symbol;
+use record::Forest;
 
 // Whether the one byte of `a` is b.
 #[tactic(auto, using(crate::proofs::Same::same_one, crate::proofs::Same::same_not_one))]
@@ -25,29 +25,23 @@ fn is_byte(a: &[u8], b: u32) -> bool
 }
 
 #[tactic(auto, unfolding(crate::specs::Symbols::key_rec))]
-fn aux_of(forest: &[u8], i: usize, field: u32) -> u8
-    requires laid { Laid forest.now }
+fn aux_of(forest: &Forest, i: usize, field: u32) -> u8
     requires i_bound { i < record_count forest.now }
     ensures { result ≡ (key_rec forest.now i field).aux }
 {
-    if field == 0 {
-        record::aux(forest, i)
-    } else {
-        0
-    }
+    if field == 0 { forest.aux(i) } else { 0 }
 }
 
 // A projection's literal is one byte, its field.
 #[tactic(auto, using(crate::proofs::Same::literals), unfolding(crate::specs::Symbols::key_rec))]
-fn same_literal(forest: &[u8], i: usize, f: u32, j: usize, g: u32) -> bool
-    requires laid { Laid forest.now }
+fn same_literal(forest: &Forest, i: usize, f: u32, j: usize, g: u32) -> bool
     requires i_bound { (i < record_count forest.now) × (j < record_count forest.now) }
     ensures { result ≡ same (key_rec forest.now i f).lit (key_rec forest.now j g).lit }
 {
     match (f, g) {
-        (0, 0) => record::literal(forest, i) == record::literal(forest, j),
-        (0, _) => is_byte(record::literal(forest, i), g),
-        (_, 0) => is_byte(record::literal(forest, j), f),
+        (0, 0) => forest.literal(i) == forest.literal(j),
+        (0, _) => is_byte(forest.literal(i), g),
+        (_, 0) => is_byte(forest.literal(j), f),
         _ => f == g,
     }
 }
@@ -55,13 +49,12 @@ fn same_literal(forest: &[u8], i: usize, f: u32, j: usize, g: u32) -> bool
 // Whether two records, as keys have them, are the same. Rules out: equal shapes and opcodes with other literals; a
 // projection that is taken for the record that it was made for.
 #[tactic(auto, using(crate::proofs::Same::heads), unfolding(model::specs::Tree::same_rec))]
-pub fn same_rec(forest: &[u8], i: usize, f: u32, j: usize, g: u32) -> bool
-    requires laid { Laid forest.now }
+pub fn same_rec(forest: &Forest, i: usize, f: u32, j: usize, g: u32) -> bool
     requires i_bound { (i < record_count forest.now) × (j < record_count forest.now) }
     ensures { result ≡ same_rec (key_rec forest.now i f) (key_rec forest.now j g) }
 {
-    record::shape(forest, i) == record::shape(forest, j)
-        && record::opcode(forest, i) == record::opcode(forest, j)
+    forest.shape(i) == forest.shape(j)
+        && forest.opcode(i) == forest.opcode(j)
         && aux_of(forest, i, f) == aux_of(forest, j, g)
         && same_literal(forest, i, f, j, g)
 }

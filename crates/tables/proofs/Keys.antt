@@ -1,9 +1,11 @@
--- Comparing the key of a symbol with one that is sought. In order: keys; hints; `is_key` of model.
+-- Comparing the key of a symbol with one that is sought. In order: keys; hints; `is_key` of model; hints of
+-- entries.
 -- Assumes nothing.
-use Prim.Native.Nat.{ℕ, zero, suc, ◌+◌, ◌*◌, ◌<◌, ◌≤◌}
+use Prim.Native.Nat.{ℕ, zero, suc, ◌+◌, ◌-◌, ◌*◌, ◌/◌, ◌%◌, ◌<◌, ◌≤◌}
 use mathlib.Core.Path.{◌≡◌, refl, sym, ap, ◌∙◌}
 use mathlib.Core.Bool.{Bool, true, false, and-true, and-false}
 use mathlib.Core.List.{List}
+use native.Mathlib.Omega.{arith}
 use lib.ListN.{get_or}
 use Rattle.model.specs.Lists.{same}
 use Rattle.model.specs.Tree.{Rec, same_rec}
@@ -86,3 +88,12 @@ pub key_is : (bs ws : List ℕ) (i field held count n s : ℕ) {t : Bool} → s 
     is_key (syms_of bs ws n) (key_rec bs i field) (pending_from ws held count) s ≡ t
 unfolding is_key same_key
 key_is bs ws i field held count n s lt e = rw (rec_at_lem bs ws n s lt, kids_at_lem bs ws n s lt) (sym e)
+
+-- ---- an entry e less the first number under a hint h, in 32 bits: e's symbol under that hint, and else no symbol
+
+pub under_hint : (e h : ℕ) → h < 131072 → (e + (4294967296 - 512 * h)) % 4294967296 < 512 →
+    (e + (4294967296 - 512 * h)) % 4294967296 ≡ e % 512
+under_hint e h m lt = omega arith
+
+pub off_hint : (e h : ℕ) → h < 131072 → 512 ≤ (e + (4294967296 - 512 * h)) % 4294967296 → e / 512 ≡ h → ⊥
+off_hint e h m le is = omega arith

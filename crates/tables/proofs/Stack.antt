@@ -1,5 +1,5 @@
 -- What callers cite of the open tables. In order: the words that they hang on; the words that hints hang on; an array's
--- starts; the first table; opening one and dropping it; one entry more; entries that are sound.
+-- starts; the first table; opening one and dropping it; one entry more.
 -- Assumes nothing.
 use Prim.Native.Nat.{ℕ, zero, suc, ◌+◌, ◌*◌, ◌-◌, ◌<◌, ◌≤◌}
 use mathlib.Core.Path.{◌≡◌, refl, sym, ◌∙◌}
@@ -19,11 +19,11 @@ use Rattle.laws.proofs.Stack.{stack_kept}
 use Rattle.regions.specs.Regions.{SLOTS, ENTRIES}
 use Rattle.key.proofs.Laws.{symbol_agree}
 use Rattle.symbols.specs.Symbols.{AllSound}
-use Rattle.symbols.proofs.Laws.{kids_agree, sounds_more}
+use Rattle.symbols.proofs.Laws.{kids_agree}
 use Rattle.tables.specs.declared.Tables.{Tables}
 use Rattle.tables.specs.Starts.{Starts}
 use Rattle.tables.specs.Tables.{entry_symbol, entry_hint, hint_of, entries, tables, tables_of, new_tables, opened}
-use Rattle.tables.specs.Tables.{Open, Entries, EntriesBelow, Hinted}
+use Rattle.tables.specs.Tables.{Open, EntriesBelow, Hinted}
 
 -- ---- the words that tables hang on: their entries; and the starts below d
 
@@ -211,14 +211,3 @@ module _ (t : Tables) (top : ℕ) (is : Open t top) where
         newest : entry_hint entered top ≡ hint_of bs entered (entry_symbol entered top)
         newest =
             rw new_symbol_lem (new_hint ∙ e ∙ sym (hint_agree bs ws entered used n sound own kids s lt))
-
--- ---- entries that are sound
-
-pub entries_sound : (bs ws : List ℕ) (used n top : ℕ) → AllSound bs ws used n → used ≤ SLOTS.size → n ≤ 512 → top ≤ 512 →
-    EntriesBelow ws top n → Hinted bs ws top → Entries bs ws top
-entries_sound bs ws used n top sound slots few tops below hinted = record {
-  few = tops;
-  below = λ k lt. let b : entry_symbol ws k < n = below k lt in omega arith;
-  sound = λ k lt. sounds_more slots sound (entry_symbol ws k) (below k lt);
-  hinted = hinted;
-}

@@ -1,24 +1,27 @@
 // The stack of open tables (interner.rs), and the search through it. Entry k of the tables is word k of ENTRIES: a symbol,
 // and above it a hint of its key, so that most entries are passed over by one comparison.
 // In order: the stack; one entry more; hints; keys compared; the search.
+// A symbol's children so far are told by place and count, here and in interning, and no slice: the words that hold them
+// are lent `&mut` beside them. `Open` stays a clause: it ties the stack to a count of entries, which grows.
 #![tactic(auto)]
 
 ghost use Rattle.std.specs.Prelude.{◌≡◌, ℕ, ◌+◌, ◌*◌, ◌<◌, ◌≤◌, length, get_or, set};
 ghost use Rattle.model.specs.Lists.{same};
 ghost use Rattle.model.specs.Forest.{record_count};
 ghost use Rattle.model.specs.Intern.{lookup};
-ghost use Rattle.record.specs.Record.{Laid, row_at};
+ghost use Rattle.record.specs.Record.{row_at};
 ghost use Rattle.regions.specs.Regions.{WORDS, SLOTS, ENTRIES, PENDING};
 ghost use Rattle.symbols.specs.Words.{slots_from, pending_from};
 ghost use Rattle.symbols.specs.Symbols.{key_rec, syms_of, Sound};
 ghost use Rattle.tables.specs.Tables.{tables_of, new_tables, opened};
 ghost use Rattle.tables.specs.Tables.{hint, Open, Entries, EntriesBelow, same_key};
 
+use record::Forest;
 use std::marker::Model;
 
 // Where each open table's entries start, the oldest first; the newest table ends where the entries do. In contracts it
-// is the list of these starts. It is handed down by value, and is `Copy`, which `ArrayVec` is not; so the starts that are
-// not in use are 0, and the list says what the array holds.
+// is the list of these starts. A thunk's stack is a copy with one more, and `Tables` is `Copy`, which `ArrayVec` is not; so
+// the starts that are not in use are 0, and the list says what the array holds.
 #[derive(Clone, Copy)]
 pub struct Tables {
     starts: [u16; 64],
@@ -80,15 +83,14 @@ pub fn enter(work: &mut [u32], top: usize, symbol: u32, hint: u32)
 // The hint of the key of record i, or of a projection that it makes, over the pending children from `held` on.
 // Rules out: the opcode alone where there are children; a hint by the last child.
 #[tactic(auto, using(crate::proofs::Keys::hint_none, crate::proofs::Keys::hint_first))]
-pub fn hint_of(forest: &[u8], work: &[u32], i: usize, held: usize, count: usize) -> u32
-    requires laid { Laid forest.now }
+pub fn hint_of(forest: &Forest, work: &[u32], i: usize, held: usize, count: usize) -> u32
     requires i_bound { i < record_count forest.now }
     requires count_bound { (held + count ≤ 256) × (WORDS ≤ length work.now) }
     requires by_index { (k : ℕ) → k < count → get_or work.now (PENDING.first + held + k) 0 < 512 }
     ensures { (result ≡ hint (row_at forest.now i).rec.opcode (pending_from work.now held count))
         × (result < 131072) }
 {
-    let opcode = u32::from(record::opcode(forest, i));
+    let opcode = u32::from(forest.opcode(i));
     if count == 0 {
         return opcode;
     }
@@ -106,7 +108,7 @@ fn same_kids(work: &[u32], kids: usize, n: usize, held: usize, count: usize) -> 
 
 // Whether symbol s has the key of record i, or of its projection to `field`, over the pending children from `held` on.
 fn same_key(
-    forest: &[u8],
+    forest: &Forest,
     work: &[u32],
     s: usize,
     i: usize,
@@ -114,7 +116,6 @@ fn same_key(
     held: usize,
     count: usize,
 ) -> bool
-    requires laid { Laid forest.now }
     requires i_bound { i < record_count forest.now }
     requires sound { Sound forest.now work.now SLOTS.size s }
     requires s_bound { (s < 512) × (held + count ≤ 256) × (WORDS ≤ length work.now) }
@@ -129,7 +130,7 @@ fn same_key(
 // pending children from `held` on. Rules out: an older table's symbol where a newer one has the key; a symbol over
 // other children.
 pub fn find(
-    forest: &[u8],
+    forest: &Forest,
     work: &[u32],
     t: Tables,
     top: usize,
@@ -138,7 +139,6 @@ pub fn find(
     held: usize,
     count: usize,
 ) -> Option<u32>
-    requires laid { Laid forest.now }
     requires i_bound { i < record_count forest.now }
     requires fact { Open t top }
     requires entries { Entries forest.now work.now top }
@@ -150,21 +150,24 @@ pub fn find(
         (tables_of work.now t top) }
 {
     let hint = hint_of(forest, work, i, held, count);
+    let first = 512 * hint;
     // the starts alone: they are copied without a call
     let starts = t.starts;
     let mut end = top;
-    for d in (0..t.depth).rev() {
-        let start = usize::from(starts[d]);
-        for k in (start..end).rev() {
-            let e = work[regions::ENTRIES + k];
-            if e / 512 == hint {
-                let s = e % 512;
-                if same_key(forest, work, s as usize, i, field, held, count) {
-                    return Some(s);
+    'tables: {
+        for d in (0..t.depth).rev() {
+            let start = usize::from(starts[d]);
+            for k in (start..end).rev() {
+                // under the hint of the key what is left is the symbol, else 512 or more: one comparison an entry
+                let s = work[regions::ENTRIES + k].wrapping_sub(first);
+                if s < 512 {
+                    if same_key(forest, work, s as usize, i, field, held, count) {
+                        break 'tables Some(s);
+                    }
                 }
             }
+            end = start;
         }
-        end = start;
+        None
     }
-    None
 }

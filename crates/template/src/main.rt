@@ -1,6 +1,7 @@
 // Reads a forest from standard input and prints one line of it: how many definitions its tree has and how many
 // parameters the forest, or a mark with two values, or the refusal. Of a forest over 65,535 bytes 65,536 are read: it is
 // refused for its length. A read or a write that fails ends the program with its error.
+// The line's room stays a clause, as `text::put_line` asks it.
 // In order: the line of a mark with two values; that of a template; which of them; any forest; the program, over any
 // input and output.
 #![tactic(auto)]
@@ -11,22 +12,21 @@ ghost use Rattle.model.specs.Tree.{rows};
 ghost use Rattle.model.specs.Forest.{record_count, rows_in};
 ghost use Rattle.model.specs.Call.{Written, ample, out_after, work_after};
 ghost use Rattle.model.specs.TemplateLine.{two_values, verdict, template_line, LineSays};
-ghost use Rattle.record.specs.Record.{Laid};
 ghost use Rattle.output.specs.Output.{Wrote};
 
+use record::Forest;
 use std::io;
 use std::io::{Read, Write};
 
 // The line of a record whose parameter had another value earlier: its mark, and its place.
 // Rules out: the aux for the mark; the place before the mark.
 #[tactic(auto, unfolding(model::specs::TemplateLine::verdict, model::specs::Text::text, record::specs::Record::row_at))]
-fn put_two_values(forest: &[u8], p: usize, line: &mut [u8]) -> usize
-    requires laid { Laid forest.now }
+fn put_two_values(forest: &Forest, p: usize, line: &mut [u8]) -> usize
     requires p_bound { (p < record_count forest.now) × (80 ≤ length line.old) }
     ensures { (w : Written) → Wrote line.old 0 (verdict forest.now w (Some p))
         line.new result }
 {
-    let mark = record::mark(record::aux(forest, p));
+    let mark = record::mark(forest.aux(p));
     text::put_line(
         line,
         b"two values of mark ",
@@ -40,10 +40,8 @@ fn put_two_values(forest: &[u8], p: usize, line: &mut [u8]) -> usize
 // The line of a template, once its tree is written.
 // Rules out: the forest's own definitions; the parameters before the definitions.
 #[tactic(auto, unfolding(model::specs::TemplateLine::verdict, model::specs::Text::text))]
-fn put_template(forest: &[u8], tree: &[u8], line: &mut [u8]) -> usize
-    requires laid { Laid forest.now }
-    requires laid_2 { Laid tree.now }
-    requires in_bounds { 80 ≤ length line.old }
+fn put_template(forest: &Forest, tree: &Forest, line: &mut [u8]) -> usize
+    requires { 80 ≤ length line.old }
     ensures { (w : Written) → rows_in tree.now ≡ rows w.tree → Wrote line.old 0
         (verdict forest.now w None) line.new result }
 {
@@ -61,10 +59,8 @@ fn put_template(forest: &[u8], tree: &[u8], line: &mut [u8]) -> usize
 
 // The line of a forest whose tree is written.
 // Rules out: a template where a parameter has two values; two values of a constant without a mark.
-fn put_verdict(forest: &[u8], tree: &[u8], line: &mut [u8]) -> usize
-    requires laid { Laid forest.now }
-    requires laid_2 { Laid tree.now }
-    requires in_bounds { 80 ≤ length line.old }
+fn put_verdict(forest: &Forest, tree: &Forest, line: &mut [u8]) -> usize
+    requires { 80 ≤ length line.old }
     ensures { (w : Written) → rows_in tree.now ≡ rows w.tree → Wrote line.old 0
         (verdict forest.now w (two_values forest.now)) line.new result }
 {
@@ -87,7 +83,10 @@ fn judged(forest: &[u8], out: &mut [u8], work: &mut [u32], line: &mut [u8]) -> u
     ensures line_says { LineSays forest.now }
 {
     match cse::cse(forest, out, work) {
-        Ok(written) => put_verdict(forest, &out[..written.length as usize], line),
+        Ok(written) => {
+            let tree = Forest::new(&out[..written.length as usize]);
+            put_verdict(&Forest::new(forest), &tree, line)
+        }
         Err(refused) => text::put_refusal(
             line,
             u64::from(refused.check.number()),

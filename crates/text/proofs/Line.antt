@@ -4,14 +4,14 @@ use Prim.Native.Nat.{ℕ}
 use mathlib.Core.Path.{◌≡◌, refl}
 use mathlib.Core.List.{List, [], ◌∷◌, ◌++◌}
 use Rattle.model.specs.Text.{text}
-use Rattle.output.specs.Output.{Wrote}
-use Rattle.output.proofs.Wrote.{wrote_then}
+use Rattle.output.specs.declared.Output.{Output}
+use Rattle.output.specs.Output.{Put}
+use Rattle.output.proofs.Put.{put_then}
 
 pub newline : (10 ∷ []) ≡ text "\n"
 unfolding text
 newline = refl
 
-pub line_parts : {a b c d e out o₁ o₂ o₃ o₄ o₅ : List ℕ} {p₁ p₂ p₃ p₄ p₅ : ℕ} → Wrote out 0 a o₁ p₁ →
-    Wrote o₁ p₁ b o₂ p₂ → Wrote o₂ p₂ c o₃ p₃ → Wrote o₃ p₃ d o₄ p₄ → Wrote o₄ p₄ e o₅ p₅ →
-    Wrote out 0 (a ++ b ++ c ++ d ++ e) o₅ p₅
-line_parts w₁ w₂ w₃ w₄ w₅ = wrote_then (wrote_then (wrote_then (wrote_then w₁ w₂) w₃) w₄) w₅
+pub line_parts : {a b c d e : List ℕ} {o o₁ o₂ o₃ o₄ o₅ : Output} → Put o a o₁ → Put o₁ b o₂ → Put o₂ c o₃ → Put o₃ d o₄ →
+    Put o₄ e o₅ → Put o (a ++ b ++ c ++ d ++ e) o₅
+line_parts p₁ p₂ p₃ p₄ p₅ = put_then (put_then (put_then (put_then p₁ p₂) p₃) p₄) p₅

@@ -1,19 +1,19 @@
-// Text written over an output, front to back. Each function gives the place after its text; the rest of the output is
-// as it was.
+// Text written over an output, from its place on; the rest of the output is as it was.
 // In order: two bytes; a number in decimal; a byte in hexadecimal; lines with two numbers, that of a refusal among them.
 #![tactic(auto)]
 
 ghost use Rattle.std.specs.Prelude.{◌≡◌, [], ◌∷◌, ◌++◌, ◌+◌, ◌<◌, ◌≤◌, length};
 ghost use Rattle.model.specs.Lister.{numeral, hex_digit, hex_byte, refusal};
-ghost use Rattle.output.specs.Output.{Wrote};
+ghost use Rattle.output.specs.Output.{Wrote, Room, Put};
 
-// Two bytes at `at`; the answer is the place after them. Rules out: the second first; the first alone.
-pub fn put_two(out: &mut [u8], at: usize, first: u8, second: u8) -> usize
-    requires { at + 2 ≤ length out.old }
-    ensures { Wrote out.old at (first ∷ second ∷ []) out.new result }
+use output::Output;
+
+// Two bytes. Rules out: the second first; the first alone.
+pub fn put_two(out: &mut Output, first: u8, second: u8)
+    requires { Room out.old 2 }
+    ensures { Put out.old (first ∷ second ∷ []) out.new }
 {
-    let next = output::put_byte(out, at, first);
-    output::put_byte(out, next, second)
+    out.put_bytes(&[first, second]);
 }
 
 // ---- a number in decimal
@@ -25,18 +25,19 @@ fn digit(n: u64) -> u8
     b'0' + n as u8
 }
 
-// n in decimal at `at`, without leading zeros; the answer is the place after it. The digits before the last come first,
-// so it calls itself for them: a loop would need a buffer of digits, put the other way round.
+// n in decimal, without leading zeros. The digits before the last come first, so it calls itself for them: a loop would
+// need a buffer of digits, put the other way round.
 // Rules out: the lowest digit first; a number of one digit with a 0 before it.
-pub fn put_decimal(out: &mut [u8], at: usize, n: u64) -> usize
-    requires { at + length (numeral n) ≤ length out.old }
-    ensures { Wrote out.old at (numeral n) out.new result }
+pub fn put_decimal(out: &mut Output, n: u64)
+    requires { Room out.old (length (numeral n)) }
+    ensures { Put out.old (numeral n) out.new }
 {
     if n < 10 {
-        return output::put_byte(out, at, digit(n));
+        out.put_byte(digit(n));
+        return;
     }
-    let next = put_decimal(out, at, n / 10);
-    output::put_byte(out, next, digit(n % 10))
+    put_decimal(out, n / 10);
+    out.put_byte(digit(n % 10));
 }
 
 // ---- a byte in hexadecimal
@@ -49,19 +50,18 @@ fn hex_digit(n: u8) -> u8
     if n < 10 { b'0' + n } else { b'A' + (n - 10) }
 }
 
-// A byte as two hexadecimal digits at `at`; the answer is the place after them.
-// Rules out: small letters; one digit for a byte below 16.
+// A byte as two hexadecimal digits. Rules out: small letters; one digit for a byte below 16.
 #[tactic(auto, unfolding(model::specs::Lister::hex_byte))]
-pub fn put_hex(out: &mut [u8], at: usize, b: u8) -> usize
-    requires { at + 2 ≤ length out.old }
-    ensures { Wrote out.old at (hex_byte b) out.new result }
+pub fn put_hex(out: &mut Output, b: u8)
+    requires { Room out.old 2 }
+    ensures { Put out.old (hex_byte b) out.new }
 {
-    put_two(out, at, hex_digit(b / 16), hex_digit(b % 16))
+    put_two(out, hex_digit(b / 16), hex_digit(b % 16));
 }
 
 // ---- lines with two numbers
 
-// A line over the output's start: text, number, text, number, text; the answer is its length.
+// A line over an output's start: text, number, text, number, text; the answer is its length.
 // Rules out: the second number first; the last text left out.
 pub fn put_line(
     out: &mut [u8],
@@ -75,17 +75,20 @@ pub fn put_line(
     ensures { Wrote out.old 0 (before.now ++ numeral m ++ between.now ++ numeral n
         ++ after.now) out.new result }
 {
-    let a = output::put_bytes(out, 0, before);
-    let b = put_decimal(out, a, m);
-    let c = output::put_bytes(out, b, between);
-    let d = put_decimal(out, c, n);
-    output::put_bytes(out, d, after)
+    let mut line = Output::new(out);
+    line.put_bytes(before);
+    put_decimal(&mut line, m);
+    line.put_bytes(between);
+    put_decimal(&mut line, n);
+    line.put_bytes(after);
+    line.at
 }
 
 // The length of a refusal's longest line: its two numbers have twenty digits each.
 pub const LINE: usize = 53;
 
-// The line of a refusal, over the output's start; the answer is its length.
+// The line of a refusal, over the output's start; the answer is its length. No `impl Display` of a refusal: std promises
+// the text of `write!` only where a `String` takes it, which needs a heap.
 // Rules out: the place before the number; the newline left out.
 #[tactic(auto, unfolding(model::specs::Lister::refusal, model::specs::Text::text))]
 pub fn put_refusal(out: &mut [u8], number: u64, place: u64) -> usize

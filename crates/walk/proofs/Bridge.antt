@@ -19,7 +19,7 @@ use Rattle.model.specs.Forest.{check6}
 use Rattle.laws.proofs.Apart.{some_none}
 use Rattle.laws.specs.Clear.{Clear}
 use Rattle.laws.proofs.Clear.{first_clear}
-use Rattle.shape.specs.Args.{Left}
+use Rattle.shape.specs.Reading.{AllArgs}
 use Rattle.shape.proofs.Fitting.{fits_use, fits_def, fits_func}
 use Rattle.record.specs.Record.{no_row, row_at}
 use Rattle.laws.proofs.Header.{header_of, row_count}
@@ -128,9 +128,9 @@ module _ (bs : List ℕ) (i : ℕ) (h : WellFormed bs) (l : i < record_count bs)
   func_few e = (fits_func (row_at bs i) (row_fits bs i h.fit l) e).1
 
   pub func_literal : (n : ℕ) (lit : List ℕ) → n ≡ (row_at bs i).rec.aux → lit ≡ (row_at bs i).rec.lit →
-      (row_at bs i).rec.shape ≡ 12 → (n ≤ 15) × Left n lit 0
+      (row_at bs i).rec.shape ≡ 12 → (n ≤ 15) × AllArgs n lit
   func_literal n lit e f g =
       let k = fits_func (row_at bs i) (row_fits bs i h.fit l) g in (
         omega (arith, e, k.1),
-        subst (λ (z : List ℕ). Left n z 0) (sym f) (subst (λ (z : ℕ). Left z (row_at bs i).rec.lit 0) (sym e) k.2),
+        subst (λ (z : List ℕ). AllArgs n z) (sym f) (subst (λ (z : ℕ). AllArgs z (row_at bs i).rec.lit) (sym e) k.2),
       )

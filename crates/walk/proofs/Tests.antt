@@ -7,7 +7,7 @@ use mathlib.Core.List.{List, ◌∷◌, ◌++◌, []}
 use native.Mathlib.Omega.{arith}
 use borrow.Author.Tests.{eq-eqb, ne_eqb}
 use lib.Dec.{eqb}
-use lib.ListN.{length, get_or, set, drop, length-append}
+use lib.ListN.{length, get_or, set, length-append}
 use Rattle.model.specs.Lists.{is_in, any_in, twice}
 use Rattle.model.specs.Bytes.{u32}
 use Rattle.model.specs.Tree.{Rec, Tree, top}
@@ -24,7 +24,7 @@ use Rattle.walk.proofs.Bridge.{func_few, func_literal, def_literal, use_literal}
 
 -- ---- what a record binds
 
-pub id_is : (x : ℕ) (lit : List ℕ) (r : Rec) → x ≡ u32 (drop 0 lit) → lit ≡ r.lit → x ≡ id_of r
+pub id_is : (x : ℕ) (lit : List ℕ) (r : Rec) → x ≡ u32 lit → lit ≡ r.lit → x ≡ id_of r
 unfolding id_of
 id_is x lit r e f = e ∙ ap u32 f
 

@@ -3,10 +3,10 @@
 -- Assumes nothing.
 use Prim.Native.Nat.{ℕ, zero, suc, ◌+◌, ◌-◌, ◌<◌, ◌≤◌}
 use mathlib.Core.Path.{◌≡◌, refl, sym, ap, ap₂, ◌∙◌}
-use mathlib.Core.Bool.{false, ◌||◌}
+use mathlib.Core.Bool.{Bool, true, false, ◌||◌}
 use mathlib.Core.List.{List, ◌∷◌, ◌++◌, append_assoc, []}
 use native.Mathlib.Omega.{arith}
-use Rattle.std.specs.List.{list_any}
+use Rattle.std.specs.List.{list_any, range_with_len}
 use Rattle.std.proofs.lemmas.Bool.Decides.{nat_tests}
 use Rattle.std.proofs.lemmas.List.Folds.{list_any_more}
 use Rattle.std.proofs.Math.Bool.{or_comm}
@@ -37,21 +37,32 @@ ids_found id ws (suc k) l =
     ∙ or_comm (list_any (λ y. eqb y id) (take k ws)) (eqb (get_or ws k 0) id)
     ∙ ap₂ ◌||◌ (turned (get_or ws k 0) id) (ids_found id ws k (omega arith))
 
--- ---- a search for a clash, from the newest down
+-- ---- a search for a clash
 
-pub clash_none : (ws : List ℕ) (top k : ℕ) → k ≤ top → clash ws top (k - top) ≡ false
+swapped : (a b c : Bool) → (a || (b || c)) ≡ (b || (a || c))
+swapped true true c = refl
+swapped true false c = refl
+swapped false true c = refl
+swapped false false c = refl
+
+any_last : (p : ℕ → Bool) (a n : ℕ) → list_any p (range_with_len a (suc n)) ≡ (p (a + n) || list_any p (range_with_len a n))
+any_last p a zero = let e : a + 0 ≡ a = omega arith in rw e
+any_last p a (suc n) =
+    let e : a + 1 + n ≡ a + suc n = omega arith in
+    let more = list_any p (range_with_len (a + 1) n) in
+    ap (λ (b : Bool). p a || b) (any_last p (a + 1) n)
+    ∙ ap (λ (k : ℕ). p a || (p k || more)) e
+    ∙ swapped (p a) (p (a + suc n)) more
+
+-- whether the id in word k stands before it
+abbrev pub clashes_at : List ℕ → ℕ → Bool
+clashes_at ws k = is_in (get_or ws k 0) (ids_of ws k)
+
+pub clash_found : (ws : List ℕ) (top m : ℕ) → list_any (clashes_at ws) (range_with_len top m) ≡ clash ws top m
 unfolding clash
-clash_none ws top k l = let e : k - top ≡ 0 = omega arith in rw e
-
-pub clash_turn : (ws : List ℕ) (top k : ℕ) → top < k →
-    clash ws top (k - top) ≡ (is_in (get_or ws (k - 1) 0) (ids_of ws (k - 1)) || clash ws top (k - 1 - top))
-unfolding clash
-clash_turn ws top k l =
-    let e : k - top ≡ suc (k - 1 - top) = omega arith in
-    let f : top + (k - 1 - top) ≡ k - 1 = omega arith in
-    rw (e, f)
-
-pub ruleset clashing = (clash_none, clash_turn)
+clash_found ws top zero = refl
+clash_found ws top (suc m) =
+    any_last (clashes_at ws) top m ∙ ap (λ (b : Bool). clashes_at ws (top + m) || b) (clash_found ws top m)
 
 -- ---- the words that they hang on
 

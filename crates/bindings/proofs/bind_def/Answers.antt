@@ -10,20 +10,18 @@ use Rattle.bindings.proofs.bind_def.Goals as goal
 pub returns-then-shape-ne-VAL_DEF : goal.returns-then-shape-ne-VAL_DEF
 returns-then-shape-ne-VAL_DEF c =
     let a = c.args in
-    def_none a.forest.now a.i a.top a.symbol a.work.now
+    def_none a.forest.now.laid a.i a.top a.symbol a.work.now
     (λ e. c.if-shape-ne-VAL_DEF.true (c.shape.ensures ∙ e))
 
-pub id_at-id-requires : goal.id_at-id-requires
-id_at-id-requires c =
+pub id-requires : goal.id-requires
+id-requires c =
+    let f = c.args.forest.now in
     let e = sym c.shape.ensures ∙ c.if-shape-ne-VAL_DEF.false in
-    let d = def_literal c.args.forest.now c.args.i c.requires.well_formed (omega arith) e in
-    omega (arith, d, ap length c.literal-lit.ensures)
+    omega (arith, def_literal f.laid c.args.i f.formed (omega arith) e, ap length c.literal.ensures)
 
 pub returns : goal.returns
 returns c =
-    let k = c.bind in
     let a = c.args in
     let e = sym c.shape.ensures ∙ c.if-shape-ne-VAL_DEF.false in
-    def_bound a.forest.now a.i a.top a.symbol a.work.now c.id_at-id.result k.new.work e
-    (id_is c.id_at-id.result c.literal-lit.result.now _ c.id_at-id.ensures c.literal-lit.ensures) (omega arith)
-    k.ensures
+    def_bound a.forest.now.laid a.i a.top a.symbol a.work.now _ _ e
+    (id_is _ _ _ c.id.ensures c.literal.ensures) (omega arith) c.bind.ensures

@@ -10,5 +10,5 @@ bounds-lit-0 c =
     omega (
       arith,
       ap length c.literal-lit.ensures,
-      field_literal c.args.forest.now c.args.i c.requires.well_formed c.requires.i_bound.0 c.requires.i_bound.1,
+      field_literal c.args.forest.now.laid c.args.i c.args.forest.now.formed c.requires.i_bound.0 c.requires.i_bound.1,
     )

@@ -2,12 +2,8 @@
 use Prim.Native.Nat.{ℕ}
 use mathlib.Core.Path.{◌∙◌, ap, sym}
 use lib.Dec.{eqb}
-use Rattle.concluding.proofs.Selecting.{symbol_from, symbol_shape}
+use Rattle.concluding.proofs.Selecting.{symbol_shape}
 use Rattle.concluding.proofs.is_tuple.Goals as goal
-
-pub shape-requires : goal.shape-requires
-shape-requires c =
-    record { laid = c.requires.laid; i_bound = symbol_from c.requires.has_symbol c.load-y.ensures c.parts_of-p.ensures }
 
 pub returns : goal.returns
 returns c n lt =

@@ -2,9 +2,8 @@
 use native.Mathlib.Omega.{arith}
 use Prim.Native.Nat.{◌≤◌}
 use lib.ListN.{length}
-use Rattle.model.specs.Forest.{trees_of}
 use Rattle.regions.specs.Regions.{WORDS}
-use Rattle.codec.proofs.Accepting.{accept-passed}
+use Rattle.codec.proofs.Accepting.{passes_accepts}
 use Rattle.cse.proofs.Buildable.{arena_countable, root_low, buildable}
 use Rattle.cse.proofs.Planning.{uses_counted, planned_tree, held}
 use Rattle.cse.proofs.planned.Goals as goal
@@ -12,27 +11,31 @@ use Rattle.cse.proofs.planned.Goals as goal
 pub reach_and_count-requires : goal.reach_and_count-requires
 reach_and_count-requires c =
     let q = c.requires in
-    let low = root_low c.args.forest.now c.args.work.now c.args.st q.rep c.args.root q.forest_value q.forest_value_2 in
-    record { countable = arena_countable q.rep.arena; root_lt_n = omega (arith, low) }
+    let bs = c.args.forest.now.formed.laid in
+    let taken = passes_accepts bs c.args.forest.now.formed.formed c.args.forest.now.passes in
+    let low = root_low bs c.args.work.now c.args.st q.rep c.args.root taken q.root_made in
+    record { countable = arena_countable q.rep.words q.rep.arena; root_lt_n = omega (arith, low) }
 
 pub materialize-requires : goal.materialize-requires
 materialize-requires c =
-    let bs = c.args.forest.now in
+    let bs = c.args.forest.now.formed.laid in
+    let taken = passes_accepts bs c.args.forest.now.formed.formed c.args.forest.now.passes in
     let ws = c.args.work.now in
     let st = c.args.st in
     let root = c.args.root in
     let q = c.requires in
     let counted = c.reach_and_count.new.work in
     let reached = c.reach_and_count.ensures in record {
-      laid = (accept-passed bs (trees_of bs) q.forest_value).shaped.sound.laid;
-      buildable = buildable bs ws st q.rep root q.forest_value q.forest_value_2 counted reached.kept;
-      root_lt_symbols = root_low bs ws st q.rep root q.forest_value q.forest_value_2;
+      buildable = buildable bs ws st q.rep root taken q.root_made counted reached.kept;
+      long = omega (arith, q.rep.words, c.reach_and_count.auto.work);
+      root_lt_symbols = root_low bs ws st q.rep root taken q.root_made;
       counted = uses_counted bs ws st q.rep root counted reached;
     }
 
 pub returns : goal.returns
 returns c =
-    let bs = c.args.forest.now in
+    let bs = c.args.forest.now.formed.laid in
+    let taken = passes_accepts bs c.args.forest.now.formed.formed c.args.forest.now.passes in
     let ws = c.args.work.now in
     let st = c.args.st in
     let q = c.requires in
@@ -40,10 +43,10 @@ returns c =
     let reached = c.reach_and_count.ensures in
     let done = c.materialize in
     let long : WORDS ≤ length done.new.work =
-    omega (arith, q.rep.arena.scoped.words, c.reach_and_count.auto.work, done.auto.work) in record {
+    omega (arith, q.rep.words, c.reach_and_count.auto.work, done.auto.work) in record {
       planned =
           planned_tree bs ws st q.rep c.args.root counted reached done.new.work done.result long done.ensures;
       held =
           held bs ws st q.rep c.args.root counted reached done.new.work done.result long done.ensures
-          q.forest_value q.forest_value_2;
+          taken q.root_made;
     }

@@ -19,18 +19,18 @@ give-returns-then-is_empty t c bs =
     let p = c.requires in
     elim c.then-is_empty.branch [
       | give-then-is_empty-via-then-is_empty w ↦
-          gives_empty _ _ p.d_lt_symbols.1 _ c.list_at-own.ensures bs _ _ _ _
+          gives_empty c.args.g.now _ p.d_lt_symbols.1 _ c.list_at-own.ensures bs _ _
           (eqb-true _ 0 (sym c.is_empty.ensures ∙ w.if-is_empty.true)) p.held
       | give-then-is_empty-via-else-is_empty+then-is_arg w ↦
-          gives_arg _ _ p.d_lt_symbols.1 _ c.list_at-own.ensures bs _ _ _ _ _ w.is_arg.ensures w.if-is_arg.true p.held
+          gives_arg c.args.g.now _ p.d_lt_symbols.1 _ c.list_at-own.ensures bs _ _ _ w.is_arg.ensures w.if-is_arg.true p.held
     ]
 
 pub give-add_run-requires : goal.give-add_run-requires
 give-add_run-requires t c =
     let p = c.requires in
     record {
-      below = run_inside _ _ p.d_lt_symbols.1 _ c.list_at-own.ensures (omega (arith, p.scoped.few));
-      held = held_up p.held p.scoped.few;
+      below = run_inside c.args.g.now _ p.d_lt_symbols.1 _ c.list_at-own.ensures (omega (arith, c.args.g.now.scoped.few));
+      held = held_up p.held c.args.g.now.scoped.few;
     }
 
 pub give-give_run-requires : goal.give-give_run-requires
@@ -38,11 +38,8 @@ give-give_run-requires t c =
     let p = c.requires in (
       omega (arith, c.decreases),
       (
-        p.scoped,
-        (
-          (p.d_lt_symbols.0, filed_less (omega arith) p.d_lt_symbols.1),
-          (run_low _ _ p.d_lt_symbols.1 _ c.list_at-own.ensures, p.held),
-        ),
+        (p.d_lt_symbols.0, filed_less (omega arith) p.d_lt_symbols.1),
+        (run_low c.args.g.now _ p.d_lt_symbols.1 _ c.list_at-own.ensures, p.held),
       ),
     )
 
@@ -50,27 +47,26 @@ pub give-offer_run-requires : goal.give-offer_run-requires
 give-offer_run-requires t c =
     let p = c.requires in
     record {
-      scoped = p.scoped;
-      below = run_inside _ _ p.d_lt_symbols.1 _ c.list_at-own.ensures p.d_lt_symbols.0;
+      below = run_inside c.args.g.now _ p.d_lt_symbols.1 _ c.list_at-own.ensures p.d_lt_symbols.0;
       held = (c.give_run.ensures []).held;
     }
 
 pub give-returns-in-Local : goal.give-returns-in-Local
 give-returns-in-Local t c bs =
     let p = c.requires in
-    gives_local _ _ p.d_lt_symbols.1 _ c.list_at-own.ensures bs _ _ _ _ _ c.is_arg.ensures c.if-is_arg.false _
+    gives_local c.args.g.now _ p.d_lt_symbols.1 _ c.list_at-own.ensures bs _ _ _ c.is_arg.ensures c.if-is_arg.false _
     c.relation.ensures c.in-Local.is p.held p.d_lt_symbols.0 c.add_run.ensures
 
 pub give-returns-in-Deeper : goal.give-returns-in-Deeper
 give-returns-in-Deeper t c bs =
     let p = c.requires in
-    gives_deeper _ _ p.d_lt_symbols.1 _ c.list_at-own.ensures bs _ _ _ _ _ c.is_arg.ensures c.if-is_arg.false _
+    gives_deeper c.args.g.now _ p.d_lt_symbols.1 _ c.list_at-own.ensures bs _ _ _ c.is_arg.ensures c.if-is_arg.false _
     c.relation.ensures c.in-Deeper.is (c.give_run.ensures bs) (c.offer_run.ensures bs)
 
 pub give-returns-in-Outside : goal.give-returns-in-Outside
 give-returns-in-Outside t c bs =
     let p = c.requires in
-    gives_outside _ _ p.d_lt_symbols.1 _ c.list_at-own.ensures bs _ _ _ _ _ c.is_arg.ensures c.if-is_arg.false _
+    gives_outside c.args.g.now _ p.d_lt_symbols.1 _ c.list_at-own.ensures bs _ _ _ c.is_arg.ensures c.if-is_arg.false _
     c.relation.ensures c.in-Outside.is p.held
 
 -- ---- `give_run`
@@ -84,11 +80,8 @@ give_run-give-requires t c =
     let low = under_at _ _ p.below c.loop-d.d-index c.loop-d-test.true in (
       omega (arith, c.decreases, low),
       (
-        p.scoped,
-        (
-          (omega (arith, low, p.top_lt_symbols.0), filed_less (omega (arith, low)) p.top_lt_symbols.1),
-          (c.loop-d.invariant []).held,
-        ),
+        (omega (arith, low, p.top_lt_symbols.0), filed_less (omega (arith, low)) p.top_lt_symbols.1),
+        (c.loop-d.invariant []).held,
       ),
     )
 

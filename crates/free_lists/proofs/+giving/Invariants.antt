@@ -17,5 +17,5 @@ decreases-give_run l =
 
 abbrev pub invariant-give_run-loop-d : given.invariant-give_run-loop-d
 invariant-give_run-loop-d l =
-    (bs : List ℕ) → Listed bs l.work l.g.symbols l.g.scopes (gives l.work l.cs (take l.d-index l.run))
+    (bs : List ℕ) → Listed bs l.g (gives l.g.words.now l.cs (take l.d-index l.run))
     l.initial.list.items l.list.items

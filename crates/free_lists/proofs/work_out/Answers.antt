@@ -1,5 +1,6 @@
 -- `free_lists::work_out` meets its contract. Assumes nothing.
 use mathlib.Core.Path.{ap, ◌∙◌}
+use mathlib.Core.List.{[]}
 use native.Mathlib.Omega.{arith}
 use Rattle.free_lists.specs.FreeLists.{with_list}
 use Rattle.free_lists.proofs.Keeping.{files, worked}
@@ -13,4 +14,4 @@ pub returns : goal.returns
 returns c =
     let p = c.requires in
     c.store.ensures
-    ∙ ap (with_list _ _) (c.deref.ensures.0 ∙ worked _ _ _ _ p.arena p.lists p.c_bound _ c.gather.ensures)
+    ∙ ap (with_list _ _) (c.deref.ensures.0 ∙ worked _ _ _ _ p.arena p.lists p.c_bound _ (c.gather.ensures.is []))

@@ -23,8 +23,8 @@ decreases-operands l =
 
 abbrev pub invariant-operands-loop-j : given.invariant-operands-loop-j
 invariant-operands-loop-j l =
-    Reading l.forest l.t l.i l.count l.op l.at l.initial.work l.initial.before l.work
-    (all_read l.branches l.before l.next) l.top l.j
+    Reading l.forest.laid l.t l.i l.count l.op l.at l.initial.work l.initial.st l.work
+    (all_read l.branches l.st l.next) l.top l.j
 
 abbrev pub decreases-subtree : given.decreases-subtree
 decreases-subtree l =

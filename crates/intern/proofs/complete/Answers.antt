@@ -1,15 +1,16 @@
 -- `intern::complete` meets its contract. Assumes nothing.
-use Rattle.intern.proofs.Gives.{complete_refused, complete_done}
+use mathlib.Core.Path.{refl}
+use Rattle.std.proofs.lemmas.Result.{err_from_is_err_and}
+use Rattle.intern.proofs.Records.{reads_err}
+use Rattle.intern.proofs.Gives.{complete_done}
 use Rattle.intern.proofs.complete.Goals as goal
 
-pub returns-in-Err : goal.returns-in-Err
-returns-in-Err c =
-    complete_refused c.requires.completable c.refused.ensures c.in-Err.is
-
-pub conclude-step-requires : goal.conclude-step-requires
-conclude-step-requires c =
-    let p = c.requires in record { well_formed = p.well_formed; rep = p.completable.rep; fact = p.completable.opened; concluding = p.completable.concludes (rw c.in_default.is); branched = p.completable.branched }
+pub returns-in_err-symbol : goal.returns-in_err-symbol
+returns-in_err-symbol c =
+    let p = err_from_is_err_and c.from_residual.result c.from_residual.ensures.1 in
+    rw (p.1, p.2)
+    (reads_err (rw c.in_err-symbol.was at (complete_done c.requires.completable refl c.conclude.ensures)))
 
 pub returns : goal.returns
 returns c =
-    complete_done c.requires.completable (rw c.in_default.is) c.conclude-step.ensures
+    rw c.in_ok-symbol.was at (complete_done c.requires.completable refl c.conclude.ensures)

@@ -4,4 +4,4 @@ use Rattle.interner.proofs.alloc_args.Given as given
 
 abbrev pub invariant-loop : given.invariant-loop
 invariant-loop l =
-    SoFar l.forest l.initial.work l.initial.s l.cur l.at l.count l.counter l.work l.s
+    SoFar l.forest l.initial.work l.initial.st l.cur l.at l.count l.counter l.work l.st

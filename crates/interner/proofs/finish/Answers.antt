@@ -1,6 +1,22 @@
 -- `interner::finish` meets its contract. Assumes nothing.
+use Rattle.std.specs.Prelude.{None}
+use Rattle.interner.proofs.Ready.{ready_levels}
+use Rattle.interner.proofs.Keys.{found_answers, made_answers, found_is}
 use Rattle.interner.proofs.finish.Goals as goal
 
-pub returns : goal.returns
-returns c =
-    rw c.step_to.ensures c.find_or_make-s.ensures
+pub alloc-requires-clause-levels : goal.alloc-requires-clause-levels
+alloc-requires-clause-levels c =
+    ready_levels _ _ _ _ _ _ _ _ c.requires.rep c.requires.ready c.key_levels-levels.ensures
+
+pub returns-in-Some : goal.returns-in-Some
+returns-in-Some c =
+    let p = c.requires in
+    found_answers p.rep p.fact p.ready _
+    (found_is p.rep p.fact p.ready _ c.parts_of-p.ensures _ _ c.find.ensures c.in-Some.is)
+
+pub returns-in-None : goal.returns-in-None
+returns-in-None c =
+    let p = c.requires in
+    made_answers p.rep p.fact p.ready
+    (found_is p.rep p.fact p.ready _ c.parts_of-p.ensures _ None c.find.ensures c.in-None.is)
+    (c.alloc.ensures c.args.t p.fact)

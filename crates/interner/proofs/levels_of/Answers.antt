@@ -11,14 +11,6 @@ loop-k-init c =
     let a = c.args in
     λ j. levels_none a.work.now (PENDING.first + a.held) j c.empty-all.result (c.empty-all.ensures j)
 
-pub overflow_cast-s : goal.overflow_cast-s
-overflow_cast-s c =
-    omega (arith, c.requires.by_index c.loop-k.k c.loop-k-test.true)
-
-pub load-y-requires : goal.load-y-requires
-load-y-requires c =
-    omega (arith, c.requires.by_index c.loop-k.k c.loop-k-test.true)
-
 pub loop-k-preserved : goal.loop-k-preserved
 loop-k-preserved c =
     let l = c.loop-k in

@@ -4,14 +4,18 @@ use Rattle.model.specs.Call.{call_of, written_of}
 use Rattle.model.specs.Lister.{refusal}
 use Rattle.output.proofs.Wrote.{wrote_as}
 use Rattle.cse.proofs.Told.{told_refused, told_written}
-use Rattle.listing.proofs.Symbols.{listable, lines_same}
+use Rattle.listing.proofs.Symbols.{held_laid, listable, lines_same}
 use Rattle.listing.proofs.Told.{pass_numbers, pass_output}
 use Rattle.listing.proofs.Text.{refusal-listed, symbols-listed}
 use Rattle.listing.proofs.list.Goals as goal
 
+pub new-requires : goal.new-requires
+new-requires c =
+    held_laid c.args.forest.now c.pass.new.work _ c.in-Ok.ensures.held_after
+
 pub put_symbols-requires-clause-listable : goal.put_symbols-requires-clause-listable
 put_symbols-requires-clause-listable c =
-    listable c.args.forest.now c.pass.new.work _ c.in-Ok.ensures.held_after
+    rw c.new.ensures (listable c.args.forest.now c.pass.new.work _ c.in-Ok.ensures.held_after)
 
 pub returns-in-Ok-clause-listed : goal.returns-in-Ok-clause-listed
 returns-in-Ok-clause-listed c =
@@ -24,7 +28,7 @@ returns-in-Ok-clause-listed c =
     symbols-listed call c.requires.0 c.requires.1 out p.new.out c.put_symbols.new.out c.put_symbols.result
     (pass_output call c.requires.1 out p.new.out p.result told) p.auto.out (written_of made.out) made.out made.runs
     made.interns
-    (wrote_as (lines_same c.args.forest.now p.new.work _ v.ensures.held_after made.out made.interns) c.put_symbols.ensures)
+    (wrote_as (lines_same c.args.forest.now p.new.work _ v.ensures.held_after made.out made.interns) (rw c.new.ensures at c.put_symbols.ensures))
 
 pub returns-in-Err-clause-listed : goal.returns-in-Err-clause-listed
 returns-in-Err-clause-listed c =

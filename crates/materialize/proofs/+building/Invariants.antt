@@ -1,7 +1,6 @@
 -- The functions of the cycle `building` of `materialize` in their loops and calls: what stays, and what falls. Assumes nothing.
 use Prim.Native.Nat.{◌+◌, ◌*◌, ◌≤◌}
 use lib.ListN.{take}
-use Rattle.planner.specs.Grew.{PlanOnly}
 use Rattle.planner.specs.Planning.{Defines, Leads}
 use Rattle.materialize.proofs.+building.Given as given
 
@@ -23,7 +22,7 @@ decreases-definitions l =
 
 abbrev pub invariant-definitions-loop-s : given.invariant-definitions-loop-s
 invariant-definitions-loop-s l =
-    Defines l.forest l.initial.work l.g l.initial.map l.initial.d.plan l.above l.sc (take l.s-index l.order) l.last l.s-index l.work l.map l.d.plan l.d.last
+    Defines l.source l.initial.map l.initial.plan l.initial.d.plan l.above l.sc (take l.s-index l.order) l.last l.s-index l.plan l.map l.d.plan l.d.last
 
 abbrev pub decreases-fresh : given.decreases-fresh
 decreases-fresh l =
@@ -43,9 +42,8 @@ decreases-operands l =
 
 abbrev pub invariant-operands-loop-j : given.invariant-operands-loop-j
 invariant-operands-loop-j l =
-    PlanOnly l.initial.work l.work
-    × (l.q.rows ≤ 256)
-    × Leads l.forest l.initial.work l.g l.ids l.initial.q (l.above + 1) l.s l.opcode l.o l.last l.j l.work l.q
+    (l.q.rows ≤ 256)
+    × Leads l.source l.ids l.initial.plan l.initial.q (l.above + 1) l.s l.opcode l.o l.last l.j l.plan l.q
 
 abbrev pub decreases-thunk : given.decreases-thunk
 decreases-thunk l =

@@ -9,5 +9,5 @@ use Rattle.outsiders.proofs.offer_operands.Given as given
 abbrev pub invariant-loop-j : given.invariant-loop-j
 invariant-loop-j l =
     (bs : List ℕ) →
-    Listed bs l.work l.g.symbols l.g.scopes (offered l.cs (operands l.thunks l.opcode 0 (take l.j l.run)))
+    Listed bs l.g (offered l.cs (operands l.thunks l.opcode 0 (take l.j l.run)))
     l.initial.list.items l.list.items

@@ -7,5 +7,5 @@ use Rattle.outsiders.proofs.offer_run.Given as given
 
 abbrev pub invariant-loop-d : given.invariant-loop-d
 invariant-loop-d g l =
-    (bs : List ℕ) → Listed bs l.work l.g.symbols l.g.scopes (offered l.cs (take l.d-index (g.T.Entry.numbers l.run)))
+    (bs : List ℕ) → Listed bs l.g (offered l.cs (take l.d-index (g.T.Entry.numbers l.run)))
     l.initial.list.items l.list.items

@@ -3,9 +3,9 @@ use native.Mathlib.Omega.{arith}
 use Rattle.planner.proofs.Growing.{put_stored, put_full}
 use Rattle.planner.proofs.put.Goals as goal
 
-pub returns-then-p-eq256 : goal.returns-then-p-eq256
-returns-then-p-eq256 c =
-    put_full _ _ _ _ c.if-p-eq256.true
+pub returns-then-p-eq-ROWS : goal.returns-then-p-eq-ROWS
+returns-then-p-eq-ROWS c =
+    put_full _ _ _ _ c.if-p-eq-ROWS.true
 
 pub returns : goal.returns
 returns c =

@@ -8,12 +8,12 @@ use Rattle.schedule.proofs.Walking.{schedule_done}
 use Rattle.schedule.proofs.schedule.Goals as goal
 
 pub visit-requires-clause-lent : goal.visit-requires-clause-lent
-visit-requires-clause-lent c = lent_empty refl c.clear.ensures
+visit-requires-clause-lent c = lent_empty _ refl c.clear.ensures
 
 pub visit-requires-clause-s_value : goal.visit-requires-clause-s_value
 visit-requires-clause-s_value c =
     let p = c.requires in
-    get_or-replicate 512 c.args.root false false (omega (arith, p.root_lt_symbols.0, p.stocked.arena.scoped.few))
+    get_or-replicate 512 c.args.root false false (omega (arith, p.root_lt_symbols.0, c.args.g.now.scoped.few))
 
 pub returns : goal.returns
-returns c = schedule_done c.requires.stocked.arena _ _ refl c.clear.ensures c.visit.ensures
+returns c = schedule_done _ _ _ refl refl c.clear.ensures c.visit.ensures

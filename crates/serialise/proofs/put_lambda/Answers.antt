@@ -8,9 +8,9 @@ use Rattle.writer.specs.Writer.{fixed}
 use Rattle.serialise.proofs.Rows.{lambda_put}
 use Rattle.serialise.proofs.put_lambda.Goals as goal
 
-pub put_fixed-next-requires : goal.put_fixed-next-requires
+pub put_fixed-requires : goal.put_fixed-requires
 unfolding row_len
-put_fixed-next-requires c =
+put_fixed-requires c =
     omega (arith, c.requires)
 
 pub put_args-requires : goal.put_args-requires
@@ -18,13 +18,15 @@ unfolding row_len fixed put16
 put_args-requires c =
     let a = c.aux-aux.ensures in
     let l = c.literal-lit.ensures in
-    let w = c.put_fixed-next in
+    let p = c.put_fixed.ensures in
     let r = c.requires.renumbered in
-    let fit = c.requires.i_in_bounds in record { lit_value = rw (a, l) r.args; lit_in_bounds = omega (arith, fit, w.ensures.ends, w.auto.out, ap length l); n_bound = omega (arith, a, r.fit) }
+    record {
+      all = rw (a, l) r.args;
+      room = omega (arith, c.requires.room, p.ends, p.len, ap length l);
+      n_bound = omega (arith, a, r.fit);
+    }
 
 pub returns : goal.returns
 returns c =
-    let w = c.put_fixed-next.ensures in
-    let v = c.put_args.ensures in
-    lambda_put c.args.forest.now c.args.i c.args.last c.aux-aux.ensures
-    c.literal-lit.ensures w v
+    lambda_put c.args.forest.now c.args.i c.args.last c.aux-aux.ensures c.literal-lit.ensures c.put_fixed.ensures
+    c.put_args.ensures

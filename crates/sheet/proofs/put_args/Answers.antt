@@ -6,11 +6,11 @@ use Rattle.sheet.proofs.put_args.Goals as goal
 
 pub returns-then-n-eq0 : goal.returns-then-n-eq0
 returns-then-n-eq0 c =
-    clipped_as (clipped_none _ _ c.requires.at_in_bounds) (args_none_text _ _ c.if-n-eq0.true)
+    clipped_as (clipped_none _ c.requires.room) (args_none_text _ _ c.if-n-eq0.true)
 
 pub returns : goal.returns
 unfolding text
 returns c =
     let a = c.args in
-    clipped_as (clipped_then c.put_text-end.ensures c.put_ids.ensures)
+    clipped_as (clipped_then c.put_text.ensures c.put_ids.ensures)
     (args_text_lem a.n a.lit.now c.if-n-eq0.false)

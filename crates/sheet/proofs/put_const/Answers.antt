@@ -5,5 +5,5 @@ use Rattle.sheet.proofs.put_const.Goals as goal
 
 pub returns : goal.returns
 returns c =
-    clipped_as (clipped_then c.put_class-end.ensures c.put_mark.ensures)
+    clipped_as (clipped_then c.put_class.ensures c.put_mark.ensures)
     (const_text_lem _ c.class.ensures c.mark.ensures)

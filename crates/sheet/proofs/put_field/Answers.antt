@@ -8,4 +8,4 @@ use Rattle.sheet.proofs.put_field.Goals as goal
 pub returns : goal.returns
 unfolding text
 returns c =
-    clipped_then c.put_text-end.ensures (clipped_as c.put_number.ensures (ap numeral c.from.ensures))
+    clipped_then c.put_text.ensures (clipped_as c.put_number.ensures (ap numeral c.from.ensures))

@@ -8,5 +8,5 @@ use Rattle.sheet.proofs.put_id.Goals as goal
 pub returns : goal.returns
 unfolding text
 returns c =
-    let id = ap numeral (c.from.ensures ∙ c.id_at.ensures) in
-    clipped_then c.put_text-end.ensures (clipped_as c.put_number.ensures id)
+    let id = ap numeral (c.from.ensures ∙ c.id.ensures) in
+    clipped_then c.put_text.ensures (clipped_as c.put_number.ensures id)

@@ -1,19 +1,17 @@
 -- `sheet::put_ids` in its loop: what stays. Assumes nothing.
-use Prim.Native.Nat.{ℕ, ◌-◌, ◌≤◌}
-use mathlib.Core.List.{List}
-use lib.ListN.{length, drop}
 use Rattle.model.specs.Sheet.{id_texts}
-use Rattle.shape.specs.Args.{Left}
+use Rattle.shape.specs.Iterating.{args_left}
 use Rattle.walk.specs.Words.{arg_ids_at}
-use Rattle.sheet.specs.Clip.{Clipped}
+use Rattle.output.specs.declared.Output.{Output}
+use Rattle.output.specs.Output.{Room}
+use Rattle.sheet.specs.Clip.{PutClipped}
+use Rattle.sheet.proofs.Lines.{ids}
 use Rattle.sheet.proofs.put_ids.Given as goal
 
 -- what puts the ids that are left has put all of them
-abbrev pub invariant-loop : goal.invariant-loop
-invariant-loop l = record {
-  room : l.end ≤ length l.out;
-  left : Left (l.n - l.counter) l.lit l.next;
-  rest : (out : List ℕ) (r : ℕ) →
-      Clipped l.out l.end (id_texts (arg_ids_at (l.n - l.counter) (drop l.next l.lit))) out r →
-      Clipped l.initial.out l.at (id_texts (arg_ids_at l.n (drop l.from l.lit))) out r;
+abbrev pub invariant-loop-arg : goal.invariant-loop-arg
+invariant-loop-arg l = record {
+  room : Room l.out 0;
+  rest : (o' : Output) → PutClipped l.out (id_texts (ids (args_left l.arg-iterator))) o' →
+      PutClipped l.initial.out (id_texts (arg_ids_at l.n l.lit)) o';
 }

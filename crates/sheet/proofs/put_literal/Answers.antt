@@ -7,10 +7,10 @@ use Rattle.sheet.proofs.put_literal.Goals as goal
 
 pub returns-then-is_empty : goal.returns-then-is_empty
 returns-then-is_empty c =
-    clipped_as (clipped_none _ _ c.requires) (literal_none c.args.lit.now (search rules))
+    clipped_as (clipped_none _ c.requires) (literal_none c.args.lit.now (search rules))
 
 pub returns : goal.returns
 unfolding text
 returns c =
-    clipped_as (clipped_then c.put_text-end.ensures c.put_hexes.ensures)
+    clipped_as (clipped_then c.put_text.ensures c.put_hexes.ensures)
     (literal_some c.args.lit.now (search rules))

@@ -8,11 +8,11 @@ use Rattle.sheet.proofs.put_mark.Goals as goal
 
 pub returns-then-mark-eq0 : goal.returns-then-mark-eq0
 returns-then-mark-eq0 c =
-    clipped_as (clipped_none _ _ c.requires) (mark_none _ c.if-mark-eq0.true)
+    clipped_as (clipped_none _ c.requires) (mark_none _ c.if-mark-eq0.true)
 
 pub returns : goal.returns
 unfolding text
 returns c =
     clipped_as
-    (clipped_then c.put_text-end.ensures (clipped_as c.put_number.ensures (ap numeral c.from.ensures)))
+    (clipped_then c.put_text.ensures (clipped_as c.put_number.ensures (ap numeral c.from.ensures)))
     (mark_some _ c.if-mark-eq0.false)

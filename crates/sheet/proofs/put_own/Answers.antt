@@ -1,34 +1,25 @@
 -- `sheet::put_own` meets its contract. Assumes nothing.
-use Prim.Native.Nat.{ℕ}
-use mathlib.Core.Path.{sym, ap, subst, ◌∙◌}
 use mathlib.Core.Logic.{⊎_elim}
 use native.Mathlib.Omega.{arith}
 use borrow.Author.Rules.{rules}
-use Rattle.model.specs.Sheet.{args_text}
-use Rattle.shape.specs.Args.{Left}
 use Rattle.shape.proofs.Fitting.{fits_use, fits_def, fits_func, fits_field}
-use Rattle.walk.specs.Words.{arg_ids_at}
 use Rattle.sheet.proofs.Clipping.{clipped_none, clipped_as}
 use Rattle.sheet.proofs.Lines.{own_const, own_use, own_def, own_args, own_field, own_none}
 use Rattle.sheet.proofs.put_own.Goals as goal
 
 pub put_id-requires : goal.put_id-requires
 put_id-requires c = (
-  c.requires.at_in_bounds,
+  c.requires.room,
   ⊎_elim (λ e. omega (arith, fits_use _ c.requires.fits.is e)) (λ e. (fits_def _ c.requires.fits.is e).1) c.in-7.is,
 )
 
 pub put_args-requires : goal.put_args-requires
 put_args-requires c =
-    let left = (fits_func _ c.requires.fits.is c.in-12.is).2 in
-    record {
-      at_in_bounds = c.requires.at_in_bounds;
-      left = subst (λ (n : ℕ). Left n c.args.lit.now 0) (sym c.from.ensures) left;
-    }
+    record { room = c.requires.room; all = (fits_func _ c.requires.fits.is c.in-12.is).2 }
 
 pub put_field-requires : goal.put_field-requires
 put_field-requires c =
-    (c.requires.at_in_bounds, omega (arith, (fits_field _ c.requires.fits.is c.in-17.is).1))
+    (c.requires.room, omega (arith, (fits_field _ c.requires.fits.is c.in-17.is).1))
 
 pub returns-in-0 : goal.returns-in-0
 returns-in-0 c op =
@@ -40,9 +31,7 @@ returns-in-7 c op =
 
 pub returns-in-12 : goal.returns-in-12
 returns-in-12 c op =
-    let a = c.args in
-    clipped_as c.put_args.ensures
-    (ap (λ (n : ℕ). args_text (arg_ids_at n a.lit.now)) c.from.ensures ∙ own_args _ op _ _ c.in-12.is)
+    clipped_as c.put_args.ensures (own_args _ op _ _ c.in-12.is)
 
 pub returns-in-17 : goal.returns-in-17
 returns-in-17 c op =
@@ -50,5 +39,5 @@ returns-in-17 c op =
 
 pub returns-in_default : goal.returns-in_default
 returns-in_default c op =
-    clipped_as (clipped_none _ _ c.requires.at_in_bounds)
+    clipped_as (clipped_none _ c.requires.room)
     (own_none _ op _ _ (λ e. omega arith) (λ e. search rules) (λ e. search rules) (λ e. omega arith) (λ e. omega arith))

@@ -7,5 +7,5 @@ use Rattle.sheet.proofs.put_place.Goals as goal
 pub returns : goal.returns
 unfolding place_text
 returns c =
-    let padded = clipped_as c.put_spaces-from.ensures (ap spaces c.pad.ensures) in
-    clipped_then (clipped_then padded c.put_number-end.ensures) c.put_spaces.ensures
+    let padded = clipped_as c.put_spaces.ensures (ap spaces c.pad.ensures) in
+    clipped_then (clipped_then padded c.put_number.ensures) c.put_spaces-2.ensures

@@ -13,16 +13,17 @@ read c =
     read-written c.args.forest.now c.args.out.now c.args.work.now c.requires.0 c.requires.1 c.in-Ok.written
     c.cse.new.out c.in-Ok.ensures.result_value c.cse.ensures.out_after
 
-pub put_verdict-requires-clause-laid : goal.put_verdict-requires-clause-laid
-put_verdict-requires-clause-laid c = (read (goal.at.put_verdict-requires-clause-laid c).In-Ok).forest_laid
+pub new-tree-requires : goal.new-tree-requires
+new-tree-requires c = (read (goal.at.new-tree-requires c).In-Ok).tree_laid
 
-pub put_verdict-requires-clause-laid_2 : goal.put_verdict-requires-clause-laid_2
-put_verdict-requires-clause-laid_2 c = (read (goal.at.put_verdict-requires-clause-laid_2 c).In-Ok).tree_laid
+pub new-requires : goal.new-requires
+new-requires c = (read (goal.at.new-requires c).In-Ok).forest_laid
 
 pub returns-in-Ok-clause-wrote : goal.returns-in-Ok-clause-wrote
 returns-in-Ok-clause-wrote c =
     let r = read (goal.at.returns-in-Ok-clause-wrote c).In-Ok in
-    wrote_as (sym r.line) (c.put_verdict.ensures r.written r.tree_rows)
+    wrote_as (rw c.new.ensures (sym r.line))
+    (c.put_verdict.ensures r.written (rw c.new-tree.ensures r.tree_rows))
 
 pub returns-in-Err-clause-wrote : goal.returns-in-Err-clause-wrote
 returns-in-Err-clause-wrote c =

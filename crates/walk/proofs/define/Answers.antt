@@ -8,5 +8,5 @@ use Rattle.walk.proofs.define.Goals as goal
 pub returns : goal.returns
 returns c =
     let a = c.args in
-    bound_def _ _ _ (tree_at a.forest.now a.i) (sym c.shape.ensures ∙ c.if-shape-ne-VAL_DEF.false) c.id_of.ensures
+    bound_def _ _ _ (tree_at a.forest.now.laid a.i) (sym c.shape.ensures ∙ c.if-shape-ne-VAL_DEF.false) c.id_of.ensures
     (omega arith) (omega arith)

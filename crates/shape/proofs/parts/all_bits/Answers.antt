@@ -7,6 +7,6 @@ use Rattle.shape.proofs.parts.all_bits.Goals as goal
 
 pub returns : goal.returns
 returns c =
-    let bytes = YieldsList-from_slice c.args.lit.now cc in
-    all_from_yields_List (λ b. ltb b 2) _ _ _ c.all.ensures.ran bytes (λ x b q k. search (rules, tests))
+    all_from_yields_List (λ b. ltb b 2) _ _ _ c.all.ensures.ran (YieldsList-from_slice c.args.lit.now cc)
+    (λ x b q k. search (rules, tests))
     ∙ sym (bits_is _)

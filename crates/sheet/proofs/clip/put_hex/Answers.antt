@@ -1,14 +1,22 @@
 -- `sheet::clip::put_hex` meets its contract. Assumes nothing.
-use mathlib.Core.Path.{sym}
+use mathlib.Core.Path.{ap, ◌∙◌}
+use mathlib.Core.List.{append-nil}
 use native.Mathlib.Omega.{arith}
-use lib.Seq.{length-take-le}
-use Rattle.sheet.proofs.Clipping.{clipped_as, scratch_text}
+use lib.ListN.{length}
+use Rattle.model.specs.Lister.{hex_byte}
+use Rattle.output.proofs.Over.{over_front}
+use Rattle.output.proofs.Put.{put_wrote}
+use Rattle.sheet.proofs.Clipping.{clipped_as}
 use Rattle.sheet.proofs.clip.put_hex.Goals as goal
 
-pub slice_bounds-put_text-end : goal.slice_bounds-put_text-end
-slice_bounds-put_text-end c =
-    sym (length-take-le _ _ (omega arith))
+pub put_hex-requires : goal.put_hex-requires
+put_hex-requires c =
+    let start = c.new-digits.ensures.start in
+    omega (arith, ap length start.0, start.1)
 
 pub returns : goal.returns
+unfolding hex_byte
 returns c =
-    clipped_as c.put_text.ensures (scratch_text c.put_hex-k.ensures)
+    let start = c.new-digits.ensures.start in
+    let whole = (put_wrote start.0 start.1 c.put_hex.ensures).holds ∙ over_front _ _ in
+    clipped_as c.put_text.ensures (whole ∙ append-nil (hex_byte c.args.b))

@@ -3,20 +3,16 @@ use mathlib.Core.Path.{ap}
 use native.Mathlib.Omega.{arith}
 use lib.Seq.{take_all}
 use Rattle.model.specs.Sheet.{hex_bytes}
-use Rattle.sheet.proofs.Clipping.{clipped_room, clipped_as, hex_start, hex_turn}
+use Rattle.sheet.proofs.Clipping.{clipped_as, hex_start, hex_turn}
 use Rattle.sheet.proofs.clip.put_hexes.Goals as goal
 
 pub loop-b-init : goal.loop-b-init
 loop-b-init c =
-    hex_start _ _ (omega arith)
-
-pub put_hex-end-requires : goal.put_hex-end-requires
-put_hex-end-requires c =
-    clipped_room c.loop-b.invariant
+    hex_start _ c.requires
 
 pub loop-b-preserved : goal.loop-b-preserved
 loop-b-preserved c =
-    hex_turn _ _ (omega arith) c.loop-b.invariant c.put_hex-end.ensures
+    hex_turn _ _ (omega arith) c.loop-b.invariant c.put_hex.ensures
 
 pub returns : goal.returns
 returns c =

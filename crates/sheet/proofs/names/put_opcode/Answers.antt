@@ -7,5 +7,5 @@ use Rattle.sheet.proofs.names.put_opcode.Goals as goal
 pub returns : goal.returns
 unfolding text opcode_text
 returns c =
-    clipped_then (clipped_then c.put-space.ensures c.put_hex-end.ensures)
+    clipped_then (clipped_then c.put.ensures c.put_hex.ensures)
     (clipped_as c.put_text.ensures c.opcode_name.ensures)
