@@ -23,6 +23,7 @@ pub fn resolve(work: &[u32], n: usize, id: u32) -> u32
     requires { (2 * n ≤ BINDINGS.size) × (WORDS ≤ length work.now) }
     ensures { result ≡ resolve (env_of work.now n) id }
 {
+    // by index: pairs of words as slices would be taken apart by index again. 0 where no id is, as the definition gives
     for k in (0..n).rev() {
         if work[regions::BINDINGS + 2 * k] == id {
             return work[regions::BINDINGS + 2 * k + 1];
@@ -51,6 +52,7 @@ fn bind_all(lit: &[u8], work: &mut [u32], n: u8, top: usize, first: u32)
     ensures { work.new
         ≡ bound_all work.old top (arg_bindings (args_of n lit.now) (range first n)) }
 {
+    // it goes up beside the loop: zipped in too, the arguments would come as pairs of pairs
     let mut symbol = first;
     for (k, arg) in (0..usize::from(n)).rev().zip(Args::new(lit, n)) {
         bind(work, top + k, arg.id, symbol);

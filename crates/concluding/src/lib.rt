@@ -1,9 +1,9 @@
 // What a record gives once its children's symbols are pending (intern.rs): the symbol of its key, a lambda's, a
 // projection's, a use's, or that of its last child. The pending symbols of the children start `held` words into their
 // region. Those that may make a symbol give it, or a refusal at the record, where there is no room for one, as the
-// definition has it. Then the words hold the state that is left (`Answers`), after a refusal the one in which it was met;
-// the words of symbols, slots, entries and remembered pairs may have changed, and no others (`Leaves`). The others only
-// read the words, and refuse nothing.
+// definition has it. Then the words hold the state that is left (`Answers`), after a refusal the one in which it was
+// met; the words of symbols, slots, entries and remembered pairs may have changed, and no others (`Leaves`). The others
+// only read the words, and refuse nothing.
 #![tactic(auto)]
 
 ghost use Rattle.std.specs.Prelude.{◌≡◌, false, ◌||◌, [], ℕ, ◌+◌, ◌<◌, ◌≤◌, eqb, length, get_or};
@@ -76,9 +76,9 @@ pub fn general(
     interner::finish(&forest.laid, work, t, st, cur, node, held, count)
 }
 
-// Gives the symbol of the lambda of record i, whose arguments are the symbols from `first` on, and whose body was read in
-// scope `body`, or a refusal. Rules out: a lambda that depends on its own arguments; one whose body's scope is that of
-// the record.
+// Gives the symbol of the lambda of record i, whose arguments are the symbols from `first` on, and whose body was read
+// in scope `body`, or a refusal. Rules out: a lambda that depends on its own arguments; one whose body's scope is that
+// of the record.
 #[tactic(auto, using(walk::proofs::Bridge::records_few))]
 pub fn lambda(
     forest: &Formed,
@@ -176,7 +176,8 @@ pub fn field(
     general(forest, work, t, st, i, cur, held, 1, Branches::Zero)
 }
 
-// Gives the symbol of the last of `count` pending children. Rules out: that of a block's first definition; a new symbol.
+// Gives the symbol of the last of `count` pending children. Rules out: that of a block's first definition; a new
+// symbol.
 pub fn last(work: &[u32], held: usize, count: usize) -> u32
     requires { (0 < count) × (held + count ≤ PENDING.size) × (WORDS ≤ length work.now) }
     ensures { result ≡ last (pending_from work.now held count) }

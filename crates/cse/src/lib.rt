@@ -151,9 +151,9 @@ pub fn cse(forest: &[u8], out: &mut [u8], work: &mut [u32]) -> Result<Written, R
     r
 }
 
-// The call as C programs make it (crate cse_c exports it): the answer's numbers are stored one by one. It adds nothing
-// to `cse`.
-// Rules out: a number left as it was; symbols and readings swapped.
+// The call as C programs make it (crate cse_c exports its twin, since an export is a crate of its own): the answer's
+// numbers are stored one by one. It adds nothing to `cse`. Rules out: a number left as it was; symbols and readings
+// swapped.
 pub fn cse_call(
     forest: &[u8],
     out: &mut [u8],

@@ -128,6 +128,7 @@ fn store(work: &mut [u32], c: usize, list: &[u16])
     ensures { work.new ≡ with_list work.old c list.now }
 {
     let first = end_at(work, c);
+    // an end past the last entry says so: it is a word of fixed memory
     if LIMIT < first + list.len() {
         work[regions::FREE_ENDS + c + 1] = LIMIT as u32 + 1;
         return;

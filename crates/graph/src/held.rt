@@ -1,5 +1,5 @@
-// The graph that work words hold, as a type: who is given one need not ask that its words stand. That a number is one of
-// its symbols stays a clause: the number says nothing of the graph.
+// The graph that work words hold, as a type: who is given one need not ask that its words stand. That a number is one
+// of its symbols stays a clause: the number says nothing of the graph.
 ghost use Rattle.std.proofs.Props.{props};
 ghost use Rattle.graph.specs.Graph.{Scoped};
 

@@ -16,7 +16,8 @@ pub use held::Graph;
 use key::{Node, Symbol};
 use scopes::Rel;
 
-// `count` words from `from` on. Rules out: one word less; those after them.
+// `count` words from `from` on: the one place that makes a slice of what words tell by place and count (fixed memory).
+// Rules out: one word less; those after them.
 #[tactic(auto, using(symbols::proofs::Words::words_slice))]
 pub fn words(work: &[u32], from: usize, count: usize) -> &[u32]
     requires { from + count ≤ length work.now }

@@ -274,8 +274,8 @@ fn field(
 }
 
 // The operands of an opcode, `count` of them from record i on. `subtree` is called here and nowhere else, and put in
-// here (`inline`): a call of its own would copy the tables once more. Rules out: a symbol stored over an older pending one; a definition in force in
-// its own value; the scope of a thunk not noted.
+// here (`inline`): a call of its own would copy the tables once more. Rules out: a symbol stored over an older pending
+// one; a definition in force in its own value; the scope of a thunk not noted.
 #[cycle(interning)]
 fn operands(
     forest: &Formed,
@@ -354,8 +354,8 @@ fn in_thunk(
 // readings or of symbols, and the state in which it was met. Either way the words hold the state that is given,
 // region by region: symbols, slots, scopes, entries and remembered pairs, each up to its count (`Rep`); after a root's
 // symbol that state stands for the definition's. What else interning may write (`INTERNING`) is left free: pending
-// symbols, bindings, and words of a region past its count. All other words are as they were. Rules out: the first tree's
-// symbol; a symbol with a refusal; words after the bindings changed.
+// symbols, bindings, and words of a region past its count. All other words are as they were. Rules out: the first
+// tree's symbol; a symbol with a refusal; words after the bindings changed.
 pub fn forest(forest: &Accepted, work: &mut [u32]) -> Step
     requires { WORDS ≤ length work.old }
     ensures { Interned forest.now.formed.laid work.old work.new result }

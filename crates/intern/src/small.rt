@@ -64,7 +64,8 @@ pub fn count_again(before: State, st: &mut State)
     opening::count_readings(st, more);
 }
 
-// The first of a lambda's arguments; 0 where it has none. Rules out: the last; 512, where there is no symbol.
+// The first of a lambda's arguments; 0 where it has none, since a symbol's word (fixed memory) holds a number. Rules
+// out: the last; 512, where there is no symbol.
 pub fn first_of(symbol: u32, count: usize) -> u32
     requires { symbol + count ≤ 512 }
     ensures { (range result count ≡ range symbol count) × (result < 512) }

@@ -49,8 +49,8 @@ pub struct Step {
     pub symbol: Result<u32, Refusal>,
 }
 
-// The state in which nothing is read yet and the outermost scope is open; its word is 0, the free lists end at 0, and no
-// other word changes. Rules out: a scope's word left as it was; an entry.
+// The state in which nothing is read yet and the outermost scope is open; its word is 0, the free lists end at 0, and
+// no other word changes. Rules out: a scope's word left as it was; an entry.
 pub fn start(work: &mut [u32]) -> State
     requires { WORDS ≤ length work.old }
     ensures { Started work.old work.new result }
@@ -112,8 +112,8 @@ fn no_room(node: Node) -> Refusal
     }
 }
 
-// A new symbol that can be found again, or a refusal where there is no room for one. Rules out: one that is in no table,
-// or in the oldest; a 513th symbol.
+// A new symbol that can be found again, or a refusal where there is no room for one. Rules out: one that is in no
+// table, or in the oldest; a 513th symbol.
 fn alloc(
     forest: &Forest,
     work: &mut [u32],
@@ -221,8 +221,8 @@ fn level_inside(work: &[u32], cur: usize) -> u64
     scopes::levels::with(scopes::levels::empty(), depth + 1)
 }
 
-// `count` argument symbols for the lambda of record `at`, made in scope `cur`: the first of them, or a refusal. Rules out:
-// an argument in a table, where it could be found again; arguments that count as those of the lambda around.
+// `count` argument symbols for the lambda of record `at`, made in scope `cur`: the first of them, or a refusal. Rules
+// out: an argument in a table, where it could be found again; arguments that count as those of the lambda around.
 pub fn alloc_args(
     forest: &Forest,
     work: &mut [u32],
@@ -247,8 +247,8 @@ pub fn alloc_args(
     Ok(n)
 }
 
-// Field `field` of the pending symbol at `held`, for record `at`; or a refusal. Rules out: the other field; a projection
-// that is not remembered, and would be made again after its thunk.
+// Field `field` of the pending symbol at `held`, for record `at`; or a refusal. Rules out: the other field; a
+// projection that is not remembered, and would be made again after its thunk.
 pub fn pair_projection(
     forest: &Forest,
     work: &mut [u32],

@@ -1,8 +1,8 @@
 // Symbols (key.rs), and their five words each in the work memory: words 5s to 5s + 4 are symbol s's.
 // In order: nodes and symbols; a node's parts; the words that they are packed into; a symbol stored, and loaded; its
 // record, its field.
-// That a symbol's words are there (`5 * s + 5 ≤ length work`), and that a number is a symbol's (`s < 512`), stay clauses:
-// they tie a number to words, which a struct of both would only rename.
+// That a symbol's words are there (`5 * s + 5 ≤ length work`), and that a number is a symbol's (`s < 512`), stay
+// clauses: they tie a number to words, which a struct of both would only rename.
 #![tactic(auto)]
 
 ghost use Rattle.std.specs.Prelude.{◌≡◌, ◌+◌, ◌*◌, ◌<◌, ◌≤◌, ◌/◌, ◌%◌, length};
@@ -60,8 +60,8 @@ pub struct Symbol {
     pub levels: u64,
 }
 
-// A node with all fields that any node has, as the words hold them: numbers, and 0 for none, since fixed memory holds no
-// enum. Of `first` and `second` an operation has as many as `branches` says.
+// A node with all fields that any node has, as the words hold them: numbers, and 0 for none, since fixed memory holds
+// no enum. Of `first` and `second` an operation has as many as `branches` says.
 #[derive(Clone, Copy)]
 pub struct Parts {
     pub tag: u32,
@@ -248,7 +248,8 @@ pub fn source(work: &[u32], s: usize) -> usize
     (a / 8 % 256) as usize
 }
 
-// The field of symbol s, 0 where it is no projection: a number, and no `Option`, since keys are compared by it.
+// The field of symbol s, 0 where it is no projection: the number as the word holds it (fixed memory), here and where
+// keys are compared, record and field together; an `Option` would be made of it at each entry to be taken apart again.
 // Rules out: a lambda's unused bits; how many children it has.
 #[tactic(auto, unfolding(crate::specs::Key::symbol_at))]
 pub fn field(work: &[u32], s: usize) -> u32

@@ -59,9 +59,9 @@ module _ (bs ws : List ℕ) (s : ℕ) where
   pub lines_end : {o o₁ : Output} → Put o (lines_to bs ws s) o₁ → o₁.at ≤ o.at + 70 * s
   lines_end w = omega (arith, w.ends, lines_length (uses_at ws) 0 (syms_of bs ws s), syms_length bs ws s)
 
-pub lines_start : (bs ws : List ℕ) (o : Output) → o.at ≤ length o.bytes.now → Put o (lines_to bs ws 0) o
+pub lines_start : (bs ws : List ℕ) (o : Output) → Put o (lines_to bs ws 0) o
 unfolding syms_of lines_from
-lines_start bs ws o h = put_none o h
+lines_start bs ws o = put_none o
 
 -- ---- the whole
 

@@ -1,5 +1,5 @@
-// The lister's lines, written over an output, from its place on. In order: a number; a symbol's columns; its line; all symbols.
-// A refusal's line is written by `text`.
+// The lister's lines, written over an output, from its place on. In order: a number; a symbol's columns; its line; all
+// symbols. A refusal's line is written by `text`.
 #![tactic(auto)]
 
 ghost use Rattle.std.specs.Prelude.{◌≡◌, List, [], ◌∷◌, ◌++◌, ℕ, ◌*◌, ◌<◌, ◌≤◌, length};

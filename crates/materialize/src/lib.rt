@@ -3,9 +3,10 @@
 // A block of one definition that only renames its result would be written as that definition's value (`wrap_block`).
 // Interning makes no symbol for a use, so no definition's value is one, and the case has no code.
 // Where the plan has no room for a row, planning ends.
-// What nests: `build`, `fresh`, `operands`, `operand` once a symbol, with no array. `lambda`, and `thunk` where it gives
-// ids, open a copy of the ids (2 KB), `define` an order (1 KB); these nest once a scope.
-// `last`, `above` and `p` stay three parameters, and `Site` a clause over them: nearly every call changes two or three.
+// What nests: `build`, `fresh`, `operands`, `operand` once a symbol, with no array. `lambda`, and `thunk` where it
+// gives ids, open a copy of the ids (2 KB), `define` an order (1 KB); these nest once a scope. `last`, `above` and `p`
+// stay three parameters, and `Site` a clause over them: what comes back is the plan, or the plan and `last`, and in six
+// of fifteen calls a struct of the three would be taken apart and made anew.
 #![tactic(auto)]
 
 ghost use Rattle.std.specs.Prelude.{◌≡◌, ◌∷◌, [], ℕ, ◌+◌, ◌<◌, ◌≤◌, length, get_or, IfSome, MatchOption};

@@ -25,8 +25,8 @@ pub fn count_reading(st: &mut State)
     count_readings(st, 1);
 }
 
-// A thunk inside scope `cur` is opened: counts its scope, and writes that scope's word. The table of its own is pushed by
-// the caller. Rules out: a thunk inside another scope; a lambda's body.
+// A thunk inside scope `cur` is opened: counts its scope, and writes that scope's word. The table of its own is pushed
+// by the caller. Rules out: a thunk inside another scope; a lambda's body.
 pub fn open_thunk(work: &mut [u32], st: &mut State, cur: usize)
     requires in_bounds { WORDS ≤ length work.old }
     requires cur_lt_scopes { (cur < st.old.scopes) × (st.old.scopes ≤ 2048) }
@@ -36,16 +36,16 @@ pub fn open_thunk(work: &mut [u32], st: &mut State, cur: usize)
     st.scopes += 1;
 }
 
-// A thunk's table is dropped: leaves the first `top` of the entries, those from before the thunk. Rules out: its symbols
-// found after it; entries around it dropped too.
+// A thunk's table is dropped: leaves the first `top` of the entries, those from before the thunk. Rules out: its
+// symbols found after it; entries around it dropped too.
 pub fn close_thunk(st: &mut State, top: u32)
     ensures { st.new ≡ thunk_closed st.old top }
 {
     st.entries = top;
 }
 
-// The body of a lambda inside scope `cur` is opened, with `count` arguments from symbol `first` on: counts its scope, and
-// writes that scope's word. Rules out: a thunk, out of which no symbol moves; a scope that is not counted.
+// The body of a lambda inside scope `cur` is opened, with `count` arguments from symbol `first` on: counts its scope,
+// and writes that scope's word. Rules out: a thunk, out of which no symbol moves; a scope that is not counted.
 pub fn open_body(work: &mut [u32], st: &mut State, cur: usize, first: u32, count: u32)
     requires in_bounds { WORDS ≤ length work.old }
     requires cur_lt_scopes { (cur < st.old.scopes) × (st.old.scopes ≤ 2048) }

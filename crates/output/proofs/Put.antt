@@ -1,6 +1,6 @@
 -- Laws of `Put`. In order: nothing; from its parts; the same bytes; one part after another; as bytes written.
 -- Assumes nothing.
-use Prim.Native.Nat.{ℕ, ◌+◌, ◌≤◌}
+use Prim.Native.Nat.{ℕ, ◌+◌}
 use mathlib.Core.Path.{◌≡◌, refl, sym, ap, ◌∙◌, subst}
 use mathlib.Core.List.{List, [], ◌++◌, append_assoc}
 use native.Mathlib.Omega.{arith}
@@ -9,8 +9,14 @@ use Rattle.output.specs.declared.Output.{Output}
 use Rattle.output.specs.Output.{over, Wrote, Room, Put}
 use Rattle.output.proofs.Over.{over-nil, over-length, over_then}
 
-pub put_none : (o : Output) → o.at ≤ length o.bytes.now → Put o [] o
-put_none o h = record { same = refl; len = refl; ends = omega arith; fits = h; holds = sym (over-nil o.bytes.now o.at) }
+pub put_none : (o : Output) → Put o [] o
+put_none o = record {
+  same = refl;
+  len = refl;
+  ends = omega arith;
+  fits = o.within;
+  holds = sym (over-nil o.bytes.now o.at);
+}
 
 pub put_part : {o o' : Output} {bytes : List ℕ} → Room o (length bytes) → o'.bytes.ghost_name ≡ o.bytes.ghost_name →
     o'.at ≡ o.at + length bytes → o'.bytes.now ≡ over o.bytes.now o.at bytes → Put o bytes o'

@@ -1,20 +1,23 @@
 // Bytes put over an output, front to back. In order: an output with the place that it has come to; what is put there:
 // one byte, a number, bytes in a row. The rest of the output is as it was.
-// `Room` stays a clause: how much is asked differs from call to call.
+// That the place lies in the output is its own fact. `Room` stays a clause: how much is asked differs from call to
+// call.
 #![tactic(auto)]
 
-ghost use Rattle.std.specs.Prelude.{◌≡◌, [], ◌∷◌, ◌<◌, length};
+ghost use Rattle.std.specs.Prelude.{◌≡◌, [], ◌∷◌, ◌<◌, ◌≤◌, length};
 ghost use Rattle.model.specs.Bytes.{put16, put32};
-ghost use Rattle.output.specs.Output.{Room, Put};
 
-// An output, and the place at which the next byte goes.
+// An output, and the place at which the next byte goes: it lies in the output, or at its end.
 #[derive(Drop)]
 pub struct Output<'a> {
     pub bytes: &'a mut [u8],
     pub at: usize,
+    pub ghost within: { at ≤ length bytes.now },
 }
 
 impl<'a> Output<'a> {
+    ghost use Rattle.output.specs.Output.{Room, Put};
+
     // These bytes, from their start on. Rules out: other memory; a place past the start.
     pub fn new(bytes: &'a mut [u8]) -> Output<'a>
         ensures same { result.bytes.ghost_name ≡ bytes.entry.ghost_name }
@@ -32,7 +35,8 @@ impl<'a> Output<'a> {
         self.at += 1;
     }
 
-    // A 16-bit number. Rules out: the high byte first; the byte after it touched.
+    // A 16-bit number; `put_32` is its twin, since one for both sizes would ask for a trait with `to_le_bytes`.
+    // Rules out: the high byte first; the byte after it touched.
     pub fn put_16(&mut self, n: usize)
         requires room { Room self.old 2 }
         requires n_bound { n < 65536 }

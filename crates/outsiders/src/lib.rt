@@ -103,7 +103,7 @@ pub fn offer_run<T: Entry>(g: &Graph, cs: usize, run: &[T], list: &mut ArrayVec<
 }
 
 // With the outsiders among the operands of a record with this opcode that are thunks, or among those that are none:
-// `thunks` says which, as in the definition (`operands`).
+// `thunks` says which, as in the definition (`operands`); a filter as a closure would bring its promise along.
 fn offer_operands(
     g: &Graph,
     cs: usize,

@@ -56,8 +56,8 @@ fn has_another(forest: &Forest, i: usize) -> bool
         }
 }
 
-// The first record whose parameter had another literal earlier. Rules out: the earlier of the two; nothing where the two
-// stand in different trees.
+// The first record whose parameter had another literal earlier. Rules out: the earlier of the two; nothing where the
+// two stand in different trees.
 #[tactic(auto, using(codec::proofs::Rows::searching))]
 pub fn two_values(forest: &Forest) -> Option<usize>
     ensures value { result ≡ two_values forest.now }

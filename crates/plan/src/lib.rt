@@ -22,17 +22,30 @@ pub enum Planned {
     Lambda(u32, u32),
 }
 
+// The kinds of a row, by its first word: numbers, since fixed memory holds no enum.
+const COPY: u32 = 0;
+
+const FIELD: u32 = 1;
+
+const VAL_USE: u32 = 2;
+
+const VAL_DEF: u32 = 3;
+
+const BLOCK: u32 = 4;
+
+const LAMBDA: u32 = 5;
+
 // A row's words: which kind it is, and its numbers.
 fn words_of(p: Planned) -> [u32; 3]
     ensures { result ≡ words_of p }
 {
     match p {
-        Planned::Copy(i) => [0, i, 0],
-        Planned::Field(f) => [1, f, 0],
-        Planned::ValUse(id) => [2, id, 0],
-        Planned::ValDef(id) => [3, id, 0],
-        Planned::Block(kids) => [4, kids, 0],
-        Planned::Lambda(i, last) => [5, i, last],
+        Planned::Copy(i) => [COPY, i, 0],
+        Planned::Field(f) => [FIELD, f, 0],
+        Planned::ValUse(id) => [VAL_USE, id, 0],
+        Planned::ValDef(id) => [VAL_DEF, id, 0],
+        Planned::Block(kids) => [BLOCK, kids, 0],
+        Planned::Lambda(i, last) => [LAMBDA, i, last],
     }
 }
 
@@ -56,11 +69,11 @@ pub fn load(words: &[u32], at: usize) -> Planned
 {
     let (a, b) = (words[at + 1], words[at + 2]);
     match words[at] {
-        0 => Planned::Copy(a),
-        1 => Planned::Field(a),
-        2 => Planned::ValUse(a),
-        3 => Planned::ValDef(a),
-        4 => Planned::Block(a),
+        COPY => Planned::Copy(a),
+        FIELD => Planned::Field(a),
+        VAL_USE => Planned::ValUse(a),
+        VAL_DEF => Planned::ValDef(a),
+        BLOCK => Planned::Block(a),
         _ => Planned::Lambda(a, b),
     }
 }

@@ -61,10 +61,9 @@ module _ (pl : List ℕ) (p : Plan) (row : Planned) (d : ℕ) where
     grew = λ bs w. record { is = grew_row bs pl p row d long w room pl' _ e refl f };
   }
 
-  pub put_full : p.rows ≡ 256 → RowPut pl p row d pl None
+  pub put_full : 256 ≤ p.rows → RowPut pl p row d pl None
   unfolding with_row one_more
-  put_full e =
-      let l : 256 ≤ p.rows = omega arith in
+  put_full l =
       record {
         words = rw (le-ltb p.rows 256 l, with_row);
         plan = rw (le-ltb p.rows 256 l, one_more);

@@ -36,10 +36,10 @@ pub struct Plan {
 // One row more, `above` levels below the root: the plan with it, or none where that has 256 rows.
 // Rules out: a row over the one before it; a row at the depth of its parent; a row stored past the 256th.
 pub fn put(plan: &mut [u32], p: Plan, above: usize, row: Planned) -> Option<Plan>
-    requires { (PLAN.size ≤ length plan.old) × (p.rows ≤ 256) × (above < 4294967296) }
+    requires { (PLAN.size ≤ length plan.old) × (above < 4294967296) }
     ensures { RowPut plan.old p row (above + 1) plan.new result }
 {
-    if p.rows == ROWS {
+    if ROWS <= p.rows {
         return None;
     }
     plan::store(plan, 3 * p.rows, row);
@@ -145,6 +145,7 @@ impl<'a> Source<'a> {
         ensures { (result ≤ 512) × Members self.now ids.now sc order.now result }
     {
         let mut k = 0;
+        // counted by hand: `filter(..).count()` gives a usize, which a row would have to cast
         for &s in order {
             if self.member(usize::from(s), sc, ids) {
                 k += 1;

@@ -1,8 +1,8 @@
 // Records by number (codec.rs). In order: a forest; numbers; the header; a constant's class and mark; what a forest
 // says: its counts, where a record starts, its fields, its size, its literal, as a part of the forest.
-// That a record is there (`i < record_count`) stays a clause, here and above: a struct of a forest and a number would be
-// made at each step of a walk, and a clause would reach both through it.
-// `shape`, `opcode` and `aux` stay three: one function of an offset would promise a field by cases of a number.
+// That a record is there (`i < record_count`) stays a clause, here and above: a struct of a forest and a number would
+// be made at each step of a walk, and a clause would reach both through it. `shape`, `opcode` and `aux` stay three: one
+// function of an offset would promise a field by cases of a number.
 #![tactic(auto)]
 
 ghost use Rattle.std.specs.Prelude.{◌≡◌, ◌+◌, ◌<◌, ◌≤◌, length, drop};

@@ -35,7 +35,8 @@ pub enum Check {
 }
 
 impl Check {
-    // Its number outside. Rules out: numbers from 0 on; one number for two checks.
+    // Its number outside: a method, and no `From`, so that a reader sees at the edge which number is meant. Rules out:
+    // numbers from 0 on; one number for two checks.
     pub fn number(self) -> u32
         ensures { result ≡ number_of self }
     {

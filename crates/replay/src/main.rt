@@ -27,7 +27,7 @@ const WORD: u32 = 2779096485;
 // The words that a call uses.
 const USED: usize = 16384;
 
-// The five numbers of an answer.
+// The five numbers of an answer, as a row's format has them, a refusal's number among them.
 #[derive(Clone, Copy, PartialEq, Eq)]
 struct Numbers {
     number: u32,

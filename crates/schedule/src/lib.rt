@@ -1,10 +1,10 @@
 // The order of a scope's symbols (materialize.rs): `free_vars`, `body_schedule`, `neighbours`, `schedule_order`.
-// In order: the scope of an order; what a scheduler (scheduler.rt) does: tests of a symbol; the neighbours of a symbol; a
-// symbol after its neighbours; the cycle of free lists, body order and neighbours. Then a scope's schedule.
-// A body's order (`body_schedule`) is walked for its outsiders alone: where a schedule lists the symbol that was
-// visited, it lists the outsiders that the symbol needs.
-// What nests: `visit` and `run` once a symbol, with no array. `across` (1 KB) and `free` (0.5 KB) open arrays: they are
-// called only for a symbol in a deeper scope whose free list is not stored.
+// In order: the scope of an order; what a scheduler (scheduler.rt) does: tests of a symbol; the neighbours of a symbol;
+// a symbol after its neighbours; the cycle of free lists, body order and neighbours. Then a scope's schedule. A body's
+// order (`body_schedule`) is walked for its outsiders alone: where a schedule lists the symbol that was visited, it
+// lists the outsiders that the symbol needs. What nests: `visit` and `run` once a symbol, with no array. `across` (1
+// KB) and `free` (0.5 KB) open arrays: they are called only for a symbol in a deeper scope whose free list is not
+// stored.
 #![tactic(auto)]
 
 mod scheduler;
@@ -100,7 +100,8 @@ impl<'a> Scheduler<'a> {
     }
 
     // Symbol s after those visited, its neighbours among them.
-    // `seen` and `list` stay parameters: what holds of the two names the scheduler too, so a struct of them says no more.
+    // `seen` and `list` stay parameters: what holds of the two names the scheduler too, so a struct of them says no
+    // more.
     fn put<T: Entry>(
         &self,
         s: usize,

@@ -5,7 +5,8 @@ ghost use Rattle.free_lists.specs.FreeLists.{Stocked};
 use graph::Graph;
 use record::Forest;
 
-// The order of a body in a scope, or the schedule of a scope.
+// The order of a body in a scope, or the schedule of a scope: an enum, since contracts name the order, where closures
+// would bring promises of their own into each function of the cycle.
 #[derive(Clone, Copy)]
 pub enum Order {
     Body(usize),

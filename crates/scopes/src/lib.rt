@@ -1,6 +1,7 @@
 // Scopes in work words: opening one, its parts, where a new symbol is placed, where a scope lies seen from another.
-// levels.rt has sets of nesting levels. A climb from scope to scope is a `while`: no range or list holds its steps.
-// That a scope's word is there, and its level below 63, stay clauses: they tie a number to words.
+// levels.rt has sets of nesting levels. A climb from scope to scope is a `while`: no range or list holds its
+// steps, and `iter::successors` would put step and test into closures and the end into an `Option`, which is no
+// plainer. That a scope's word is there, and its level below 63, stay clauses: they tie a number to words.
 #![tactic(auto)]
 
 pub mod levels;
@@ -23,7 +24,8 @@ pub enum Rel {
 
 // ---- opening scopes
 
-// The parts of a scope in one word, for a thunk and for a lambda.
+// The parts of a scope in one word, for a thunk and for a lambda: `code` is 0 for a thunk, else how many arguments and
+// 1 more, since fixed memory holds no enum.
 fn packed(parent: u32, first: u32, code: u32, level: u32) -> u32
     requires parent_bound { parent < 4096 }
     requires first_bound { first < 512 }

@@ -91,6 +91,6 @@ module _ (lit : List ℕ) (n last : ℕ) (o₀ : Output) where
 
     pub lit_end : xs ≡ [] → Put o₀ (arg_lit last (args_of n lit)) o
     unfolding arg_lit
-    lit_end e = w.rest o (put_as (sym (ap (arg_lit id) e)) (put_none o (omega (arith, w.room))))
+    lit_end e = w.rest o (put_as (sym (ap (arg_lit id) e)) (put_none o))
 
 pub ruleset writing = (all_stand, lit_start, lit_id, lit_room, lit_turn, lit_end)

@@ -146,7 +146,7 @@ module _ (bs ws : List ℕ) (at n : ℕ) (o₀ : Output) where
     pub bodies_end : n ≤ i → Put o₀ (bodies (planned_rows bs ws at n)) o
     unfolding bodies
     bodies_end h =
-        b.rest o (put_as (sym (ap bodies (rows_none bs ws at n i h))) (put_none o (omega (arith, b.room))))
+        b.rest o (put_as (sym (ap bodies (rows_none bs ws at n i h))) (put_none o))
 
 -- ---- the directory
 
@@ -188,7 +188,7 @@ module _ (bs ws : List ℕ) (at n : ℕ) (o₀ : Output) where
     pub pairs_end : n ≤ i → Put o₀ (directory (4 + 4 * n) (planned_rows bs ws at n)) o
     unfolding directory
     pairs_end h =
-        d.rest o (put_as (sym (ap (directory offset) (rows_none bs ws at n i h))) (put_none o (omega (arith, d.room))))
+        d.rest o (put_as (sym (ap (directory offset) (rows_none bs ws at n i h))) (put_none o))
 
 -- ---- the whole tree
 

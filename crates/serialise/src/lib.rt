@@ -1,7 +1,7 @@
 // A planned tree as bytes. In order: a lambda's arguments; one row, and its length; the tree's length; its directory,
 // its records, and the whole, front to back.
 // Planned rows are told by their first word and their number, as `plan_from` has them; that they are there and can be
-// written stays a clause, since a slice of them would need both again to be read as a plan.
+// written stays a clause, since only both together say what of the words is a plan.
 #![tactic(auto)]
 
 ghost use Rattle.std.specs.Prelude.{◌≡◌, true, ◌+◌, ◌*◌, ◌<◌, ◌≤◌, length};

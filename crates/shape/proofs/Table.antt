@@ -45,9 +45,13 @@ module _ (k : ℕ) {s : ℕ} (kids a : ℕ) (lit : List ℕ) {w : Bool} (e : s �
 
 -- ---- a number that is no shape's
 
+no_shape_lem : (s : ℕ) → 26 < s → shape_at s ≡ no_shape
+unfolding shapes
+no_shape_lem s h = get_or-eq_default shapes no_shape h
+
 pub fits_none : (s kids a : ℕ) (lit : List ℕ) → 26 < s → Answers false s kids a lit
-unfolding fits shapes
-fits_none s kids a lit h op = rw (get_or-eq_default shapes no_shape h, and-false)
+unfolding fits
+fits_none s kids a lit h op = rw (no_shape_lem s h, and-false)
 
 -- what each answer of the code comes under
 pub ruleset rows = (fits_in, fits_out, fits_any, fits_none)

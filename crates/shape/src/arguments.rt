@@ -1,6 +1,7 @@
 // Ids, and the arguments that the literal of a lambda holds, one by one.
 // In order: an id; an argument, and what is left after it; an iterator of arguments.
-// That a literal is n arguments (`AllArgs`) stays a clause of those who walk one: its count is the record's aux.
+// That a literal is n arguments (`AllArgs`) stays a clause of those who walk one: they need its bytes or its count
+// beside the arguments.
 ghost use Rattle.std.specs.Prelude.{◌≡◌, ◌≤◌, length, drop, take, option_map, None};
 ghost use Rattle.model.specs.Bytes.{u32};
 ghost use Rattle.model.specs.Shape.{a_arg, times};

@@ -1,6 +1,6 @@
 // The parts of a literal, read from its front: each gives what is left after it, or None if it does not stand there.
-// In order: a byte, an id, a type, an opt; an argument; parts of one kind: arguments, types; a byte and a type; a method
-// call's parts; whether a part is the whole literal; bits.
+// In order: a byte, an id, a type, an opt; an argument; parts of one kind: arguments, types; a byte and a type; a
+// method call's parts; whether a part is the whole literal; bits.
 ghost use Rattle.std.specs.Prelude.{◌≡◌, ℕ, List, option_copied};
 ghost use Rattle.model.specs.Shape.{Reader, whole, a_byte, a_id, a_type, a_opt, a_arg, ◌then◌, times, a_counted, bits};
 ghost use Rattle.shape.specs.Reading.{TakesOff};

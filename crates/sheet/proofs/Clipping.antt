@@ -18,22 +18,16 @@ use Rattle.std.proofs.lemmas.Slice.{put_mid-paste}
 use Rattle.model.specs.Lister.{hex_byte}
 use Rattle.model.specs.Sheet.{hex_bytes}
 use Rattle.output.specs.declared.Output.{Output}
-use Rattle.output.specs.Output.{over, Wrote, Room}
+use Rattle.output.specs.Output.{over, Wrote}
 use Rattle.output.proofs.Over.{over_front, paste_over}
 use Rattle.output.proofs.Put.{put_none, put_part, put_as, put_then, put_wrote}
 use Rattle.output.proofs.Wrote.{wrote_as}
 use Rattle.sheet.specs.Clip.{Clipped, PutClipped}
 
-pub clipped_none : (o : Output) → Room o 0 → PutClipped o [] o
-clipped_none o h = record {
-  is = put_as (sym (take-nil (length o.bytes.now - o.at))) (put_none o (omega (arith, h)));
-}
+pub clipped_none : (o : Output) → PutClipped o [] o
+clipped_none o = record { is = put_as (sym (take-nil (length o.bytes.now - o.at))) (put_none o) }
 
 module _ {o o' : Output} {s : List ℕ} (v : PutClipped o s o') where
-  -- the next text may follow
-  pub clipped_room : Room o' 0
-  clipped_room = omega (arith, v.is.fits)
-
   -- the same text
   pub clipped_as : {t : List ℕ} → s ≡ t → PutClipped o t o'
   clipped_as {t} e = subst (λ (z : List ℕ). PutClipped o z o') e v
@@ -83,10 +77,11 @@ some_of x n k room e =
     let f : min room (length (replicate n x)) ≡ k = omega (arith, length-replicate n x) in
     sym (take_min room (replicate n x)) ∙ rw f (take-replicate k n x (omega arith))
 
-pub spaces_put : {o o' : Output} (n k : ℕ) (s : List ℕ) → Room o 0 → k ≡ min n (length o.bytes.now - o.at) →
+pub spaces_put : {o o' : Output} (n k : ℕ) (s : List ℕ) → k ≡ min n (length o.bytes.now - o.at) →
     s ≡ replicate k 32 → o'.bytes.ghost_name ≡ o.bytes.ghost_name → o'.at ≡ o.at + k →
     o'.bytes.now ≡ put_mid o.at (o.at + k - o.at) o.bytes.now s → PutClipped o (replicate n 32) o'
-spaces_put {o} {o'} n k s h e f same ends holds =
+spaces_put {o} {o'} n k s e f same ends holds =
+    let h = o.within in
     let t : List ℕ = replicate k 32 in
     let l : length t ≡ k = length-replicate k 32 in
     let w : o'.bytes.now ≡ over o.bytes.now o.at t =
@@ -107,9 +102,9 @@ hex_one : (b : ℕ) → hex_bytes (b ∷ []) ≡ hex_byte b
 unfolding hex_bytes
 hex_one b = append-nil (hex_byte b)
 
-pub hex_start : (o : Output) → Room o 0 → PutClipped o (hex_bytes []) o
+pub hex_start : (o : Output) → PutClipped o (hex_bytes []) o
 unfolding hex_bytes
-hex_start o h = clipped_none o h
+hex_start o = clipped_none o
 
 pub hex_turn : (s : List ℕ) (m : ℕ) {o o₁ o₂ : Output} → m < length s → PutClipped o (hex_bytes (take m s)) o₁ →
     PutClipped o₁ (hex_byte (get_or s m 0)) o₂ → PutClipped o (hex_bytes (take (m + 1) s)) o₂

@@ -14,7 +14,6 @@ use Rattle.walk.specs.Walk.{trees_from, rec_at, kid_trees_at, rest_at, tree_at, 
 use Rattle.walk.proofs.Bridge.{trees_at, trees_left}
 use Rattle.walk.proofs.Walking.{trees-whole}
 use Rattle.output.specs.declared.Output.{Output}
-use Rattle.output.specs.Output.{Room}
 use Rattle.sheet.specs.Clip.{PutClipped}
 use Rattle.sheet.specs.Shown.{Shown}
 use Rattle.sheet.proofs.Clipping.{clipped_none, clipped_then, clipped_as}
@@ -26,10 +25,10 @@ record_there bs i l some = trees_left bs i (omega arith)
 module _ (bs : List ℕ) (i depth count : ℕ) where
   -- ---- no trees
 
-  pub shown_none : (o : Output) (r : ℕ) → i ≡ r → count ≡ 0 → Room o 0 → Shown bs i depth count o o r
+  pub shown_none : (o : Output) (r : ℕ) → i ≡ r → count ≡ 0 → Shown bs i depth count o o r
   unfolding take_t drop_t sizes trees_lines
-  shown_none o r e z h = record {
-    lines = rw z (clipped_none o h);
+  shown_none o r e z = record {
+    lines = rw z (clipped_none o);
     next = rw z (omega (arith, e));
     rest = rw (z, e);
   }

@@ -24,7 +24,6 @@ ghost use Rattle.model.specs.Sheet.{id_texts, args_text, mark_text, const_text, 
 ghost use Rattle.shape.specs.Reading.{AllArgs};
 ghost use Rattle.walk.specs.Words.{arg_ids_at};
 ghost use Rattle.walk.specs.Walk.{trees_from, rec_at};
-ghost use Rattle.output.specs.Output.{Room};
 ghost use Rattle.sheet.specs.Clip.{Clipped, PutClipped};
 ghost use Rattle.sheet.specs.Shown.{Fits, Shown};
 
@@ -49,7 +48,7 @@ fn pad(i: usize) -> usize
 
 // Record i's number, and the spaces of its depth.
 fn put_place(out: &mut Output, i: usize, depth: usize)
-    requires { (Room out.old 0) × (depth ≤ 257) }
+    requires { depth ≤ 257 }
     ensures { PutClipped out.old (place_text i depth) out.new }
 {
     put_spaces(out, pad(i));
@@ -62,8 +61,7 @@ fn put_place(out: &mut Output, i: usize, depth: usize)
 // The ids of a lambda's n arguments.
 #[tactic(auto, using(shape::proofs::Reading::all_stand))]
 fn put_ids(out: &mut Output, lit: &[u8], n: u8)
-    requires room { Room out.old 0 }
-    requires all { AllArgs n lit.now }
+    requires { AllArgs n lit.now }
     ensures { PutClipped out.old (id_texts (arg_ids_at n lit.now)) out.new }
 {
     for arg in Args::new(lit, n) {
@@ -74,8 +72,7 @@ fn put_ids(out: &mut Output, lit: &[u8], n: u8)
 
 // The ids of a lambda's n arguments, if it has any.
 fn put_args(out: &mut Output, lit: &[u8], n: u8)
-    requires room { Room out.old 0 }
-    requires all { AllArgs n lit.now }
+    requires { AllArgs n lit.now }
     ensures { PutClipped out.old (args_text (arg_ids_at n lit.now)) out.new }
 {
     if n == 0 {
@@ -87,7 +84,7 @@ fn put_args(out: &mut Output, lit: &[u8], n: u8)
 
 // The id of a use or a definition.
 fn put_id(out: &mut Output, lit: &[u8])
-    requires { (Room out.old 0) × (4 ≤ length lit.now) }
+    requires { 4 ≤ length lit.now }
     ensures { PutClipped out.old (text "  id " ++ numeral (u32 lit.now)) out.new }
 {
     put_text(out, b"  id ");
@@ -96,7 +93,7 @@ fn put_id(out: &mut Output, lit: &[u8])
 
 // The field that a selection selects.
 fn put_field(out: &mut Output, lit: &[u8])
-    requires { (Room out.old 0) × (1 ≤ length lit.now) }
+    requires { 1 ≤ length lit.now }
     ensures { PutClipped out.old (text "  field " ++ numeral (get_or lit.now 0 0)) out.new }
 {
     put_text(out, b"  field ");
@@ -105,7 +102,6 @@ fn put_field(out: &mut Output, lit: &[u8])
 
 // A mark, if it is not 0.
 fn put_mark(out: &mut Output, mark: u8)
-    requires { Room out.old 0 }
     ensures { PutClipped out.old (mark_text mark) out.new }
 {
     if mark == 0 {
@@ -117,7 +113,6 @@ fn put_mark(out: &mut Output, mark: u8)
 
 // The class and the mark of a constant.
 fn put_const(out: &mut Output, aux: u8)
-    requires { Room out.old 0 }
     ensures { PutClipped out.old (const_text aux) out.new }
 {
     put_class(out, record::class(aux));
@@ -126,8 +121,7 @@ fn put_const(out: &mut Output, aux: u8)
 
 // What a record of a shape has beside its literal.
 fn put_own(out: &mut Output, shape: u8, aux: u8, lit: &[u8])
-    requires room { Room out.old 0 }
-    requires fits { Fits shape aux lit.now }
+    requires { Fits shape aux lit.now }
     ensures { (op : ℕ) → PutClipped out.old (own_text (rec shape op aux lit.now)) out.new }
 {
     match shape {
@@ -141,7 +135,6 @@ fn put_own(out: &mut Output, shape: u8, aux: u8, lit: &[u8])
 
 // A literal in hex, if it is not empty.
 fn put_literal(out: &mut Output, lit: &[u8])
-    requires { Room out.old 0 }
     ensures { PutClipped out.old (literal_text lit.now) out.new }
 {
     if lit.is_empty() {
@@ -155,7 +148,6 @@ fn put_literal(out: &mut Output, lit: &[u8])
 
 // Record i's line.
 fn put_line(out: &mut Output, forest: &Formed, i: usize, depth: usize)
-    requires room { Room out.old 0 }
     requires depth_bound { depth ≤ 257 }
     requires i_bound { i < record_count forest.now.laid }
     ensures { PutClipped out.old (record_line i depth (rec_at forest.now.laid i)) out.new }
@@ -175,7 +167,6 @@ fn put_line(out: &mut Output, forest: &Formed, i: usize, depth: usize)
 // The lines of `count` trees, from record `first` on: a record is followed by its children's subtrees, in order.
 // The answer is the record after them.
 fn put_trees(forest: &Formed, out: &mut Output, first: usize, count: usize, depth: usize) -> usize
-    requires room { Room out.old 0 }
     requires count_bound { count ≤ many (trees_from forest.now.laid first) }
     requires depth_bound { depth ≤ first + 1 }
     ensures { Shown forest.now.laid first depth count out.old out.new result }

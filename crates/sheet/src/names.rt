@@ -1,9 +1,8 @@
 // Names, as model's `Sheet` has them, each behind what sets it off; put as far as there is room.
-// In order: the names of shapes, classes and opcodes; each put.
+// In order: the names of shapes, classes and opcodes; each put. By bare numbers, as model's tables list them.
 ghost use Rattle.std.specs.Prelude.{◌≡◌, []};
 ghost use Rattle.model.specs.Text.{text};
 ghost use Rattle.model.specs.Sheet.{named, shape_names, class_names, opcode_names, opcode_text};
-ghost use Rattle.output.specs.Output.{Room};
 ghost use Rattle.sheet.specs.Clip.{PutClipped};
 
 use crate::clip::{put, put_hex, put_text};
@@ -107,7 +106,6 @@ fn opcode_name(opcode: u8) -> &'static [u8]
 
 // A shape's name. Rules out: another shape's; a name for a shape over 26.
 pub fn put_shape(out: &mut Output, shape: u8)
-    requires { Room out.old 0 }
     ensures { PutClipped out.old (named [] shape_names shape) out.new }
 {
     put_text(out, shape_name(shape));
@@ -115,7 +113,6 @@ pub fn put_shape(out: &mut Output, shape: u8)
 
 // A constant's class. Rules out: another class; a name for a class over 6.
 pub fn put_class(out: &mut Output, class: u8)
-    requires { Room out.old 0 }
     ensures { PutClipped out.old (named (text "  ") class_names class) out.new }
 {
     put_text(out, class_name(class));
@@ -123,7 +120,6 @@ pub fn put_class(out: &mut Output, class: u8)
 
 // An opcode in hex, and its name. Rules out: another opcode's name; the name before the number.
 pub fn put_opcode(out: &mut Output, opcode: u8)
-    requires { Room out.old 0 }
     ensures { PutClipped out.old (opcode_text opcode) out.new }
 {
     put(out, b' ');

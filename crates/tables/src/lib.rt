@@ -1,8 +1,8 @@
-// The stack of open tables (interner.rs), and the search through it. Entry k of the tables is word k of ENTRIES: a symbol,
-// and above it a hint of its key, so that most entries are passed over by one comparison.
-// In order: the stack; one entry more; hints; keys compared; the search.
-// A symbol's children so far are told by place and count, here and in interning, and no slice: the words that hold them
-// are lent `&mut` beside them. `Open` stays a clause: it ties the stack to a count of entries, which grows.
+// The stack of open tables (interner.rs), and the search through it. Entry k of the tables is word k of ENTRIES: a
+// symbol, and above it a hint of its key, so that most entries are passed over by one comparison. In order: the stack;
+// one entry more; hints; keys compared; the search. A symbol's children so far are told by place and count, here and in
+// interning, and no slice: the words that hold them are lent `&mut` beside them. `Open` stays a clause: it ties the
+// stack to a count of entries, which grows.
 #![tactic(auto)]
 
 ghost use Rattle.std.specs.Prelude.{◌≡◌, ℕ, ◌+◌, ◌*◌, ◌<◌, ◌≤◌, length, get_or, set};
@@ -20,8 +20,8 @@ use record::Forest;
 use std::marker::Model;
 
 // Where each open table's entries start, the oldest first; the newest table ends where the entries do. In contracts it
-// is the list of these starts. A thunk's stack is a copy with one more, and `Tables` is `Copy`, which `ArrayVec` is not; so
-// the starts that are not in use are 0, and the list says what the array holds.
+// is the list of these starts. A thunk's stack is a copy with one more, and `Tables` is `Copy`, which `ArrayVec` is
+// not; so the starts that are not in use are 0, and the list says what the array holds.
 #[derive(Clone, Copy)]
 pub struct Tables {
     starts: [u16; 64],
@@ -157,6 +157,7 @@ pub fn find(
     'tables: {
         for d in (0..t.depth).rev() {
             let start = usize::from(starts[d]);
+            // by index, as the loop around: between two ends that move from table to table
             for k in (start..end).rev() {
                 // under the hint of the key what is left is the symbol, else 512 or more: one comparison an entry
                 let s = work[regions::ENTRIES + k].wrapping_sub(first);

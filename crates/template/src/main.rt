@@ -1,9 +1,8 @@
 // Reads a forest from standard input and prints one line of it: how many definitions its tree has and how many
-// parameters the forest, or a mark with two values, or the refusal. Of a forest over 65,535 bytes 65,536 are read: it is
-// refused for its length. A read or a write that fails ends the program with its error.
-// The line's room stays a clause, as `text::put_line` asks it.
-// In order: the line of a mark with two values; that of a template; which of them; any forest; the program, over any
-// input and output.
+// parameters the forest, or a mark with two values, or the refusal. Of a forest over 65,535 bytes 65,536 are read: it
+// is refused for its length. A read or a write that fails ends the program with its error. The line's room stays a
+// clause: an array would ask for just so many bytes. In order: the line of a mark with two values; that of a template;
+// which of them; any forest; the program, over any input and output.
 #![tactic(auto)]
 
 ghost use Rattle.std.specs.Prelude.{◌≡◌, ◌<◌, ◌≤◌, length, take, OnOk, IfSome};
@@ -70,10 +69,9 @@ fn put_verdict(forest: &Forest, tree: &Forest, line: &mut [u8]) -> usize
     }
 }
 
-// The line of any forest, over the start of `line`; the answer is its length. The call's refusal comes first. Output and
-// words are as the call leaves them. Where the line says that the forest is a template, the clause holds of every
-// filling.
-// Rules out: two values where the call refuses; definitions of the forest instead of the written tree's.
+// The line of any forest, over the start of `line`; the answer is its length. The call's refusal comes first. Output
+// and words are as the call leaves them. Where the line says that the forest is a template, the clause holds of every
+// filling. Rules out: two values where the call refuses; definitions of the forest instead of the written tree's.
 #[tactic(auto, using(theory::proofs::Templates::Line::line_says))]
 fn judged(forest: &[u8], out: &mut [u8], work: &mut [u32], line: &mut [u8]) -> usize
     requires { (length out.old ≡ 65535) × (length work.old ≡ 16384) × (80 ≤ length line.old) }

@@ -1,5 +1,6 @@
 // Text written over an output, from its place on; the rest of the output is as it was.
-// In order: two bytes; a number in decimal; a byte in hexadecimal; lines with two numbers, that of a refusal among them.
+// In order: two bytes; a number in decimal; a byte in hexadecimal; lines with two numbers, that of a refusal among
+// them.
 #![tactic(auto)]
 
 ghost use Rattle.std.specs.Prelude.{◌≡◌, [], ◌∷◌, ◌++◌, ◌+◌, ◌<◌, ◌≤◌, length};
@@ -87,7 +88,8 @@ pub fn put_line(
 // The length of a refusal's longest line: its two numbers have twenty digits each.
 pub const LINE: usize = 53;
 
-// The line of a refusal, over the output's start; the answer is its length. No `impl Display` of a refusal: std promises
+// The line of a refusal, over the output's start; the answer is its length. Of any two numbers, since a `Refusal` would
+// ask more of callers. No `impl Display` of a refusal: std promises
 // the text of `write!` only where a `String` takes it, which needs a heap.
 // Rules out: the place before the number; the newline left out.
 #[tactic(auto, unfolding(model::specs::Lister::refusal, model::specs::Text::text))]

@@ -167,7 +167,8 @@ fn offends_any(forest: &Formed, work: &[u32], i: usize, at: Context, end: usize)
         || unbound(forest, work, i, at.top)
 }
 
-// Whether record i fails a test. Rules out: depth 64 for 7; a definition that is in force in its own value.
+// Whether record i fails a test. An enum, since contracts name the test (`test_at`): a closure would bring a promise of
+// its own into each function of the walk. Rules out: depth 64 for 7; a definition that is in force in its own value.
 fn offends(forest: &Formed, work: &[u32], test: Test, i: usize, at: Context, end: usize) -> bool
     requires i_bound { (i < record_count forest.now.laid) × (at.top ≤ end) × (end ≤ length work.now) }
     requires end_value { ids_of work.now end ≡ inside (rec_at forest.now.laid i) ++ ids_of work.now at.top }

@@ -1,5 +1,5 @@
-// Records written over an output, from its place on: a record's fixed bytes, a record of the forest, and the records that
-// a plan makes. The rest of the output is as it was.
+// Records written over an output, from its place on: a record's fixed bytes, a record of the forest, and the records
+// that a plan makes. The rest of the output is as it was.
 #![tactic(auto)]
 
 ghost use Rattle.std.specs.Prelude.{[], ◌<◌};

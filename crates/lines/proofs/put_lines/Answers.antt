@@ -5,7 +5,7 @@ use Rattle.lines.proofs.put_lines.Goals as goal
 
 pub loop-s-init : goal.loop-s-init
 loop-s-init c =
-    lines_start _ _ _ (omega (arith, c.requires.room))
+    lines_start _ _ _
 
 pub put_line-requires : goal.put_line-requires
 put_line-requires c =

@@ -3,9 +3,9 @@ use native.Mathlib.Omega.{arith}
 use Rattle.planner.proofs.Growing.{put_stored, put_full}
 use Rattle.planner.proofs.put.Goals as goal
 
-pub returns-then-p-eq-ROWS : goal.returns-then-p-eq-ROWS
-returns-then-p-eq-ROWS c =
-    put_full _ _ _ _ c.if-p-eq-ROWS.true
+pub returns-then-p-ge-ROWS : goal.returns-then-p-ge-ROWS
+returns-then-p-ge-ROWS c =
+    put_full _ _ _ _ (omega arith)
 
 pub returns : goal.returns
 returns c =

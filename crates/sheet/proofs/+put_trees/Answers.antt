@@ -3,7 +3,6 @@ use Prim.Native.Nat.{◌+◌, ◌-◌}
 use mathlib.Core.Path.{◌≡◌, refl}
 use native.Mathlib.Omega.{arith}
 use Rattle.walk.proofs.Bridge.{kids_there, records_few}
-use Rattle.sheet.proofs.Clipping.{clipped_room}
 use Rattle.sheet.proofs.Trees.{shown_none, record_there, onward, left_there, shown_more}
 use Rattle.sheet.proofs.+put_trees.Goals as goal
 
@@ -11,14 +10,13 @@ pub loop-init : goal.loop-init
 loop-init t c =
     let e : c.args.count - 0 ≡ c.args.count = omega arith in
     let b = c.requires in
-    record { room = b.room; onward = omega arith; left = omega (arith, b.count_bound); rest = λ o' r v. rw e at v }
+    record { onward = omega arith; left = omega (arith, b.count_bound); rest = λ o' r v. rw e at v }
 
 pub put_line-requires : goal.put_line-requires
 put_line-requires t c =
     let i = c.loop.invariant in
     let there = record_there _ _ i.left (λ z. omega arith) in
     record {
-      room = i.room;
       depth_bound =
           omega (arith, c.requires.depth_bound, i.onward, there, records_few _ c.args.forest.now.formed);
       i_bound = there;
@@ -51,10 +49,7 @@ put_trees-i-requires t c =
     let few = records_few _ c.args.forest.now.formed in
     let kids = kids_there c.args.forest.now.laid c.loop.i c.args.forest.now.formed.closed there in (
       omega (arith, c.decreases, i.onward, there, few),
-      (
-        clipped_room c.put_line.ensures,
-        (omega (arith, c.kids.ensures.0, kids), omega (arith, c.requires.depth_bound, i.onward)),
-      ),
+      (omega (arith, c.kids.ensures.0, kids), omega (arith, c.requires.depth_bound, i.onward)),
     )
 
 pub loop-preserved : goal.loop-preserved
@@ -66,7 +61,6 @@ loop-preserved t c =
     let line = c.put_line.ensures in
     let shown = c.put_trees-i.ensures in
     record {
-      room = clipped_room shown.lines;
       onward = omega (arith, i.onward, onward _ _ _ _ i.left some _ c.kids.ensures.0 line shown);
       left = rw e (left_there _ _ _ _ i.left some _ c.kids.ensures.0 line shown);
       rest = λ o' r v.
@@ -75,4 +69,4 @@ loop-preserved t c =
 
 pub returns : goal.returns
 returns t c =
-    c.loop.invariant.rest _ _ (shown_none _ _ _ _ _ _ refl (omega arith) c.loop.invariant.room)
+    c.loop.invariant.rest _ _ (shown_none _ _ _ _ _ _ refl (omega arith))

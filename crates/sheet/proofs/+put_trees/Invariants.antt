@@ -3,14 +3,12 @@ use Prim.Native.Nat.{ℕ, ◌-◌, ◌≤◌}
 use Rattle.model.specs.Tree.{many}
 use Rattle.walk.specs.Walk.{trees_from}
 use Rattle.output.specs.declared.Output.{Output}
-use Rattle.output.specs.Output.{Room}
 use Rattle.sheet.specs.Shown.{Shown}
 use Rattle.sheet.proofs.+put_trees.Given as goal
 
 -- the trees that are left are there, and what shows them has shown all
 abbrev pub invariant-loop : goal.invariant-loop
 invariant-loop l = record {
-  room : Room l.out 0;
   onward : l.first ≤ l.i;
   left : l.count - l.counter ≤ many (trees_from l.forest.laid l.i);
   rest : (o' : Output) (r : ℕ) → Shown l.forest.laid l.i l.depth (l.count - l.counter) l.out o' r →

@@ -6,7 +6,7 @@ use Rattle.sheet.proofs.put_args.Goals as goal
 
 pub returns-then-n-eq0 : goal.returns-then-n-eq0
 returns-then-n-eq0 c =
-    clipped_as (clipped_none _ c.requires.room) (args_none_text _ _ c.if-n-eq0.true)
+    clipped_as (clipped_none _) (args_none_text _ _ c.if-n-eq0.true)
 
 pub returns : goal.returns
 unfolding text

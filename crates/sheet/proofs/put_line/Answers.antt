@@ -1,21 +1,12 @@
 -- `sheet::put_line` meets its contract. Assumes nothing.
 use Rattle.walk.specs.Walk.{rec_at}
-use Rattle.sheet.proofs.Clipping.{clipped_room}
 use Rattle.sheet.proofs.Lines.{fits_at, line_parts}
 use Rattle.sheet.proofs.put_line.Goals as goal
 
 pub put_own-requires : goal.put_own-requires
 put_own-requires c =
-    record {
-      room = clipped_room c.put_opcode.ensures;
-      fits =
-          fits_at c.args.forest.now.laid c.args.i c.args.forest.now.formed c.requires.i_bound c.shape-shape.ensures
-          c.aux.ensures (rw c.bytes.ensures.bytes at c.literal_at-lit.ensures);
-    }
-
-pub put_literal-requires : goal.put_literal-requires
-put_literal-requires c =
-    clipped_room (c.put_own.ensures 0)
+    fits_at c.args.forest.now.laid c.args.i c.args.forest.now.formed c.requires.i_bound c.shape-shape.ensures
+    c.aux.ensures (rw c.bytes.ensures.bytes at c.literal_at-lit.ensures)
 
 pub returns : goal.returns
 returns c =

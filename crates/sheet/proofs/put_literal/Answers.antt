@@ -7,7 +7,7 @@ use Rattle.sheet.proofs.put_literal.Goals as goal
 
 pub returns-then-is_empty : goal.returns-then-is_empty
 returns-then-is_empty c =
-    clipped_as (clipped_none _ c.requires) (literal_none c.args.lit.now (search rules))
+    clipped_as (clipped_none _) (literal_none c.args.lit.now (search rules))
 
 pub returns : goal.returns
 unfolding text

@@ -8,7 +8,7 @@ use Rattle.sheet.proofs.put_mark.Goals as goal
 
 pub returns-then-mark-eq0 : goal.returns-then-mark-eq0
 returns-then-mark-eq0 c =
-    clipped_as (clipped_none _ c.requires) (mark_none _ c.if-mark-eq0.true)
+    clipped_as (clipped_none _) (mark_none _ c.if-mark-eq0.true)
 
 pub returns : goal.returns
 unfolding text

@@ -8,18 +8,16 @@ use Rattle.sheet.proofs.Lines.{own_const, own_use, own_def, own_args, own_field,
 use Rattle.sheet.proofs.put_own.Goals as goal
 
 pub put_id-requires : goal.put_id-requires
-put_id-requires c = (
-  c.requires.room,
-  ⊎_elim (λ e. omega (arith, fits_use _ c.requires.fits.is e)) (λ e. (fits_def _ c.requires.fits.is e).1) c.in-7.is,
-)
+put_id-requires c =
+    ⊎_elim (λ e. omega (arith, fits_use _ c.requires.is e)) (λ e. (fits_def _ c.requires.is e).1) c.in-7.is
 
 pub put_args-requires : goal.put_args-requires
 put_args-requires c =
-    record { room = c.requires.room; all = (fits_func _ c.requires.fits.is c.in-12.is).2 }
+    (fits_func _ c.requires.is c.in-12.is).2
 
 pub put_field-requires : goal.put_field-requires
 put_field-requires c =
-    (c.requires.room, omega (arith, (fits_field _ c.requires.fits.is c.in-17.is).1))
+    omega (arith, (fits_field _ c.requires.is c.in-17.is).1)
 
 pub returns-in-0 : goal.returns-in-0
 returns-in-0 c op =
@@ -39,5 +37,5 @@ returns-in-17 c op =
 
 pub returns-in_default : goal.returns-in_default
 returns-in_default c op =
-    clipped_as (clipped_none _ c.requires.room)
+    clipped_as (clipped_none _)
     (own_none _ op _ _ (λ e. omega arith) (λ e. search rules) (λ e. search rules) (λ e. omega arith) (λ e. omega arith))

@@ -10,9 +10,7 @@ pub put_trees-requires : goal.put_trees-requires
 put_trees-requires c =
     let f = c.args.forest.now in
     let n = c.tree_count in
-    let start = c.new-sheet.ensures.start in
     record {
-      room = omega (arith, start.1);
       count_bound = trees_there f.laid n.result f.formed n.ensures.0;
       depth_bound = omega arith;
     }

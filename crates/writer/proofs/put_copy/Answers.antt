@@ -41,7 +41,7 @@ returns-then-is_empty c =
     let none = nil_from_length _ (eqb-true _ 0 (sym c.is_empty.ensures ∙ c.if-is_empty.true)) in
     copied (row_at c.args.forest.now c.args.i) c.shape-shape.ensures c.opcode-opcode.ensures
     c.kids-kids.ensures.0 c.aux-aux.ensures c.literal-literal.ensures x.ensures
-    (put_as (sym none) (put_none x.new.out x.ensures.fits))
+    (put_as (sym none) (put_none x.new.out))
 
 pub returns : goal.returns
 unfolding row_for

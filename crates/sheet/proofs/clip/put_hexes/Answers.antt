@@ -8,7 +8,7 @@ use Rattle.sheet.proofs.clip.put_hexes.Goals as goal
 
 pub loop-b-init : goal.loop-b-init
 loop-b-init c =
-    hex_start _ c.requires
+    hex_start _
 
 pub loop-b-preserved : goal.loop-b-preserved
 loop-b-preserved c =

@@ -6,4 +6,4 @@ use Rattle.sheet.proofs.clip.put_spaces.Goals as goal
 
 pub returns : goal.returns
 returns c =
-    spaces_put _ _ _ c.requires c.min.ensures (search rules) refl refl refl
+    spaces_put _ _ _ c.min.ensures (search rules) refl refl refl
