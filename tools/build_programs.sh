@@ -26,7 +26,7 @@ build() {
 status=0
 for name in "$@"; do
   if [ "$name" = cse ]; then
-    build cse_c libcse_c.a target/staticlib/libcse.a rt lib
+    build exports libexports.a target/staticlib/libcse.a rt lib
   else
     build "$name" "$name" "target/bin/$name" rt run
   fi || status=1

@@ -151,7 +151,7 @@ pub fn cse(forest: &[u8], out: &mut [u8], work: &mut [u32]) -> Result<Written, R
     r
 }
 
-// The call as C programs make it (crate cse_c exports its twin, since an export is a crate of its own): the answer's
+// The call as C programs make it (crate exports has its twin, since exports are a crate of their own): the answer's
 // numbers are stored one by one. It adds nothing to `cse`. Rules out: a number left as it was; symbols and readings
 // swapped.
 pub fn cse_call(

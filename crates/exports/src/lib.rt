@@ -1,4 +1,4 @@
-// The main call as C programs make it (include/cse.h): a static library of one function.
+// What C programs call (include/cse.h): every exported function, in one static library. They hand on what they are given.
 #![tactic(auto)]
 
 ghost use Rattle.std.specs.Prelude.{◌≡◌};
