@@ -3,3 +3,4 @@ pub mod Directory
 pub mod Rows
 pub mod Closing
 pub mod Accepting
+pub mod Ends

@@ -1,15 +1,17 @@
-// Checks 2 to 6 of a forest, and checks 2 to 10 in order. A check gives the place where it fails: a record, or their
-// count, so at most 256.
+// Checks 2 to 6 of a forest, and checks 2 to 10 in order, with where each subtree ends. A check gives the place where it
+// fails: a record, or their count, so at most 256.
 // In order: 2; 3; 4; 5; 6; all of them.
 #![tactic(auto)]
 
 mod accepted;
 
 ghost use Rattle.std.specs.Prelude.{◌≡◌, ◌+◌, ◌*◌, ◌<◌, ◌≤◌, length, IfSome, IfOk};
+ghost use Rattle.model.specs.Ends.{entries};
 ghost use Rattle.model.specs.Forest as model;
 ghost use Rattle.model.specs.Shape as table;
 ghost use Rattle.record.specs.Record.{row_at};
 ghost use Rattle.regions.specs.Regions.{IDS, end};
+ghost use Rattle.codec.specs.Accepted.{Passes};
 ghost use Rattle.codec.specs.Codec.{bad_pair, Layout, Answered, Judged};
 
 pub use accepted::Accepted;
@@ -137,45 +139,60 @@ fn layout(bytes: &[u8]) -> Result<Formed, Refusal>
 // The first of checks 7 to 10 that fails, of a forest that passes checks 2 to 6: one walk for each, in order.
 // Rules out: 9 where 8 fails in a later record; a place of another check.
 #[tactic(auto, using(crate::proofs::Accepting::answers), unfolding(model::specs::Accept::accept, model::specs::Accept::checks, model::specs::Answer::checked, model::specs::Answer::unless))]
-fn fault(forest: &Formed, work: &mut [u32]) -> Result<(), Refusal>
+fn fault(forest: &Formed, work: &mut [u32], ends: &mut [u16; 256]) -> Result<(), Refusal>
     requires agree { model.check5 forest.now.laid ≡ None }
     requires end_in_bounds { end IDS ≤ length work.old }
-    ensures { Answered forest.now.laid work.old work.new result }
+    ensures { Answered forest.now.laid work.old work.new ends.old ends.new result }
 {
-    Refusal::at(Check::Depth, walk::trees(forest, work, Test::Depth))?;
+    Refusal::at(Check::Depth, walk::trees(forest, work, ends, Test::Depth))?;
     Refusal::at(
         Check::Definitions,
-        walk::trees(forest, work, Test::Definitions),
+        walk::trees(forest, work, ends, Test::Definitions),
     )?;
-    Refusal::at(Check::Bindings, walk::trees(forest, work, Test::Bindings))?;
-    Refusal::at(Check::Uses, walk::trees(forest, work, Test::Uses))
+    Refusal::at(
+        Check::Bindings,
+        walk::trees(forest, work, ends, Test::Bindings),
+    )?;
+    Refusal::at(Check::Uses, walk::trees(forest, work, ends, Test::Uses))
 }
 
 // Checks 7 to 10, in order, of a forest that passes checks 2 to 6. One walk tests all four, and where it finds nothing
-// no other is needed. Rules out: nothing where 10 alone fails; 10 where it fails in a record before one that fails 7.
+// no other is needed. Where none fails, the entries of all records say where their subtrees end.
+// Rules out: nothing where 10 alone fails; 10 where it fails in a record before one that fails 7.
 #[tactic(auto, using(crate::proofs::Accepting::answers))]
-fn bindings(forest: &Formed, work: &mut [u32]) -> Result<(), Refusal>
+fn bindings(forest: &Formed, work: &mut [u32], ends: &mut [u16; 256]) -> Result<(), Refusal>
     requires agree { model.check5 forest.now.laid ≡ None }
     requires end_in_bounds { end IDS ≤ length work.old }
-    ensures { Answered forest.now.laid work.old work.new result }
+    ensures { Answered forest.now.laid work.old work.new ends.old ends.new result }
 {
-    match walk::trees(forest, work, Test::Any) {
-        Some(_) => fault(forest, work),
+    match walk::trees(forest, work, ends, Test::Any) {
+        Some(_) => fault(forest, work, ends),
         None => Ok(()),
     }
 }
 
-// Checks 2 to 10 of these bytes, "in that order, each over the whole forest before the next": the forest, accepted, or
-// the first that fails with its place. After a refusal by 2 to 6 no word has changed; else the words of IDS held the
-// ids in force and may hold anything, and the others are as they were.
-// Rules out: 9 where 8 fails in a later record; a forest where a definition's value uses it; another forest.
+// Checks 2 to 10 of these bytes, "in that order, each over the whole forest before the next": the forest, which passes
+// them all, or the first that fails with its place. Whatever `ends` held, it says for each record of an accepted forest
+// where its subtree ends; its other entries are 0, and all are after a refusal. After a refusal by 2 to 6 no word has
+// changed; else the words of IDS held the ids in force and may hold anything, and the others are as they were.
+// Rules out: 9 where 8 fails in a later record; a forest where a definition's value uses it; another forest; an end that
+// a refused forest's walk has noted; an entry past the last record left as it was.
 #[tactic(auto, using(crate::proofs::Accepting::answers))]
-pub fn check<'a>(bytes: &'a [u8], work: &mut [u32]) -> Result<Accepted<'a>, Refusal>
+pub fn check<'a>(
+    bytes: &'a [u8],
+    work: &mut [u32],
+    ends: &mut [u16; 256],
+) -> Result<Formed<'a>, Refusal>
     requires { end IDS ≤ length work.old }
     ensures judged { Judged bytes.now work.old work.new result }
-    ensures forest { IfOk result (λ f. f.formed.laid ≡ bytes.now) }
+    ensures forest { IfOk result (λ f. (f.laid ≡ bytes.now) × Passes bytes.now) }
+    ensures ends { ends.new ≡ entries bytes.now }
 {
+    ends.fill(0);
     let formed = layout(bytes)?;
-    bindings(&formed, work)?;
-    Ok(Accepted { formed })
+    if let Err(refused) = bindings(&formed, work, ends) {
+        ends.fill(0);
+        return Err(refused);
+    }
+    Ok(formed)
 }

@@ -1,2 +1,3 @@
 -- Definitions that the contracts cite. Assumes nothing.
 pub mod Call
+pub mod Check

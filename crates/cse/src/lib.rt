@@ -1,7 +1,10 @@
 // The main call (mod.rs): checks, interning, planning and writing, in their order; and the work memory cleared.
 // In order: the words cleared; a planned tree written; a tree planned; an accepted forest; any forest, which is the
-// stage that the call and the lister have in common; the call; the call as other programs make it.
+// stage that the call and the lister have in common; the call; the call as other programs make it. The check by itself is
+// in checking.rt.
 #![tactic(auto)]
+
+mod checking;
 
 ghost use Rattle.std.specs.Prelude.{◌≡◌, ℕ, ◌≤◌, length};
 ghost use Rattle.model.specs.Answer.{good};
@@ -14,6 +17,7 @@ ghost use Rattle.interner.specs.State.{abs_of, Rep};
 ghost use Rattle.cse.specs.Call.{five, numbers_in, Tells, cleared, LentOnly, PlanOf, PlanWritable, Planned};
 ghost use Rattle.cse.specs.Call.{Held, Counts, HeldAfter};
 
+pub use checking::{check, cse_check};
 use codec::Accepted;
 use interner::State;
 use planner::Plan;
@@ -27,6 +31,12 @@ pub struct Written {
     pub symbols: u32,
     pub readings: u32,
 }
+
+// Fewer work words than are asked for.
+const NO_WORDS: Refusal = Refusal {
+    check: Check::Words,
+    place: 0,
+};
 
 // The written tree has more than 256 records, more than 65,535 bytes, or more than the output has room for.
 const NO_ROOM: Refusal = Refusal {
@@ -118,7 +128,12 @@ pub fn pass(forest: &[u8], out: &mut [u8], work: &mut [u32]) -> Result<Written, 
     ensures lent_only { LentOnly work.old work.new }
     ensures held_after { HeldAfter forest.now work.new result }
 {
-    let checked = codec::check(forest, work)?;
+    let mut ends = [0; 256];
+    let formed = codec::check(forest, work, &mut ends)?;
+    let checked = Accepted {
+        formed,
+        ends: &ends,
+    };
     accepted(&checked, out, work)
 }
 
@@ -141,10 +156,7 @@ pub fn cse(forest: &[u8], out: &mut [u8], work: &mut [u32]) -> Result<Written, R
         (numbers_in result) out.new }
 {
     if work.len() < regions::WORDS {
-        return Err(Refusal {
-            check: Check::Words,
-            place: 0,
-        });
+        return Err(NO_WORDS);
     }
     let r = pass(forest, out, work);
     clear(work);

@@ -2,7 +2,7 @@
 -- In order: the definitions unfolded; a block has no thunks; a record that is not counted; a record that is: a lambda,
 -- a SelectField, any other record, a use.
 -- Assumes nothing.
-use Prim.Native.Nat.{ℕ, ◌+◌, ◌<◌, ◌≤◌}
+use Prim.Native.Nat.{ℕ, ◌<◌, ◌≤◌}
 use mathlib.Core.Path.{◌≡◌, refl, sym, ap, ◌∙◌, subst}
 use mathlib.Core.Bool.{Bool, true, false}
 use mathlib.Core.Logic.{inl, inr}
@@ -13,8 +13,8 @@ use borrow.Author.Tests.{eqb-true, eqb-false, ne_eqb, lt-ltb, le-ltb}
 use lib.Dec.{eqb}
 use lib.ListN.{length}
 use Rattle.model.specs.Answer.{refused, good, ◌>>=◌, guard}
-use Rattle.model.specs.Shape.{shapes, agrees}
-use Rattle.model.specs.Tree.{Rec, Tree, nil, take_t, drop_t, size, sizes}
+use Rattle.model.specs.Shape.{agrees}
+use Rattle.model.specs.Tree.{Rec, Tree}
 use Rattle.model.specs.Forest.{record_count}
 use Rattle.model.specs.Binding.{Kind, kind, val_use, val_def, block, lambda, field, other, is_block, id_of, args_of}
 use Rattle.model.specs.Intern.{Out, Outs, Env, resolve, finish, func, with_opts, alloc_args, bind_args, open_scope, read}
@@ -23,29 +23,24 @@ use Rattle.model.specs.Intern as intern
 use Rattle.laws.proofs.Members.{clash}
 use Rattle.refusal.specs.declared.Check.TheVariants.{Readings}
 use Rattle.refusal.specs.declared.Refusal.{Refusal}
-use Rattle.record.specs.Record.{row_at}
-use Rattle.shape.proofs.Fitting.{fitting}
-use Rattle.walk.specs.Walk.{trees_from, rec_at, kid_trees_at, rest_at, tree_at, WellFormed}
-use Rattle.walk.proofs.Bridge.{row_fits}
+use Rattle.walk.specs.Walk.{rec_at, tree_at, WellFormed}
 use Rattle.bindings.specs.Bindings.{env_of}
 use Rattle.tables.specs.declared.Tables.{Tables}
 use Rattle.interner.specs.declared.State.{State}
 use Rattle.interner.specs.declared.Step.{Step}
 use Rattle.interner.specs.State.{abs_of}
-use Rattle.interner.specs.Step.{out_of, given}
+use Rattle.interner.specs.Step.{out_of, given, step_of}
 use Rattle.interner.proofs.Sharing.{out_good}
 use Rattle.opening.specs.Opening.{with_reading}
 use Rattle.opening.proofs.Counts.{reading_abs, reading_rep}
 use Rattle.theory.proofs.Acceptance.Records.{kind_shape, op_field, block_eager}
 use Rattle.standing.proofs.Enter.{no_args, kids_well}
 use Rattle.intern.specs.declared.Here.{Here}
-use Rattle.intern.specs.Steps.{ReadStep}
 use Rattle.intern.specs.Steps.{KidsStep}
 use Rattle.intern.specs.declared.Selected.{Selected}
 use Rattle.intern.specs.declared.Selected.TheVariants.{Done, Children}
-use Rattle.intern.specs.Steps.{refused_read}
 use Rattle.intern.specs.Words.{Kept}
-use Rattle.intern.specs.Intern.{StandsAt, Past, Reads, LegibleAt, kids_read, concluded, RecordRead}
+use Rattle.intern.specs.Intern.{StandsAt, Reads, LegibleAt, kids_read, concluded, RecordRead}
 use Rattle.intern.specs.Intern.{LambdaRead, Incomplete, ReadsOn, SelectedRead, Plain}
 use Rattle.intern.proofs.Kept.{kept_none}
 use Rattle.intern.proofs.Bodies.{lambda_kind}
@@ -164,11 +159,10 @@ block_plain r h j e = go (is_block r) refl
 
 -- no reading is left
 pub record_full : {bs ws : List ℕ} {t : Tables} {st : State} {i : ℕ} {at : Here} → StandsAt bs ws t st i at →
-    {r : ReadStep} → st.readings ≡ 2048 → r ≡ refused_read st (record { check = Readings; place = i }) →
-    RecordRead bs ws t st i at ws r
-record_full {bs} {ws} {t} {st} {i} {at} stands e f =
-    rw f (reads_refused (kept_none at ws st) stands.rep stands.opened (record { check = Readings; place = i })
-    (intern_full bs i at.scope (env_of ws at.top) (abs_of bs ws t st) (omega arith)))
+    st.readings ≡ 2048 → RecordRead bs ws t st i at ws (step_of st (Err (record { check = Readings; place = i })))
+record_full {bs} {ws} {t} {st} {i} {at} stands e =
+    reads_refused (kept_none at ws st) stands.rep stands.opened (record { check = Readings; place = i })
+    (intern_full bs i at.scope (env_of ws at.top) (abs_of bs ws t st) (omega arith))
 
 -- a record that may be read, and is counted
 pub record Counts (bs ws : List ℕ) (t : Tables) (st : State) (i : ℕ) (at : Here) (counted : State) : Type 0 where
@@ -239,17 +233,16 @@ module _ {bs ws : List ℕ} {t : Tables} {st : State} {i : ℕ} {at : Here} {cou
       subst (λ (z : State). Kept at ws ws' z last → Kept at ws ws' st last) (sym h.is)
       (λ k. record { words = k.words; scopes = k.scopes })
 
-  counted_reads : {o : Out} {ws' : List ℕ} {r : ReadStep} → whole ≡ o → Reads bs ws t counted i at o ws' r →
+  counted_reads : {o : Out} {ws' : List ℕ} {r : Step} → whole ≡ o → Reads bs ws t counted i at o ws' r →
       RecordRead bs ws t st i at ws' r
   counted_reads e v = record {
     rep = v.rep;
     opened = v.opened;
     is = v.is ∙ sym e;
-    past = v.past;
     kept = counted_kept v.kept;
   }
 
-  pub record_lambda : (rec_at bs i).shape ≡ 12 → {ws' : List ℕ} {r : ReadStep} → LambdaRead bs ws t counted i at ws' r →
+  pub record_lambda : (rec_at bs i).shape ≡ 12 → {ws' : List ℕ} {r : Step} → LambdaRead bs ws t counted i at ws' r →
       RecordRead bs ws t st i at ws' r
   record_lambda e =
       counted_reads
@@ -272,8 +265,8 @@ module _ {bs ws : List ℕ} {t : Tables} {st : State} {i : ℕ} {at : Here} {cou
 
       go : (s : Result Selected Refusal) → SelectedRead bs ws t counted i at ws' last s →
           ReadsOn bs ws t st i at whole ws' last s
-      go (Ok (Done r)) v = counted_reads is_field v
-      go (Ok (Children k)) v = counted_incomplete is_field v
+      go (Ok (Done s)) v = counted_reads is_field v
+      go (Ok (Children b)) v = counted_incomplete is_field v
       go (Err x) v = counted_reads is_field v
 
   pub record_other : ((rec_at bs i).shape ≡ 7 → ⊥) → ((rec_at bs i).shape ≡ 12 → ⊥) →
@@ -288,20 +281,8 @@ module _ {bs ws : List ℕ} {t : Tables} {st : State} {i : ℕ} {at : Here} {cou
       (sym counted_abs))
 
   -- a use
-  use_kids : (rec_at bs i).shape ≡ 7 → (row_at bs i).kids ≡ 0
-  unfolding shapes
-  use_kids e =
-      let f = fitting (row_at bs i) (row_fits bs i h.sound.fit h.there) in
-      let m = rw e at f.many in omega (arith, m)
-
-  use_past : (rec_at bs i).shape ≡ 7 → Past bs i (size (tree_at bs i)) (rest_at bs i) (i + 1)
-  unfolding size kid_trees_at rest_at take_t drop_t
-  use_past e =
-      let z : take_t (row_at bs i).kids (trees_from bs (i + 1)) ≡ nil = rw (use_kids e) in
-      (omega (arith, ap sizes z), rw (use_kids e))
-
   pub record_use : (rec_at bs i).shape ≡ 7 → {r : Step} → r ≡ given counted (resolve env₀ (id_of (rec_at bs i))) →
-      RecordRead bs ws t st i at ws (record { step = r; next = i + 1 })
+      RecordRead bs ws t st i at ws r
   record_use e f =
       counted_reads refl (record {
         rep = rw f counted_stands.rep;
@@ -311,6 +292,5 @@ module _ {bs ws : List ℕ} {t : Tables} {st : State} {i : ℕ} {at : Here} {cou
             ∙ out_good bs ws t (given counted (resolve env₀ (id_of (rec_at bs i)))) refl
             ∙ ap (λ (z : intern.State). good (resolve env₀ (id_of (rec_at bs i)), z)) counted_abs
             ∙ sym (intern_use bs i at.scope env₀ (abs_of bs ws t st) h.few e);
-        past = λ z. use_past e;
         kept = rw f (kept_none at ws counted);
       })

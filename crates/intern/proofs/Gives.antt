@@ -26,15 +26,14 @@ use Rattle.tables.specs.declared.Tables.{Tables}
 use Rattle.interner.specs.declared.State.{State}
 use Rattle.interner.specs.declared.Step.{Step}
 use Rattle.interner.specs.State.{abs_of}
-use Rattle.interner.specs.Step.{refusal_of, Answers}
+use Rattle.interner.specs.Step.{refusal_of, step_of, Answers}
 use Rattle.concluding.specs.Concluding.{reads_again, Selects, Input}
 use Rattle.concluding.proofs.Selecting.{selects_input, field_again}
 use Rattle.intern.specs.declared.Here.{Here}
-use Rattle.intern.specs.Steps.{ReadStep}
-use Rattle.intern.specs.Steps.{KidsStep}
-use Rattle.intern.specs.Steps.{refused_read, unread, repeats, repeated}
+use Rattle.key.specs.declared.Branches.TheVariants.{Zero}
+use Rattle.intern.specs.Steps.{KidsStep, kids_done, repeats, repeated}
 use Rattle.intern.specs.Intern.{StandsAt, Reads, kids_read, concluded, WellKids, Plain, Operands, ReadsAll}
-use Rattle.intern.specs.Intern.{kids_answer, kids_of, Concluding, Concluded, Completable, completes, Completed}
+use Rattle.intern.specs.Intern.{kids_answer, kids_of, Concluding, Concluded, Completable, completes}
 use Rattle.intern.specs.Intern.{Incomplete}
 use Rattle.intern.proofs.Kept.{kept_none, kept_then}
 use Rattle.intern.proofs.Records.{reads_refused, reads_answers, concluded_other, concluded_refused, Below, Gave}
@@ -48,37 +47,40 @@ use Rattle.intern.proofs.Cases.{field_refused, field_good}
 -- ---- a record completed
 
 module _ {bs ws : List ℕ} {t : Tables} {i : ℕ} {at : Here} {k : KidsStep} (ready : Completable bs ws t i at k) where
-  pub complete_refused : {z : ReadStep} {x : Refusal} → z ≡ refused_read k.st x → k.outcome ≡ Err x →
-      Completed bs ws t i at k ws z
-  complete_refused {x = x} e h =
-      rw e (reads_refused (kept_none at ws k.st) ready.rep ready.opened x
-      (ap (concluded i at.scope (rec_at bs i)) (kids_refused bs ws t at.held (row_at bs i).kids k h)
-      ∙ concluded_refused i at.scope (rec_at bs i) (number_of x.check) x.place))
+  -- it is completed
+  abbrev Completed : List ℕ → Step → Type 0
+  Completed ws' r = Reads bs ws t k.st i at (completes bs ws t i at k) ws' r
 
-  pub complete_done : IsOk k.outcome → {ws₂ : List ℕ} {step : Step} → Concluded bs ws t i at k ws₂ step →
-      Completed bs ws t i at k ws₂ (record { step = step; next = k.next })
+  complete_refused : {x : Refusal} → k.outcome ≡ Err x → Completed ws (step_of k.st (Err x))
+  complete_refused {x} h =
+      reads_refused (kept_none at ws k.st) ready.rep ready.opened x
+      (ap (concluded i at.scope (rec_at bs i)) (kids_refused bs ws t at.held (row_at bs i).kids k h)
+      ∙ concluded_refused i at.scope (rec_at bs i) (number_of x.check) x.place)
+
+  complete_done : IsOk k.outcome → {ws₂ : List ℕ} {r : Step} → Concluded bs ws t i at k ws₂ r → Completed ws₂ r
   complete_done ok =
       reads_answers (kept_none at ws k.st) ready.rep ready.opened
       (ap (concluded i at.scope (rec_at bs i)) (sym (kids_good bs ws t at.held (row_at bs i).kids k ok)))
-      (ready.past ok)
 
--- its answer is the record's
-pub incomplete_reads : {bs ws : List ℕ} {t : Tables} {st : State} {i : ℕ} {at : Here} {o : Out} {ws₁ : List ℕ}
-    {k : KidsStep} → Incomplete bs ws t st i at o ws₁ k → {ws₂ : List ℕ} {z : ReadStep} → Completed bs ws₁ t i at k ws₂ z →
-    Reads bs ws t st i at o ws₂ z
-incomplete_reads u w = record {
-  rep = w.rep;
-  opened = w.opened;
-  is = w.is ∙ u.is;
-  past = w.past;
-  kept = kept_then (omega arith) (omega arith) u.kept w.kept;
-}
+module _ {bs ws : List ℕ} {t : Tables} {st : State} {i : ℕ} {at : Here} {o : Out} {ws₁ : List ℕ} {k : KidsStep}
+    (u : Incomplete bs ws t st i at o ws₁ k) where
+  -- its answer is the record's
+  whole : {ws₂ : List ℕ} {r : Step} → Reads bs ws₁ t k.st i at (completes bs ws₁ t i at k) ws₂ r →
+      Reads bs ws t st i at o ws₂ r
+  whole w = record {
+    rep = w.rep;
+    opened = w.opened;
+    is = w.is ∙ u.is;
+    kept = kept_then (omega arith) (omega arith) u.kept w.kept;
+  }
 
--- its children are refused, and so is the record
-pub incomplete_refused : {bs ws : List ℕ} {t : Tables} {st : State} {i : ℕ} {at : Here} {o : Out} {ws₁ : List ℕ}
-    {k : KidsStep} {x : Refusal} → Incomplete bs ws t st i at o ws₁ k → k.outcome ≡ Err x →
-    Reads bs ws t st i at o ws₁ (refused_read k.st x)
-incomplete_refused u n = incomplete_reads u (complete_refused u.ready refl n)
+  pub incomplete_reads : IsOk k.outcome → {ws₂ : List ℕ} {r : Step} → Concluded bs ws₁ t i at k ws₂ r →
+      Reads bs ws t st i at o ws₂ r
+  incomplete_reads ok c = whole (complete_done u.ready ok c)
+
+  -- its children are refused, and so is the record
+  pub incomplete_refused : {x : Refusal} → k.outcome ≡ Err x → Reads bs ws t st i at o ws₁ (step_of k.st (Err x))
+  incomplete_refused n = whole (complete_refused u.ready n)
 
 -- ---- a record's children read
 
@@ -115,7 +117,6 @@ module _ {bs ws : List ℕ} {t : Tables} {st : State} {i : ℕ} {at : Here} (h :
           branched = v.branched;
           concludes = λ ok.
               rw en at ((gave ok).conclude at.scope h.stands.scope);
-          past = λ ok. (gave ok).past;
         };
         is = children_is;
         kept = v.kept;
@@ -123,11 +124,10 @@ module _ {bs ws : List ℕ} {t : Tables} {st : State} {i : ℕ} {at : Here} (h :
 
   -- a record with no children
   pub children_none : {n : ℕ} → n ≡ (row_at bs i).kids → Plain (rec_at bs i).opcode (is_block (rec_at bs i)) → n ≡ 0 →
-      {k : KidsStep} → k ≡ unread st (i + 1) →
       Incomplete bs ws t st i at
-      (concluded i at.scope (rec_at bs i) (kids_read bs i at.scope (env_of ws at.top) (abs_of bs ws t st))) ws k
-  children_none en plain none is =
-      children-read en refl (loop_none h.sound (children-operands en refl plain) is none)
+      (concluded i at.scope (rec_at bs i) (kids_read bs i at.scope (env_of ws at.top) (abs_of bs ws t st))) ws
+      (kids_done st Zero)
+  children_none en plain none = children-read en refl (loop_none h.sound (children-operands en refl plain) none)
 
 -- ---- a SelectField
 
@@ -180,7 +180,7 @@ module _ {bs ws : List ℕ} {t : Tables} {st : State} {i : ℕ} {at : Here} (h :
             kept = u.kept;
           }
 
-      pub field_fails : {x : Refusal} → k.outcome ≡ Err x → Reads bs ws t st i at field_out ws₁ (refused_read k.st x)
+      pub field_fails : {x : Refusal} → k.outcome ≡ Err x → Reads bs ws t st i at field_out ws₁ (step_of k.st (Err x))
       field_fails n = incomplete_refused (field_refuses n) n
 
       module _ (ok : IsOk k.outcome) where
@@ -240,7 +240,6 @@ module _ {bs ws : List ℕ} {t : Tables} {st : State} {i : ℕ} {at : Here} (h :
             opened = v.opened;
             branched = v.branched;
             concludes = λ z. recount_concluding;
-            past = λ z. gave₁.past;
           }
 
         -- read again
@@ -263,8 +262,8 @@ module _ {bs ws : List ℕ} {t : Tables} {st : State} {i : ℕ} {at : Here} (h :
           pub field_done : {ws₂ : List ℕ} {step : Step} →
               Answers bs ws₁ t k.st
               (intern_field i at.scope r env (kids_read bs i) (pending_from ws₁ at.held 1) (abs_of bs ws₁ t k.st))
-              ws₂ step → Reads bs ws t st i at field_out ws₂ (record { step = step; next = k.next })
-          field_done = reads_answers v.kept v.rep v.opened (sym field_is) gave₁.past
+              ws₂ step → Reads bs ws t st i at field_out ws₂ step
+          field_done = reads_answers v.kept v.rep v.opened (sym field_is)
 
           -- to read again, or to count again, gives the record's answer
           module _ (e : b ≡ true) where

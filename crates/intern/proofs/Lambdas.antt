@@ -27,16 +27,13 @@ use Rattle.tables.specs.declared.Tables.{Tables}
 use Rattle.interner.specs.declared.State.{State}
 use Rattle.interner.specs.declared.Step.{Step}
 use Rattle.interner.specs.State.{abs_of}
-use Rattle.interner.specs.Step.{refusal_of, Answers, BodyOf}
+use Rattle.interner.specs.Step.{refusal_of, step_of, Answers, BodyOf}
 use Rattle.concluding.specs.Concluding.{Concludes}
 use Rattle.standing.specs.Standing.{WellAll}
 use Rattle.standing.proofs.Enter.{lambda_well}
 use Rattle.intern.specs.declared.Here.{Here}
-use Rattle.intern.specs.Steps.{ReadStep}
-use Rattle.intern.specs.Steps.{KidsStep}
-use Rattle.intern.specs.Steps.{Entered}
+use Rattle.intern.specs.Steps.{KidsStep, Entered}
 use Rattle.intern.specs.declared.Inside.{Inside}
-use Rattle.intern.specs.Steps.{refused_read}
 use Rattle.intern.specs.Words.{Kept}
 use Rattle.intern.specs.Intern.{Reads, kids_read, Operands, ReadsAll, args_made, Body}
 use Rattle.intern.specs.Intern.{Enters}
@@ -57,13 +54,12 @@ module _ {bs ws : List ℕ} {t : Tables} {st : State} {i : ℕ} {at : Here} (h :
   out = intern_func i at.scope r env (kids_read bs i) (abs_of bs ws t st)
 
   -- the arguments are refused
-  pub lambda_unmade : {z : ReadStep} {x : Refusal} → z ≡ refused_read e.st x → e.inside ≡ Err x →
-      Reads bs ws t st i at out ws₁ z
-  lambda_unmade {x = x} f n =
-      rw f (reads_refused enters.kept enters.rep enters.opened x
+  pub lambda_unmade : {x : Refusal} → e.inside ≡ Err x → Reads bs ws t st i at out ws₁ (step_of e.st (Err x))
+  lambda_unmade {x} n =
+      reads_refused enters.kept enters.rep enters.opened x
       (func_refused i at.scope r env (kids_read bs i) (abs_of bs ws t st) (number_of x.check) x.place
       (MatchResult-at_err (Body bs ws t st i at ws₁ e.st)
-      (λ (x : Refusal). args_made bs i at.scope (abs_of bs ws t st) ≡ refusal_of x) x n enters.opens)))
+      (λ (x : Refusal). args_made bs i at.scope (abs_of bs ws t st) ≡ refusal_of x) x n enters.opens))
 
   lambda_one : ◌≡◌ {A = ℕ} 1 (row_at bs i).kids
   lambda_one = sym (fits_func (row_at bs i) (row_fits bs i h.sound.fit h.there) h.shape).0
@@ -117,13 +113,12 @@ module _ {bs ws : List ℕ} {t : Tables} {st : State} {i : ℕ} {at : Here} (h :
         kids_same = cc (body.scope, body.env, body.abs)
 
         -- the body is refused
-        pub lambda_refused : {z : ReadStep} {x : Refusal} → z ≡ refused_read k.st x → k.outcome ≡ Err x →
-            Reads bs ws t st i at out ws₂ z
-        lambda_refused {x = x} f n =
-            rw f (reads_refused kept₂ v.rep v.opened x
+        pub lambda_refused : {x : Refusal} → k.outcome ≡ Err x → Reads bs ws t st i at out ws₂ (step_of k.st (Err x))
+        lambda_refused {x} n =
+            reads_refused kept₂ v.rep v.opened x
             (func_kids_refused i at.scope r env (kids_read bs i) (abs_of bs ws t st) (own, [], body.made) body.is
             (number_of x.check) x.place
-            (kids_same ∙ kids_fail h.sound h.there below well lambda_one eo v n)))
+            (kids_same ∙ kids_fail h.sound h.there below well lambda_one eo v n))
 
         -- the body is read
         module _ (done : IsOk k.outcome) where
@@ -156,9 +151,8 @@ module _ {bs ws : List ℕ} {t : Tables} {st : State} {i : ℕ} {at : Here} (h :
               Answers bs ws₂ t k.st
               (finish i at.scope r (pending_from ws₂ at.held 1) own
               (func (with_opts (args_of r.aux r.lit) own) d.at.scope) (abs_of bs ws₂ t k.st)) ws₃ step →
-              Reads bs ws t st i at out ws₃ (record { step = step; next = k.next })
+              Reads bs ws t st i at out ws₃ step
           lambda_done =
               reads_answers kept₂ v.rep v.opened
               (rw (← body.held, body.scope) (sym (func_good i at.scope r env (kids_read bs i) (abs_of bs ws t st)
               (own, [], body.made) body.is _ (kids_same ∙ gave.is))))
-              gave.past

@@ -17,7 +17,7 @@ use lib.ListN.{length, get_or}
 use Rattle.regions.specs.Regions.{SLOTS, SCOPES, PENDING, WORDS}
 use Rattle.model.specs.Answer.{refused, ◌>>=◌}
 use Rattle.model.specs.Lists.{last}
-use Rattle.model.specs.Tree.{Rec, many, size, sizes, depth, depths}
+use Rattle.model.specs.Tree.{Rec, many, depth, depths}
 use Rattle.model.specs.Forest.{record_count}
 use Rattle.model.specs.Intern.{Out, Outs, Env, node_of, finish, intern_last, intern_general}
 use Rattle.model.specs.Intern as intern
@@ -25,7 +25,7 @@ use Rattle.laws.specs.Members.{In}
 use Rattle.refusal.specs.declared.Refusal.{Refusal}
 use Rattle.record.specs.Record.{row_at}
 use Rattle.shape.proofs.Fitting.{fits_def, fits_block}
-use Rattle.walk.specs.Walk.{rec_at, kid_trees_at, rest_at, tree_at, WellFormed}
+use Rattle.walk.specs.Walk.{rec_at, kid_trees_at, tree_at, WellFormed}
 use Rattle.walk.proofs.Bridge.{row_fits, kids_there}
 use Rattle.symbols.specs.Words.{words_from, pending_from}
 use Rattle.symbols.proofs.Words.{words_length}
@@ -49,9 +49,8 @@ use Rattle.standing.proofs.Forced.{union_forced}
 use Rattle.standing.proofs.Next.{all_results, again_well}
 use Rattle.intern.specs.declared.Here.{Here}
 use Rattle.intern.specs.Steps.{KidsStep}
-use Rattle.intern.specs.Steps.{refused_read}
 use Rattle.intern.specs.Words.{Kept}
-use Rattle.intern.specs.Intern.{Stands, StandsAt, Past, Reads, kids_read, concluded, WellKids, trees, Plain}
+use Rattle.intern.specs.Intern.{Stands, StandsAt, Reads, kids_read, concluded, WellKids, trees, Plain}
 use Rattle.intern.specs.Intern.{Operands, kids_answer, kids_of, Concluding, Concluded, ReadsAll}
 use Rattle.intern.proofs.Kept.{kept_then, leaves_kept}
 use Rattle.intern.proofs.After.{kids_good, kids_refused}
@@ -61,31 +60,22 @@ use Rattle.intern.proofs.After.{kids_good, kids_refused}
 module _ {bs ws ws₁ : List ℕ} {t : Tables} {st st₁ : State} {i : ℕ} {at : Here} {o : Out} (kept : Kept at ws ws₁ st st₁)
     (rep : Rep bs ws₁ st₁) (open' : Open t st₁.entries) where
   pub reads_refused : (x : Refusal) → o ≡ refusal_of x →
-      Reads bs ws t st i at o ws₁ (refused_read st₁ x)
+      Reads bs ws t st i at o ws₁ (step_of st₁ (Err x))
   reads_refused x e = record {
     rep = rep;
     opened = open';
-    is = out_refused bs ws₁ t (refused_read st₁ x).step refl ∙ sym e;
-    past = λ z. cc;
+    is = out_refused bs ws₁ t (step_of st₁ (Err x)) refl ∙ sym e;
     kept = kept;
   }
 
-  pub reads_answers : {o' : Out} {ws₂ : List ℕ} {r : Step} {next : ℕ} → o' ≡ o →
-      Past bs i (size (tree_at bs i)) (rest_at bs i) next → Answers bs ws₁ t st₁ o' ws₂ r →
-      Reads bs ws t st i at o ws₂ (record { step = r; next = next })
-  reads_answers {r = r} e p a = record {
+  pub reads_answers : {o' : Out} {ws₂ : List ℕ} {r : Step} → o' ≡ o → Answers bs ws₁ t st₁ o' ws₂ r →
+      Reads bs ws t st i at o ws₂ r
+  reads_answers {r = r} e a = record {
     rep = a.rep;
     opened = open_later t st₁.entries open' r.st.entries a.leaves.entries;
     is = a.is ∙ e;
-    past = λ z. p;
     kept = kept_then (omega arith) (omega arith) kept (leaves_kept at rep.arena.scoped.few_scopes a.leaves);
   }
-
--- the record after a refusal says nothing
-pub reads_err : {bs ws ws' : List ℕ} {t : Tables} {st last : State} {i next : ℕ} {at : Here} {o : Out} {x : Refusal} →
-    Reads bs ws t st i at o ws' (record { step = step_of last (Err x); next = next }) →
-    Reads bs ws t st i at o ws' (refused_read last x)
-reads_err v = record { rep = v.rep; opened = v.opened; is = v.is; past = λ z. cc; kept = v.kept }
 
 -- ---- definitions and blocks, and any other record
 
@@ -213,12 +203,11 @@ stands_later {at} h rep open' kept = record {
   tables = h.tables;
 }
 
--- the children of record i were read: what they gave, where the next record is, and what their symbols are
+-- the children of record i were read: what they gave, and what their symbols are
 pub record Gave (bs ws : List ℕ) (t : Tables) (st : State) (i : ℕ) (at : Here) (b : Bool) (n : ℕ) (ws₁ : List ℕ)
     (k : KidsStep) : Type 0
   where
     pub is : kids_read bs i at.scope (env_of ws at.top) (abs_of bs ws t st) ≡ kids_answer bs ws₁ t at.held n k
-    pub past : Past bs i (size (tree_at bs i)) (rest_at bs i) k.next
     pub slots : k.st.slots + (1 + n) ≤ SLOTS.size
     pub conclude : (cur : ℕ) → cur < st.scopes → Concludes bs ws₁ k.st i cur at.scope at.held n
     pub again : WellAll (kid_trees_at bs i) b (rec_at bs i).opcode 0 at.scope (env_of ws₁ at.top)
@@ -264,12 +253,6 @@ module _ {bs ws : List ℕ} {t : Tables} {st : State} {i : ℕ} {at : Here} {b :
       kids_give : kids_read bs i at.scope env A ≡ kids_answer bs ws₁ t at.held n k
       kids_give = sym all_is ∙ kids_good bs ws₁ t at.held n k ok
 
-      kids_past : Past bs i (size (tree_at bs i)) (rest_at bs i) k.next
-      unfolding size rest_at
-      kids_past =
-          let p = v.past ok in
-          (omega (arith, p.0, ap sizes trees_are), p.1 ∙ rw en)
-
       kids_all : AllRead (kid_trees_at bs i) at.scope A 1
           (pending_from ws₁ at.held n, branches_of k.branches, abs_of bs ws₁ t k.st)
       kids_all = all_results well (suc i) _ kids_give
@@ -299,7 +282,6 @@ module _ {bs ws : List ℕ} {t : Tables} {st : State} {i : ℕ} {at : Here} {b :
       pub kids_gave : Gave bs ws t st i at b n ws₁ k
       kids_gave = record {
         is = kids_give;
-        past = kids_past;
         slots = kids_slots;
         conclude = kids_conclude;
         again = rw (env_words ws₁ ws at.top v.kept.words.bound) (again_well well (suc i) _ kids_give);

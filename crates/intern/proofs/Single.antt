@@ -3,7 +3,7 @@
 use Prim.Native.Nat.{ℕ, ◌+◌, ◌<◌}
 use mathlib.Core.Path.{◌≡◌, refl, ap, ◌∙◌}
 use mathlib.Core.Bool.{false}
-use Rattle.std.specs.Prelude.{Result, Ok, Err, IsOk}
+use Rattle.std.specs.Prelude.{Result, Ok, Err}
 use Rattle.std.specs.Result.{result_and}
 use mathlib.Core.List.{List, ◌∷◌}
 use native.Mathlib.Omega.{arith}
@@ -11,26 +11,26 @@ use lib.ListN.{get_or}
 use Rattle.regions.specs.Regions.{PENDING}
 use Rattle.model.specs.Answer.{refused, good, ◌>>=◌}
 use Rattle.model.specs.Lists.{last}
-use Rattle.model.specs.Tree.{Tree, nil, cons, many, take_t, drop_t, size, sizes, depth, depths}
+use Rattle.model.specs.Tree.{Tree, nil, cons, many, take_t, size, depth, depths}
 use Rattle.model.specs.Forest.{record_count}
 use Rattle.model.specs.Intern.{Out, Env, thunked, intern_scoped, intern_last, intern, intern_all}
 use Rattle.model.specs.Intern as intern
 use Rattle.refusal.specs.declared.Refusal.{Refusal}
-use Rattle.walk.specs.Walk.{rest_at, tree_at}
+use Rattle.walk.specs.Walk.{tree_at}
 use Rattle.walk.proofs.Bridge.{trees_at}
 use Rattle.symbols.specs.Words.{words_from, pending_from}
 use Rattle.bindings.specs.Bindings.{env_of}
 use Rattle.tables.specs.declared.Tables.{Tables}
 use Rattle.interner.specs.declared.State.{State}
+use Rattle.interner.specs.declared.Step.{Step}
 use Rattle.interner.specs.State.{abs_of}
 use Rattle.interner.specs.Step.{outcome_of, out_of}
 use Rattle.key.specs.Key.{branches_of}
 use Rattle.theory.proofs.Acceptance.Checked.{nil-checked, plain_join}
 use Rattle.standing.specs.Standing.{Well, WellAll}
 use Rattle.intern.specs.declared.Here.{Here}
-use Rattle.intern.specs.Steps.{ReadStep}
 use Rattle.intern.specs.Steps.{KidsStep}
-use Rattle.intern.specs.Intern.{Stands, Past, RecordRead, kids_of, trees, Operands, ReadsAll}
+use Rattle.intern.specs.Intern.{Stands, RecordRead, kids_of, trees, Operands, ReadsAll}
 use Rattle.intern.proofs.After.{none_thunked}
 
 -- the definitions: its symbol in a list of one
@@ -56,14 +56,11 @@ one_well {u} w = record {
 }
 
 -- what the one operand gives
-abbrev pub one_read : List ℕ → ℕ → KidsStep → ReadStep
-one_read ws held k = record {
-  step = record { st = k.st; symbol = result_and k.outcome (Ok (get_or ws (PENDING.first + held) 0)) };
-  next = k.next;
-}
+abbrev pub one_read : List ℕ → ℕ → KidsStep → Step
+one_read ws held k = record { st = k.st; symbol = result_and k.outcome (Ok (get_or ws (PENDING.first + held) 0)) }
 
 one_out : (bs ws : List ℕ) (t : Tables) (held : ℕ) (k : KidsStep) →
-    out_of bs ws t (one_read ws held k).step ≡ intern_last (kids_of bs ws t held 1 k)
+    out_of bs ws t (one_read ws held k) ≡ intern_last (kids_of bs ws t held 1 k)
 unfolding out_of kids_of intern_last ◌>>=◌ words_from last
 one_out bs ws t held k = go k.outcome
   where
@@ -73,11 +70,6 @@ one_out bs ws t held k = go k.outcome
         (intern_last (outcome_of (λ _. (pending_from ws held 1, branches_of k.branches, abs_of bs ws t k.st)) o))
     go (Ok u) = refl
     go (Err x) = refl
-
--- it has a symbol only where the operand is read
-ok_both : (o : Result Unit Refusal) (s : ℕ) → IsOk (result_and o (Ok s)) → IsOk o
-ok_both (Ok u) s e = refl
-ok_both (Err x) s e = e
 
 module _ (bs ws : List ℕ) (t : Tables) (st : State) (i : ℕ) (at : Here) (lt : i < record_count bs) where
   abbrev u : Tree
@@ -106,12 +98,6 @@ module _ (bs ws : List ℕ) (t : Tables) (st : State) (i : ℕ) (at : Here) (lt 
   }
 
   module _ (ws' : List ℕ) (k : KidsStep) (v : ReadsAll bs ws t st i 1 0 at ws' k) where
-    one_past : IsOk k.outcome → Past bs i (size u) (rest_at bs i) k.next
-    unfolding sizes drop_t
-    one_past ok =
-        let p = v.past ok in
-        (omega (arith, p.0, ap sizes one_tree), p.1 ∙ ap (drop_t 1) (trees_at bs i lt))
-
     pub one_reads : RecordRead bs ws t st i at ws' (one_read ws' at.held k)
     one_reads = record {
       rep = v.rep;
@@ -120,6 +106,5 @@ module _ (bs ws : List ℕ) (t : Tables) (st : State) (i : ℕ) (at : Here) (lt 
           one_out bs ws' t at.held k
           ∙ ap intern_last v.is
           ∙ rw one_tree (one_last u i at.scope (env_of ws at.top) (abs_of bs ws t st));
-      past = λ z. one_past (ok_both k.outcome _ z);
       kept = v.kept;
     }

@@ -24,16 +24,15 @@ use Rattle.tables.specs.declared.Tables.{Tables}
 use Rattle.tables.specs.Tables.{opened, Open}
 use Rattle.tables.proofs.Stack.{opened_open}
 use Rattle.interner.specs.declared.State.{State}
+use Rattle.interner.specs.declared.Step.{Step}
 use Rattle.interner.specs.State.{abs_of, Rep}
-use Rattle.interner.specs.Step.{outcome_of, out_of}
+use Rattle.interner.specs.Step.{outcome_of, out_of, step_of}
 use Rattle.opening.specs.Opening.{with_scope, thunk_closed}
 use Rattle.opening.proofs.Counts.{scopes_count}
 use Rattle.opening.proofs.Scopes.{scope_frame}
 use Rattle.opening.proofs.Thunks.{thunk_level, thunk_abs, thunk_rep, closed_abs, closed_rep}
 use Rattle.intern.specs.declared.Here.{Here}
-use Rattle.intern.specs.Steps.{ReadStep}
 use Rattle.intern.specs.Steps.{KidsStep}
-use Rattle.intern.specs.Steps.{closed_read}
 use Rattle.intern.specs.Words.{Words}
 use Rattle.intern.specs.Intern.{Stands, Reads, RecordRead, InThunk, ThunkRead, Operands, ReadsAll}
 use Rattle.intern.proofs.Kept.{words_then, scope_words}
@@ -44,15 +43,15 @@ use Rattle.intern.proofs.Single.{one-operands, one_read, one_reads}
 abbrev closing : Out → Out
 closing o = o >>= (λ (z : ℕ × intern.State). good (z.0, close_thunk z.1))
 
-out_closed : (bs ws : List ℕ) (t : Tables) (top : ℕ) (r : ReadStep) → Open t top → length t < 64 →
-    out_of bs ws t (closed_read r (thunk_closed r.step.st top)).step ≡ closing (out_of bs ws (opened t top) r.step)
+out_closed : (bs ws : List ℕ) (t : Tables) (top : ℕ) (r : Step) → Open t top → length t < 64 →
+    out_of bs ws t (step_of (thunk_closed r.st top) r.symbol) ≡ closing (out_of bs ws (opened t top) r)
 unfolding out_of ◌>>=◌
-out_closed bs ws t top r is room = go r.step.symbol
+out_closed bs ws t top r is room = go r.symbol
   where
     go : (o : Result ℕ Refusal) →
-        ◌≡◌ {A = Out} (outcome_of (λ s. (s, abs_of bs ws t (thunk_closed r.step.st top))) o)
-        (closing (outcome_of (λ s. (s, abs_of bs ws (opened t top) r.step.st)) o))
-    go (Ok s) = ap (λ (z : intern.State). good (s, z)) (closed_abs bs ws t r.step.st top is room)
+        ◌≡◌ {A = Out} (outcome_of (λ s. (s, abs_of bs ws t (thunk_closed r.st top))) o)
+        (closing (outcome_of (λ s. (s, abs_of bs ws (opened t top) r.st)) o))
+    go (Ok s) = ap (λ (z : intern.State). good (s, z)) (closed_abs bs ws t r.st top is room)
     go (Err x) = refl
 
 -- ---- a child, in a thunk or not
@@ -61,7 +60,7 @@ abbrev child_out : List ℕ → List ℕ → Tables → State → ℕ → Bool �
 child_out bs ws t st i thunk at =
     intern_scoped thunk at.scope (λ c s. intern (tree_at bs i) i c (env_of ws at.top) s) (abs_of bs ws t st)
 
-module _ {bs ws : List ℕ} {t : Tables} {st : State} {i : ℕ} {thunk : Bool} {at : Here} {ws' : List ℕ} {r : ReadStep} where
+module _ {bs ws : List ℕ} {t : Tables} {st : State} {i : ℕ} {thunk : Bool} {at : Here} {ws' : List ℕ} {r : Step} where
   pub child_plainly : thunk ≡ false → RecordRead bs ws t st i at ws' r →
       Reads bs ws t st i at (child_out bs ws t st i thunk at) ws' r
   unfolding intern_scoped
@@ -148,7 +147,7 @@ module _ {bs ws : List ℕ} {t : Tables} {st : State} {i : ℕ} {at : Here} (lt 
     -- ---- what the child gives
 
     module _ {ws₂ : List ℕ} {k : KidsStep} (all : ReadsAll bs ws₁ inner inside i 1 0 own ws₂ k) where
-      abbrev r : ReadStep
+      abbrev r : Step
       r = one_read ws₂ at.held k
 
       v : RecordRead bs ws₁ inner inside i own ws₂ r
@@ -159,26 +158,25 @@ module _ {bs ws : List ℕ} {t : Tables} {st : State} {i : ℕ} {at : Here} (lt 
       unfolding intern_scoped
       scoped_is = rw (scopes_count bs ws t st, env₁, abs₁)
 
-      last-opened : Open (opened t st.entries) r.step.st.entries
+      last-opened : Open (opened t st.entries) r.st.entries
       last-opened = rw pushed at v.opened
 
-      closed₂ : Reads bs ws t st i at thunk_out ws₂ (closed_read r (thunk_closed r.step.st st.entries))
+      closed₂ : Reads bs ws t st i at thunk_out ws₂ (step_of (thunk_closed r.st st.entries) r.symbol)
       closed₂ = record {
         rep =
-            closed_rep bs ws₂ t r.step.st st.entries h.stands.opened tables_room v.rep last-opened;
+            closed_rep bs ws₂ t r.st st.entries h.stands.opened tables_room v.rep last-opened;
         opened = h.stands.opened;
         is =
             out_closed bs ws₂ t st.entries r h.stands.opened tables_room
-            ∙ ap (λ (z : Tables). closing (out_of bs ws₂ z r.step)) (sym pushed)
+            ∙ ap (λ (z : Tables). closing (out_of bs ws₂ z r)) (sym pushed)
             ∙ ap closing v.is
             ∙ sym scoped_is;
-        past = v.past;
         kept = record {
           words = words_then (omega (arith, scopes₁)) (omega arith) (omega arith) words₁ v.kept.words;
           scopes = omega (arith, v.kept.scopes, scopes₁);
         };
       }
 
-      pub thunk_done : {last : State} → last ≡ thunk_closed r.step.st st.entries →
-          Reads bs ws t st i at thunk_out ws₂ (closed_read r last)
+      pub thunk_done : {last : State} → last ≡ thunk_closed r.st st.entries →
+          Reads bs ws t st i at thunk_out ws₂ (step_of last r.symbol)
       thunk_done e = rw e closed₂

@@ -6,7 +6,7 @@ use Rattle.std.specs.Prelude.{ℕ, suc, ◌+◌, ◌-◌, ◌*◌, ◌<◌, ◌�
 use Rattle.std.specs.Prelude.{Result, Ok, Err, IsOk, IfOk, MatchResult}
 use Rattle.regions.specs.Regions.{PENDING, end}
 use Rattle.model.specs.Answer.{good}
-use Rattle.model.specs.Tree.{Rec, Tree, Trees, many, take_t, drop_t, size, sizes, depth, depths}
+use Rattle.model.specs.Tree.{Rec, Tree, Trees, many, take_t, depth, depths}
 use Rattle.model.specs.Forest.{record_count}
 use Rattle.model.specs.Binding.{field, args_of, is_block}
 use Rattle.model.specs.Intern.{Env, Out, Outs, thunked, alloc_args, bind_args, open_scope, open_thunk, read}
@@ -17,7 +17,7 @@ use Rattle.laws.specs.Range.{range}
 use Rattle.laws.specs.Frame.{Frame}
 use Rattle.refusal.specs.declared.Refusal.{Refusal}
 use Rattle.record.specs.Record.{row_at}
-use Rattle.walk.specs.Walk.{trees_from, rec_at, kid_trees_at, rest_at, tree_at}
+use Rattle.walk.specs.Walk.{trees_from, rec_at, kid_trees_at, tree_at}
 use Rattle.symbols.specs.Words.{pending_from}
 use Rattle.scopes.specs.Scopes.{scope_word, level_of}
 use Rattle.bindings.specs.Bindings.{env_of}
@@ -26,12 +26,12 @@ use Rattle.tables.specs.Tables.{new_tables, Open}
 use Rattle.interner.specs.declared.State.{State}
 use Rattle.interner.specs.declared.Step.{Step}
 use Rattle.interner.specs.State.{abs_of, Rep}
-use Rattle.interner.specs.Step.{refusal_of, outcome_of, out_of, BodyOf, Answers}
+use Rattle.interner.specs.Step.{refusal_of, outcome_of, out_of, given, step_of, BodyOf, Answers}
 use Rattle.key.specs.Key.{branches_of}
 use Rattle.concluding.specs.Concluding.{Concludes, Branched}
 use Rattle.standing.specs.Standing.{Well, WellAll}
 use Rattle.intern.specs.declared.Here.{Here}
-use Rattle.intern.specs.Steps.{ReadStep, KidsStep, Entered, read_of, kids_done, refused_read}
+use Rattle.intern.specs.Steps.{KidsStep, Entered, kids_done}
 use Rattle.intern.specs.declared.Selected.{Selected}
 use Rattle.intern.specs.declared.Selected.TheVariants.{Done, Children}
 use Rattle.intern.specs.declared.Inside.{Inside}
@@ -57,18 +57,13 @@ StandsAt bs ws t st i at = Stands bs ws t st i (depth (tree_at bs i)) at
 
 -- ---- answers
 
--- reading so many records from i on comes to record j, where `rest` starts
-abbrev pub Past : List ℕ → ℕ → ℕ → Trees → ℕ → Type 0
-Past bs i n rest j = (j ≡ i + n) × (trees_from bs j ≡ rest)
-
 -- record i's subtree is read at `at`, and o is the answer
-pub record Reads (bs ws : List ℕ) (t : Tables) (st : State) (i : ℕ) (at : Here) (o : Out) (ws' : List ℕ) (r : ReadStep)
+pub record Reads (bs ws : List ℕ) (t : Tables) (st : State) (i : ℕ) (at : Here) (o : Out) (ws' : List ℕ) (r : Step)
     : Type 0 where
-  pub rep : Rep bs ws' r.step.st
-  pub opened : Open t r.step.st.entries
-  pub is : out_of bs ws' t r.step ≡ o
-  pub past : IsOk r.step.symbol → Past bs i (size (tree_at bs i)) (rest_at bs i) r.next
-  pub kept : Kept at ws ws' st r.step.st
+  pub rep : Rep bs ws' r.st
+  pub opened : Open t r.st.entries
+  pub is : out_of bs ws' t r ≡ o
+  pub kept : Kept at ws ws' st r.st
 
 -- ---- a record
 
@@ -109,11 +104,11 @@ WellKids bs ws t st i at =
     (abs_of bs ws t st) 1
 
 -- record i is read, whatever it is; as a lambda
-abbrev pub RecordRead : List ℕ → List ℕ → Tables → State → ℕ → Here → List ℕ → ReadStep → Type 0
+abbrev pub RecordRead : List ℕ → List ℕ → Tables → State → ℕ → Here → List ℕ → Step → Type 0
 RecordRead bs ws t st i at ws' r =
     Reads bs ws t st i at (intern.intern (tree_at bs i) i at.scope (env_of ws at.top) (abs_of bs ws t st)) ws' r
 
-abbrev pub LambdaRead : List ℕ → List ℕ → Tables → State → ℕ → Here → List ℕ → ReadStep → Type 0
+abbrev pub LambdaRead : List ℕ → List ℕ → Tables → State → ℕ → Here → List ℕ → Step → Type 0
 LambdaRead bs ws t st i at ws' r =
     Reads bs ws t st i at
     (intern_func i at.scope (rec_at bs i) (env_of ws at.top) (kids_read bs i) (abs_of bs ws t st)) ws' r
@@ -144,14 +139,10 @@ pub record Completable (bs ws : List ℕ) (t : Tables) (i : ℕ) (at : Here) (k 
   pub opened : Open t k.st.entries
   pub branched : Branched k.branches
   pub concludes : IsOk k.outcome → Concluding bs ws i at k
-  pub past : IsOk k.outcome → Past bs i (size (tree_at bs i)) (rest_at bs i) k.next
 
--- the answer for it, and it is completed
+-- the answer for it
 abbrev pub completes : List ℕ → List ℕ → Tables → ℕ → Here → KidsStep → Out
 completes bs ws t i at k = concluded i at.scope (rec_at bs i) (kids_of bs ws t at.held (row_at bs i).kids k)
-
-abbrev pub Completed : List ℕ → List ℕ → Tables → ℕ → Here → KidsStep → List ℕ → ReadStep → Type 0
-Completed bs ws t i at k ws' r = Reads bs ws t k.st i at (completes bs ws t i at k) ws' r
 
 -- record i, of which o is the answer, is still to be completed
 pub record Incomplete (bs ws : List ℕ) (t : Tables) (st : State) (i : ℕ) (at : Here) (o : Out) (ws' : List ℕ) (k : KidsStep)
@@ -163,9 +154,9 @@ pub record Incomplete (bs ws : List ℕ) (t : Tables) (st : State) (i : ℕ) (at
 
 -- record i is done, or still to be completed; or it is refused
 abbrev pub ReadsOn : List ℕ → List ℕ → Tables → State → ℕ → Here → Out → List ℕ → State → Result Selected Refusal → Type 0
-ReadsOn bs ws t st i at o ws' st' (Ok (Done r)) = Reads bs ws t st i at o ws' (read_of st' (Ok r))
-ReadsOn bs ws t st i at o ws' st' (Ok (Children k)) = Incomplete bs ws t st i at o ws' (kids_done st' k)
-ReadsOn bs ws t st i at o ws' st' (Err e) = Reads bs ws t st i at o ws' (refused_read st' e)
+ReadsOn bs ws t st i at o ws' st' (Ok (Done s)) = Reads bs ws t st i at o ws' (given st' s)
+ReadsOn bs ws t st i at o ws' st' (Ok (Children b)) = Incomplete bs ws t st i at o ws' (kids_done st' b)
+ReadsOn bs ws t st i at o ws' st' (Err e) = Reads bs ws t st i at o ws' (step_of st' (Err e))
 
 -- a SelectField whose input is read
 abbrev pub SelectedRead : List ℕ → List ℕ → Tables → State → ℕ → Here → List ℕ → State → Result Selected Refusal → Type 0
@@ -182,7 +173,7 @@ pub record InThunk (bs ws : List ℕ) (t : Tables) (st : State) (i : ℕ) (at : 
   pub few : st.scopes ≤ 2048
   pub well : Well (tree_at bs i) false st.scopes (env_of ws at.top) (open_thunk at.scope (abs_of bs ws t st))
 
-abbrev pub ThunkRead : List ℕ → List ℕ → Tables → State → ℕ → Here → List ℕ → ReadStep → Type 0
+abbrev pub ThunkRead : List ℕ → List ℕ → Tables → State → ℕ → Here → List ℕ → Step → Type 0
 ThunkRead bs ws t st i at ws' r =
     Reads bs ws t st i at
     (intern_scoped true at.scope (λ c s. intern.intern (tree_at bs i) i c (env_of ws at.top) s) (abs_of bs ws t st))
@@ -215,7 +206,6 @@ pub record ReadsAll (bs ws : List ℕ) (t : Tables) (st : State) (i count op : �
   pub opened : Open t k.st.entries
   pub is : kids_of bs ws' t at.held count k
       ≡ intern_all (trees bs i count) op 0 i at.scope (env_of ws at.top) (abs_of bs ws t st)
-  pub past : IsOk k.outcome → Past bs i (sizes (trees bs i count)) (drop_t count (trees_from bs i)) k.next
   pub pending : IsOk k.outcome → at.held + count ≤ PENDING.size
   pub branched : Branched k.branches
   pub kept : Kept at ws ws' st k.st

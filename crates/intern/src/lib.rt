@@ -16,9 +16,9 @@ ghost use Rattle.interner.specs.State.{Rep};
 ghost use Rattle.concluding.specs.Concluding.{Branched};
 ghost use Rattle.intern.specs.Intern.{StandsAt, LegibleAt, CountedAt, WellKids, InThunk, Operands, Concluding};
 ghost use Rattle.intern.specs.Intern.{RecordRead, LambdaRead, SelectedRead, ThunkRead, ReadsAll};
-ghost use Rattle.intern.specs.Intern.{Enters, Concluded, Completable, Completed, Interned};
+ghost use Rattle.intern.specs.Intern.{Enters, Concluded, Interned};
 ghost use Rattle.interner.specs.Step.{step_of};
-ghost use Rattle.intern.specs.Steps.{read_of, kids_step, kids_done, entered_of};
+ghost use Rattle.intern.specs.Steps.{kids_step, kids_done, entered_of};
 
 use codec::Accepted;
 use interner::{State, Step};
@@ -36,20 +36,6 @@ pub struct Here {
     pub top: usize,
 }
 
-// A record's symbol, and the record after its subtree.
-#[derive(Clone, Copy)]
-pub struct Read {
-    pub symbol: u32,
-    pub next: usize,
-}
-
-// Children read: their symbols are pending; the scopes of the thunks among them; the record after them.
-#[derive(Clone, Copy)]
-pub struct Kids {
-    pub branches: Branches,
-    pub next: usize,
-}
-
 // Inside a lambda: where its body is read, and the first of the arguments.
 #[derive(Clone, Copy)]
 pub struct Inside {
@@ -57,11 +43,12 @@ pub struct Inside {
     pub first: u32,
 }
 
-// A record that is done; or its children, read for the last time, with the record still to be completed.
+// The symbol of a record that is done; or the scopes of the thunks among its children, which are read for the last time,
+// with the record still to be completed.
 #[derive(Clone, Copy)]
 pub enum Selected {
-    Done(Read),
-    Children(Kids),
+    Done(u32),
+    Children(Branches),
 }
 
 // ---- a lambda's body
@@ -100,23 +87,23 @@ fn enter_lambda(
 
 // ---- what a record gives
 
-// The symbol of record i, whose children are read: of a definition and a block that of the last.
+// The symbol of record i, whose children are read, with thunks in scopes b: of a definition and a block that of the last.
+// Rules out: the symbol of a child that is not the last.
 fn conclude(
     forest: &Formed,
     work: &mut [u32],
     t: Tables,
     i: usize,
     at: Here,
-    k: Kids,
+    b: Branches,
     st: &mut State,
 ) -> Result<u32, Refusal>
     requires rep { Rep forest.now.laid work.old st.old }
     requires fact { Open t st.old.entries }
-    requires concluding { Concluding forest.now.laid work.old i at (kids_done st.old k) }
-    requires branched { Branched k.branches }
-    ensures { Concluded forest.now.laid work.old t i at (kids_done st.old k) work.new (step_of st.new result) }
+    requires concluding { Concluding forest.now.laid work.old i at (kids_done st.old b) }
+    requires branched { Branched b }
+    ensures { Concluded forest.now.laid work.old t i at (kids_done st.old b) work.new (step_of st.new result) }
 {
-    let b = k.branches;
     let held = at.held;
     let cur = at.scope;
     let count = forest.laid.kids(i);
@@ -126,44 +113,24 @@ fn conclude(
     }
 }
 
-// Record i, whose children are read. Rules out: the symbol of a child that is not the last; i + 1 as the next.
-fn complete(
-    forest: &Formed,
-    work: &mut [u32],
-    t: Tables,
-    i: usize,
-    at: Here,
-    k: Kids,
-    st: &mut State,
-) -> Result<Read, Refusal>
-    requires completable { Completable forest.now.laid work.old t i at (kids_done st.old k) }
-    ensures { Completed forest.now.laid work.old t i at (kids_done st.old k) work.new (read_of st.new result) }
-{
-    let symbol = conclude(forest, work, t, i, at, k, st)?;
-    Ok(Read {
-        symbol,
-        next: k.next,
-    })
-}
-
 // ---- the walk
 
-// Record i's subtree. Rules out: a reading that is not counted; the record after i's first child.
+// Record i's subtree. Rules out: a reading that is not counted; a 2049th reading.
 #[inline(always)]
 #[cycle(interning)]
 #[tactic(auto, using(walk::proofs::Bridge::records_few))]
 fn subtree(
-    forest: &Formed,
+    forest: &Accepted,
     work: &mut [u32],
     t: Tables,
     i: usize,
     at: Here,
     st: &mut State,
-) -> Result<Read, Refusal>
-    requires i_bound { i < record_count forest.now.laid }
-    requires stands_at { StandsAt forest.now.laid work.old t st.old i at }
-    requires legible_at { LegibleAt forest.now.laid work.old t st.old i at }
-    ensures { RecordRead forest.now.laid work.old t st.old i at work.new (read_of st.new result) }
+) -> Result<u32, Refusal>
+    requires i_bound { i < record_count forest.now.formed.laid }
+    requires stands_at { StandsAt forest.now.formed.laid work.old t st.old i at }
+    requires legible_at { LegibleAt forest.now.formed.laid work.old t st.old i at }
+    ensures { RecordRead forest.now.formed.laid work.old t st.old i at work.new (step_of st.new result) }
 {
     if st.readings == 2048 {
         return Err(Refusal {
@@ -172,30 +139,26 @@ fn subtree(
         });
     }
     opening::count_reading(st);
-    let shape = forest.laid.shape(i);
+    let shape = forest.formed.laid.shape(i);
     if shape == VAL_USE {
         let top = at.top;
-        let symbol = concluding::value_use(forest, work, i, top);
-        return Ok(Read {
-            symbol,
-            next: i + 1,
-        });
+        return Ok(concluding::value_use(&forest.formed, work, i, top));
     }
     if shape == FUNC_VALUE {
         return lambda(forest, work, t, i, at, st);
     }
-    let count = forest.laid.kids(i);
+    let count = forest.formed.laid.kids(i);
     let selected = if shape == SELECT_FIELD {
         field(forest, work, t, i, at, st)?
     } else if count == 0 {
-        Selected::Children(small::unread(i + 1))
+        Selected::Children(Branches::Zero)
     } else {
-        let op = forest.laid.opcode(i);
+        let op = forest.formed.laid.opcode(i);
         Selected::Children(operands(forest, work, t, i + 1, count, op, at, st)?)
     };
     match selected {
-        Selected::Done(r) => Ok(r),
-        Selected::Children(k) => complete(forest, work, t, i, at, k, st),
+        Selected::Done(symbol) => Ok(symbol),
+        Selected::Children(b) => conclude(&forest.formed, work, t, i, at, b, st),
     }
 }
 
@@ -203,24 +166,24 @@ fn subtree(
 #[cycle(interning)]
 #[tactic(auto, using(walk::proofs::Bridge::records_few))]
 fn lambda(
-    forest: &Formed,
+    forest: &Accepted,
     work: &mut [u32],
     t: Tables,
     i: usize,
     at: Here,
     st: &mut State,
-) -> Result<Read, Refusal>
-    requires i_bound { (i < record_count forest.now.laid) × ((rec_at forest.now.laid i).shape ≡ 12) }
-    requires stands_at { StandsAt forest.now.laid work.old t st.old i at }
-    requires counted_at { CountedAt forest.now.laid work.old t st.old i at }
-    ensures { LambdaRead forest.now.laid work.old t st.old i at work.new (read_of st.new result) }
+) -> Result<u32, Refusal>
+    requires i_bound { (i < record_count forest.now.formed.laid) × ((rec_at forest.now.formed.laid i).shape ≡ 12) }
+    requires stands_at { StandsAt forest.now.formed.laid work.old t st.old i at }
+    requires counted_at { CountedAt forest.now.formed.laid work.old t st.old i at }
+    ensures { LambdaRead forest.now.formed.laid work.old t st.old i at work.new (step_of st.new result) }
 {
-    let inside = enter_lambda(forest, work, t, i, at, st)?;
+    let inside = enter_lambda(&forest.formed, work, t, i, at, st)?;
     let inner = inside.at;
-    let op = forest.laid.opcode(i);
-    let k = operands(forest, work, t, i + 1, 1, op, inner, st)?;
-    let symbol = concluding::lambda(
-        forest,
+    let op = forest.formed.laid.opcode(i);
+    operands(forest, work, t, i + 1, 1, op, inner, st)?;
+    concluding::lambda(
+        &forest.formed,
         work,
         t,
         st,
@@ -229,11 +192,7 @@ fn lambda(
         at.held,
         inside.first,
         inner.scope,
-    )?;
-    Ok(Read {
-        symbol,
-        next: k.next,
-    })
+    )
 }
 
 // A SelectField. A Tuple's input is read again; where that gives the same, its readings are only counted again. Rules
@@ -241,44 +200,43 @@ fn lambda(
 #[cycle(interning)]
 #[tactic(auto, using(walk::proofs::Bridge::records_few))]
 fn field(
-    forest: &Formed,
+    forest: &Accepted,
     work: &mut [u32],
     t: Tables,
     i: usize,
     at: Here,
     st: &mut State,
 ) -> Result<Selected, Refusal>
-    requires i_bound { i < record_count forest.now.laid }
-    requires i_value { ((rec_at forest.now.laid i).shape ≡ SelectField) × ((rec_at forest.now.laid i).opcode ≡ SelectFieldOp) }
-    requires stands_at { StandsAt forest.now.laid work.old t st.old i at }
-    requires well_kids { WellKids forest.now.laid work.old t st.old i at }
-    ensures { SelectedRead forest.now.laid work.old t st.old i at work.new st.new result }
+    requires i_bound { i < record_count forest.now.formed.laid }
+    requires i_value { ((rec_at forest.now.formed.laid i).shape ≡ SelectField) × ((rec_at forest.now.formed.laid i).opcode ≡ SelectFieldOp) }
+    requires stands_at { StandsAt forest.now.formed.laid work.old t st.old i at }
+    requires well_kids { WellKids forest.now.formed.laid work.old t st.old i at }
+    ensures { SelectedRead forest.now.formed.laid work.old t st.old i at work.new st.new result }
 {
     let before = *st;
-    let op = forest.laid.opcode(i);
-    let k = operands(forest, work, t, i + 1, 1, op, at, st)?;
+    let op = forest.formed.laid.opcode(i);
+    let b = operands(forest, work, t, i + 1, 1, op, at, st)?;
     let held = at.held;
-    if !concluding::reads_again(forest, work, i, held) {
-        let symbol = concluding::field(forest, work, t, st, i, at.scope, held)?;
-        return Ok(Selected::Done(Read {
-            symbol,
-            next: k.next,
-        }));
+    if !concluding::reads_again(&forest.formed, work, i, held) {
+        let symbol = concluding::field(&forest.formed, work, t, st, i, at.scope, held)?;
+        return Ok(Selected::Done(symbol));
     }
     if small::repeats(before, *st) {
         small::count_again(before, st);
-        return Ok(Selected::Children(k));
+        return Ok(Selected::Children(b));
     }
     let again = operands(forest, work, t, i + 1, 1, op, at, st)?;
     Ok(Selected::Children(again))
 }
 
-// The operands of an opcode, `count` of them from record i on. `subtree` is called here and nowhere else, and put in
-// here (`inline`): a call of its own would copy the tables once more. Rules out: a symbol stored over an older pending
-// one; a definition in force in its own value; the scope of a thunk not noted.
+// The operands of an opcode, `count` of them from record i on: each next one is read where the subtree of the one before
+// ends. Gives the scopes of the thunks among them; their symbols are pending. `subtree` is called here and nowhere else,
+// and put in here (`inline`): a call of its own would copy the tables once more. Rules out: a symbol stored over an
+// older pending one; a definition in force in its own value; the scope of a thunk not noted; the next operand read from
+// the record after the root of the one before.
 #[cycle(interning)]
 fn operands(
-    forest: &Formed,
+    forest: &Accepted,
     work: &mut [u32],
     t: Tables,
     i: usize,
@@ -286,9 +244,9 @@ fn operands(
     op: u8,
     at: Here,
     st: &mut State,
-) -> Result<Kids, Refusal>
-    requires operands { Operands forest.now.laid work.old t st.old i count op at }
-    ensures { ReadsAll forest.now.laid work.old t st.old i count op at work.new (kids_step st.new result) }
+) -> Result<Branches, Refusal>
+    requires operands { Operands forest.now.formed.laid work.old t st.old i count op at }
+    ensures { ReadsAll forest.now.formed.laid work.old t st.old i count op at work.new (kids_step st.new result) }
 {
     let held = at.held;
     let mut branches = Branches::Zero;
@@ -302,13 +260,12 @@ fn operands(
         } else {
             subtree(forest, work, t, next, here, st)
         };
-        let child = r?;
-        let symbol = child.symbol;
+        let symbol = r?;
         work[regions::PENDING + held + j] = symbol;
-        top = bindings::bind_def(forest, work, next, top, symbol);
-        next = child.next;
+        top = bindings::bind_def(&forest.formed, work, next, top, symbol);
+        next = usize::from(forest.ends[next]);
     }
-    Ok(Kids { branches, next })
+    Ok(branches)
 }
 
 // A child in a thunk of its own, read as the one operand of nothing: opcode 0 has no thunks. Rules out: a thunk's table
@@ -316,16 +273,16 @@ fn operands(
 #[cycle(interning)]
 #[tactic(auto, using(walk::proofs::Bridge::records_few))]
 fn in_thunk(
-    forest: &Formed,
+    forest: &Accepted,
     work: &mut [u32],
     t: Tables,
     i: usize,
     at: Here,
     st: &mut State,
-) -> Result<Read, Refusal>
-    requires i_bound { i < record_count forest.now.laid }
-    requires in_thunk { InThunk forest.now.laid work.old t st.old i at }
-    ensures { ThunkRead forest.now.laid work.old t st.old i at work.new (read_of st.new result) }
+) -> Result<u32, Refusal>
+    requires i_bound { i < record_count forest.now.formed.laid }
+    requires in_thunk { InThunk forest.now.formed.laid work.old t st.old i at }
+    ensures { ThunkRead forest.now.formed.laid work.old t st.old i at work.new (step_of st.new result) }
 {
     let scope = st.scopes as usize;
     let top = st.entries;
@@ -341,11 +298,8 @@ fn in_thunk(
     let r = operands(forest, work, inner, i, 1, 0, own, st);
     // after a refusal too
     opening::close_thunk(st, top);
-    let k = r?;
-    Ok(Read {
-        symbol: work[regions::PENDING + held],
-        next: k.next,
-    })
+    r?;
+    Ok(work[regions::PENDING + held])
 }
 
 // ---- a forest
@@ -360,16 +314,15 @@ pub fn forest(forest: &Accepted, work: &mut [u32]) -> Step
     requires { WORDS ≤ length work.old }
     ensures { Interned forest.now.formed.laid work.old work.new result }
 {
-    let formed = &forest.formed;
     let mut st = interner::start(work);
-    let count = formed.laid.tree_count();
+    let count = forest.formed.laid.tree_count();
     let at = Here {
         scope: 0,
         held: 0,
         top: 0,
     };
     let t = Tables::new();
-    let symbol = match operands(formed, work, t, 0, count, 0, at, &mut st) {
+    let symbol = match operands(forest, work, t, 0, count, 0, at, &mut st) {
         Ok(_) => Ok(concluding::last(work, 0, count)),
         Err(e) => Err(e),
     };

@@ -1,11 +1,10 @@
-// The small steps of the walk: where a child is read, thunks, children read, and counted again, a lambda's first
-// argument.
+// The small steps of the walk: where a child is read, thunks, children counted again, a lambda's first argument.
 ghost use Rattle.std.specs.Prelude.{◌≡◌, ◌+◌, ◌-◌, ◌<◌, ◌≤◌};
 ghost use Rattle.laws.specs.Range.{range};
 ghost use Rattle.opening.specs.Opening.{with_readings};
-ghost use Rattle.intern.specs.Steps.{child_at, one_more, no_kids, repeats};
+ghost use Rattle.intern.specs.Steps.{child_at, one_more, repeats};
 
-use crate::{Here, Kids};
+use crate::Here;
 use interner::State;
 use key::Branches;
 
@@ -31,16 +30,6 @@ pub fn one_more(b: Branches, scope: usize) -> Branches
     match b {
         Branches::Zero => Branches::One(scope),
         Branches::One(first) | Branches::Two(first, _) => Branches::Two(first, scope),
-    }
-}
-
-// No child is read yet; the first is record i. Rules out: a record after it; a thunk.
-pub fn unread(i: usize) -> Kids
-    ensures { result ≡ no_kids i }
-{
-    Kids {
-        branches: Branches::Zero,
-        next: i,
     }
 }
 

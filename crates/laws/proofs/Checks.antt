@@ -13,7 +13,7 @@ use Prim.Native.Nat.{ℕ}
 use Rattle.model.specs.Lists.{is_in, twice}
 use Rattle.model.specs.Answer.{Answer, refused, good, unless, checked}
 use Rattle.model.specs.Conditions.{Before}
-use Rattle.laws.proofs.Apart.{none_some, refused_good, good_inj, refused_parts}
+use Rattle.laws.proofs.Apart.{none_some, refused_good, good_inj}
 use Rattle.laws.specs.Members.{In}
 use Rattle.laws.proofs.Members.{is_in_true, in_is_in, is_in_false, or_neither}
 

@@ -27,6 +27,7 @@ pub mod ArgLists
 pub mod Header
 pub mod Trees
 pub mod Rows
+pub mod Extents
 pub mod Lengths
 pub mod Slots
 pub mod Defining

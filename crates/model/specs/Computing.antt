@@ -40,6 +40,8 @@ use Rattle.model.specs.Template.{is_parameter, definitions}
 use Rattle.model.specs.TemplateLine.{is_of, stands_at, value_of, has_another, two_values, parameters_below, parameters}
 use Rattle.model.specs.TemplateLine.{verdict, line_of, template_line}
 use Rattle.model.specs.Failing.{value_in, skipped, found_from, applied, eval_kind, eval}
+use Rattle.model.specs.Nesting.{extents}
+use Rattle.model.specs.Ends.{ends_from, ends_of, entries_of, checking, told}
 
 unfoldable pub bytes_and-trees : Unit {0}
 unfolding is_in any_in twice count same add union without last first u16 u32 put16 put32 ◌>>=◌ unless guard checked
@@ -93,6 +95,10 @@ filling = tt
 unfoldable pub evaluating : Unit {0}
 unfolding value_in skipped found_from applied eval_kind eval
 evaluating = tt
+
+unfoldable pub ending : Unit {0}
+unfolding extents ends_from ends_of entries_of checking told
+ending = tt
 
 unfoldable pub computing : Unit {0}
 unfolding bytes_and-trees acceptance unfolding_a_tree interning materializing calling listing showing filling

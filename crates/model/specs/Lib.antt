@@ -23,6 +23,7 @@ pub mod Nesting
 pub mod Trace
 pub mod Conditions
 pub mod Demand3
+pub mod Ends
 pub mod Parameters
 pub mod Template
 pub mod Failing
@@ -35,3 +36,4 @@ pub mod Examples
 pub mod SheetExamples
 pub mod TemplateExamples
 pub mod FailingExamples
+pub mod EndsExamples

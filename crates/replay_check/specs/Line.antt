@@ -1,18 +1,28 @@
--- What the program prints. In order: a forest's line, which is what checks 2 to 10 say of it; a row of the list; the lines
--- of its rows.
+-- What the program prints. In order: a forest's line, which is what checks 2 to 10 say of it and where its subtrees end; a
+-- row of the list; the lines of its rows.
 -- Assumes nothing.
-use Rattle.std.specs.Prelude.{◌≡◌, ℕ, zero, suc, ◌+◌, Bool, true, false, ◌&&◌, List, [], ◌++◌, leb, length, take, drop, Option, None, Some}
+use Rattle.std.specs.Prelude.{◌≡◌, ℕ, zero, suc, ◌+◌, Bool, true, false, ◌&&◌, List, [], ◌∷◌, ◌++◌, leb, length, take, drop, Option, None, Some}
 use Rattle.std.specs.Io.KnownBytes.{Appends}
 use Rattle.model.specs.Bytes.{u32}
 use Rattle.model.specs.Answer.{Answer, refused, good}
 use Rattle.model.specs.Tree.{Trees}
 use Rattle.model.specs.Accept.{accept}
+use Rattle.model.specs.Ends.{ends_of}
 use Rattle.model.specs.Text.{text}
-use Rattle.model.specs.Lister.{refusal}
+use Rattle.model.specs.Lister.{numeral, refusal}
+
+-- numbers in decimal, each after a space
+unfoldable pub spaced : List ℕ → List ℕ
+spaced [] = []
+spaced (n ∷ ns) = text " " ++ numeral n ++ spaced ns
+
+-- of an accepted forest, whose records' subtrees end there
+unfoldable pub accepted : List ℕ → List ℕ
+accepted ends = text "accepted" ++ spaced ends ++ text "\n"
 
 unfoldable pub line_of : Answer Trees → List ℕ
 line_of (refused n p) = refusal n p
-line_of (good ts) = text "accepted\n"
+line_of (good ts) = accepted (ends_of (good ts))
 
 abbrev pub line : List ℕ → List ℕ
 line bs = line_of (accept bs)

@@ -24,8 +24,9 @@ fn room() -> [u8; 262144]
 fn shown(forest: &[u8], work: &mut [u32; 3840], text: &mut [u8]) -> usize
     ensures { Clipped text.old 0 (model.sheet forest.now) text.new result }
 {
-    match codec::check(forest, work) {
-        Ok(accepted) => sheet::write(&accepted.formed, text),
+    let mut ends = [0u16; 256];
+    match codec::check(forest, work, &mut ends) {
+        Ok(formed) => sheet::write(&formed, text),
         Err(refused) => sheet::write_refusal(refused.check.number(), refused.place as usize, text),
     }
 }

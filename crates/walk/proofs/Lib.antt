@@ -6,4 +6,5 @@ pub mod Tests
 pub mod Checks
 pub mod Any
 pub mod Steps
+pub mod Ends
 pub mod Walking

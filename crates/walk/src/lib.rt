@@ -1,6 +1,6 @@
 // Checks 7 to 10: one walk over a forest's records, with a test for each check, and one for all four. A record is
 // followed by its children's subtrees, in order: the walk of a subtree gives the record after it, or the first that
-// offends. The ids in force stand in work words.
+// offends. So it also knows where each subtree ends, and notes it. The ids in force stand in work words.
 // In order: well-formed forests; tests, and where a record stands; ids in force; what a record binds; the tests of one
 // record; the walk.
 #![tactic(auto)]
@@ -197,19 +197,21 @@ fn child(at: Context, left: usize, top: usize) -> Context
 }
 
 // The walk of record i's subtree: the record after it, or the first that offends. The words of IDS from top on held the
-// ids in force below it, and may hold anything; the others are as they were.
-// Rules out: a fault of a later record where this one offends; the record after i's first child.
+// ids in force below it, and may hold anything; the others are as they were. Of the records below i it is noted where
+// their subtrees end; where one offends, entries from i + 1 on may hold anything.
+// Rules out: a fault of a later record where this one offends; the record after i's first child; an entry before i's.
 #[cycle(subtree_subtrees)]
 #[tactic(auto, using(crate::proofs::Walking::walking))]
 fn subtree(
     forest: &Formed,
     work: &mut [u32],
+    ends: &mut [u16; 256],
     test: Test,
     i: usize,
     at: Context,
 ) -> Result<usize, usize>
     requires i_bound { (i < record_count forest.now.laid) × (end IDS ≤ length work.old) × CanStand i at }
-    ensures { Walked forest.now.laid test i at work.old work.new result }
+    ensures { Walked forest.now.laid test i at work.old work.new ends.old ends.new result }
 {
     let end = enter(forest, work, i, at.top);
     if offends(forest, work, test, i, at, end) {
@@ -224,28 +226,31 @@ fn subtree(
         def: forest.laid.shape(i) == BLOCK_VALUE,
         top: end,
     };
-    subtrees(forest, work, test, i + 1, count, inner)
+    subtrees(forest, work, ends, test, i + 1, count, inner)
 }
 
 // The walk of `count` trees from record i on: the record after them, or the first that offends; of words as `subtree`.
-// Rules out: an id in force past its block's end; a fault in a tree past the last.
+// Of their records it is noted where their subtrees end, of the trees themselves too.
+// Rules out: an id in force past its block's end; a fault in a tree past the last; the last tree's end for each of them.
 #[cycle(subtree_subtrees)]
 #[tactic(auto, using(crate::proofs::Walking::walking))]
 fn subtrees(
     forest: &Formed,
     work: &mut [u32],
+    ends: &mut [u16; 256],
     test: Test,
     i: usize,
     count: usize,
     at: Context,
 ) -> Result<usize, usize>
     requires count_bound { (count ≤ many (trees_from forest.now.laid i)) × (end IDS ≤ length work.old) × CanStand i at }
-    ensures { WalkedIn forest.now.laid test i count at work.old work.new result }
+    ensures { WalkedIn forest.now.laid test i count at work.old work.new ends.old ends.new result }
 {
     let mut j = i;
     let mut top = at.top;
     for left in (0..count).rev() {
-        let next = subtree(forest, work, test, j, child(at, left, top))?;
+        let next = subtree(forest, work, ends, test, j, child(at, left, top))?;
+        ends[j] = next as u16;
         top = define(forest, work, j, top);
         j = next;
     }
@@ -254,17 +259,19 @@ fn subtrees(
 
 // Where a test of a forest fails: check 7, 8, 9 or 10, or all four at once, of which a place says only that one of them
 // fails. The words of IDS held the ids in force and may hold anything, whatever the answer; the others are as they
-// were.
-// Rules out: the place counted in one tree and not in the forest; a check of the first tree only.
+// were. Where the test fails nowhere, the entries of all records say where their subtrees end; entries past the last
+// record are as they were.
+// Rules out: the place counted in one tree and not in the forest; a check of the first tree only; an end counted from
+// its own tree's first record.
 #[tactic(auto, using(crate::proofs::Walking::walking))]
-pub fn trees(forest: &Formed, work: &mut [u32], test: Test) -> Option<usize>
+pub fn trees(forest: &Formed, work: &mut [u32], ends: &mut [u16; 256], test: Test) -> Option<usize>
     requires end_in_bounds { end IDS ≤ length work.old }
-    ensures { Checked forest.now.laid test work.old work.new result }
+    ensures { Checked forest.now.laid test work.old work.new ends.old ends.new result }
 {
     let start = Context {
         depth: 1,
         def: false,
         top: 0,
     };
-    subtrees(forest, work, test, 0, forest.laid.tree_count(), start).err()
+    subtrees(forest, work, ends, test, 0, forest.laid.tree_count(), start).err()
 }

@@ -5,11 +5,11 @@ use mathlib.Core.Path.{◌≡◌, refl, sym, ap, ◌∙◌}
 use Rattle.walk.proofs.Bridge.{records_few}
 use Rattle.std.specs.Prelude.{Ok, Err}
 use Rattle.std.proofs.lemmas.Result.{err_from_is_err_and}
-use Rattle.interner.specs.Step.{given}
-use Rattle.intern.proofs.Gives.{Selecting, selecting_given, field_operands, field_fails, field_selects}
-use Rattle.intern.proofs.Gives.{field_input, field_once, field_done, recount_asks, recount_done, again_operands}
-use Rattle.intern.proofs.Gives.{again_done}
-use Rattle.intern.proofs.Thunks.{thunk_room, thunk_operands, thunk_done}
+use Rattle.interner.specs.Step.{given, step_of}
+use Rattle.intern.proofs.Gives.{Selecting, selecting_given, field_operands, field_fails, field_selects, field_input}
+use Rattle.intern.proofs.Gives.{field_once, field_done, recount_asks, recount_done, again_operands, again_done}
+use Rattle.intern.proofs.Gives.{children-operands, children-read, children_none, incomplete_reads, incomplete_refused}
+use Rattle.intern.proofs.Thunks.{thunk_room, thunk_operands, thunk_done, child_plainly, child_thunked}
 use Rattle.intern.proofs.Bodies.{Lambda, lambda_given}
 use Rattle.intern.proofs.Lambdas.{lambda_unmade, lambda_operands, lambda_refused, lambda_asks, lambda_done}
 use lib.ListN.{length-set}
@@ -17,18 +17,13 @@ use Rattle.model.specs.Intern.{intern_scoped, intern}
 use Rattle.walk.specs.Walk.{tree_at}
 use Rattle.bindings.specs.Bindings.{env_of}
 use Rattle.interner.specs.State.{abs_of}
-use Rattle.intern.specs.Intern.{Reads}
-use Rattle.intern.proofs.Reading.{reading_end, reading_there, reading_room, reading_plain, reading_thunk}
+use Rattle.intern.specs.Intern.{Reads, ReadsOn}
+use Rattle.intern.proofs.Reading.{reading_end, reading_there, reading_low, reading_room, reading_plain, reading_thunk}
 use Rattle.intern.proofs.Reading.{reading_refused, reading_turn, loop_start}
-use Rattle.intern.proofs.Thunks.{child_plainly, child_thunked}
-use Rattle.intern.specs.Intern.{ReadsOn}
-use Rattle.key.specs.declared.Branches.{Branches}
-use Rattle.intern.specs.Steps.{all_read, noted, read_of, kids_done}
-use Rattle.intern.proofs.Cases.{Counts, record_full, counted_given}
-use Rattle.intern.proofs.Cases.{counted_parent, counted_opcode, counted_plain, record_lambda, record_field, reads_on_met}
-use Rattle.intern.proofs.Cases.{record_other, record_use}
-use Rattle.intern.proofs.Gives.{children-operands, children-read, children_none, incomplete_reads, incomplete_refused}
-use Rattle.intern.proofs.Records.{Parent, reads_err}
+use Rattle.intern.specs.Steps.{noted, kids_done}
+use Rattle.intern.proofs.Cases.{Counts, record_full, counted_given, counted_parent, counted_opcode, counted_plain}
+use Rattle.intern.proofs.Cases.{record_lambda, record_field, reads_on_met, record_other, record_use}
+use Rattle.intern.proofs.Records.{Parent}
 use Rattle.intern.proofs.Weight.{weight_between, weight_thunked, weight_none}
 use Rattle.intern.proofs.+interning.Goals as goal
 use Rattle.intern.proofs.+interning.Goals.{lambda-Start, field-Start}
@@ -40,26 +35,26 @@ use Rattle.intern.proofs.+interning.Goals.{subtree-else-shape-eq-SELECT_FIELD+th
 use Rattle.intern.proofs.+interning.Goals.{subtree-else-shape-eq-SELECT_FIELD+else-count-eq0+in_ok-operands}
 
 -- what was asked of `lambda` and of `field`
-lambda_asked : (t : ℕ) (c : lambda-Start t) → let a = c.args in Lambda a.forest.now.laid a.work.now a.t a.st.now a.i a.at
-lambda_asked t c = let p = c.requires in lambda_given c.args.forest.now.formed p.i_bound p.stands_at p.counted_at
+lambda_asked : (t : ℕ) (c : lambda-Start t) → let a = c.args in Lambda a.forest.now.formed.laid a.work.now a.t a.st.now a.i a.at
+lambda_asked t c = let p = c.requires in lambda_given c.args.forest.now.formed.formed p.i_bound p.stands_at p.counted_at
 
-field_asked : (t : ℕ) (c : field-Start t) → let a = c.args in Selecting a.forest.now.laid a.work.now a.t a.st.now a.i a.at
-field_asked t c = let p = c.requires in selecting_given c.args.forest.now.formed p.i_bound p.i_value p.stands_at p.well_kids
+field_asked : (t : ℕ) (c : field-Start t) → let a = c.args in Selecting a.forest.now.formed.laid a.work.now a.t a.st.now a.i a.at
+field_asked t c = let p = c.requires in selecting_given c.args.forest.now.formed.formed p.i_bound p.i_value p.stands_at p.well_kids
 
 -- where the reading is counted
 counted : (t : ℕ) (c : subtree-After-count_reading t) →
-    let a = c.args in Counts a.forest.now.laid a.work.now a.t a.st.now a.i a.at c.count_reading.new.st
+    let a = c.args in Counts a.forest.now.formed.laid a.work.now a.t a.st.now a.i a.at c.count_reading.new.st
 counted t c =
     let p = c.requires in
-    counted_given p.stands_at c.if-st-eq2048.false c.count_reading.ensures c.args.forest.now.formed p.i_bound p.legible_at
+    counted_given p.stands_at c.if-st-eq2048.false c.count_reading.ensures c.args.forest.now.formed.formed p.i_bound p.legible_at
 
 -- where the record is no lambda: its children may be read
 parent : (t : ℕ) (c : subtree-Else-shape-eq-FUNC_VALUE t) →
-    let a = c.args in Parent a.forest.now.laid a.work.now a.t c.count_reading.new.st a.i a.at
+    let a = c.args in Parent a.forest.now.formed.laid a.work.now a.t c.count_reading.new.st a.i a.at
 parent t c =
     let p = c.requires in
     counted_parent
-    (counted_given p.stands_at c.if-st-eq2048.false c.count_reading.ensures c.args.forest.now.formed p.i_bound p.legible_at)
+    (counted_given p.stands_at c.if-st-eq2048.false c.count_reading.ensures c.args.forest.now.formed.formed p.i_bound p.legible_at)
     (λ z. c.if-shape-eq-FUNC_VALUE.false (c.shape-shape.ensures ∙ z))
 
 -- where a child in a thunk and any other meet: it is read as the definition has it
@@ -67,10 +62,10 @@ child_read : (t : ℕ) (c : operands-Joined-is_thunked t) →
     let l = c.loop-j in
     let a = c.args in
     let here = c.child_at-here.result in
-    Reads a.forest.now.laid l.work a.t l.st l.next here
+    Reads a.forest.now.formed.laid l.work a.t l.st l.next here
     (intern_scoped c.is_thunked.result here.scope
-    (λ sc s. intern (tree_at a.forest.now.laid l.next) l.next sc (env_of l.work here.top) s)
-    (abs_of a.forest.now.laid l.work a.t l.st)) c.if-is_thunked.work (read_of c.if-is_thunked.st c.if-is_thunked.r)
+    (λ sc s. intern (tree_at a.forest.now.formed.laid l.next) l.next sc (env_of l.work here.top) s)
+    (abs_of a.forest.now.formed.laid l.work a.t l.st)) c.if-is_thunked.work (step_of c.if-is_thunked.st c.if-is_thunked.r)
 child_read t c =
     elim c.if-is_thunked.branch [
       | operands-then-is_thunked w ↦ rw (w.work-is, w.st-is, w.r-is) (child_thunked w.if-is_thunked.true w.in_thunk-r.ensures)
@@ -89,13 +84,13 @@ thunk_noted t c =
 -- where a SelectField and the other records meet: the record is done, or still to be completed
 reads_on : (t : ℕ) (c : subtree-Joined-shape-eq-SELECT_FIELD t) →
     let a = c.args in
-    ReadsOn a.forest.now.laid a.work.now a.t a.st.now a.i a.at
-    (intern (tree_at a.forest.now.laid a.i) a.i a.at.scope (env_of a.work.now a.at.top)
-    (abs_of a.forest.now.laid a.work.now a.t a.st.now)) c.if-shape-eq-SELECT_FIELD.work c.if-shape-eq-SELECT_FIELD.st
+    ReadsOn a.forest.now.formed.laid a.work.now a.t a.st.now a.i a.at
+    (intern (tree_at a.forest.now.formed.laid a.i) a.i a.at.scope (env_of a.work.now a.at.top)
+    (abs_of a.forest.now.formed.laid a.work.now a.t a.st.now)) c.if-shape-eq-SELECT_FIELD.work c.if-shape-eq-SELECT_FIELD.st
     (Ok c.if-shape-eq-SELECT_FIELD.selected)
 reads_on t c =
     let h = counted_given c.requires.stands_at c.if-st-eq2048.false c.count_reading.ensures
-    c.args.forest.now.formed c.requires.i_bound c.requires.legible_at in
+    c.args.forest.now.formed.formed c.requires.i_bound c.requires.legible_at in
     let s = c.shape-shape.ensures in
     let parent = counted_parent h (λ z. c.if-shape-eq-FUNC_VALUE.false (s ∙ z)) in
     let is = record_other h (λ z. c.if-shape-eq-VAL_USE.false (s ∙ z)) (λ z. c.if-shape-eq-FUNC_VALUE.false (s ∙ z)) in
@@ -105,8 +100,7 @@ reads_on t c =
           (Ok w.in_ok-selected.selected) (rw w.in_ok-selected.was at w.field.ensures))
       | subtree-else-shape-eq-SELECT_FIELD+then-count-eq0 w ↦ reads_on_met _ _ _ _ _ _ _ w.work-is w.st-is w.selected-is
           (is (λ z. w.if-shape-eq-SELECT_FIELD.false (s ∙ z)) _ _
-          (children_none parent c.kids-count.ensures.0 (counted_plain h) w.if-count-eq0.true
-          (ap (kids_done c.count_reading.new.st) w.unread.ensures)))
+          (children_none parent c.kids-count.ensures.0 (counted_plain h) w.if-count-eq0.true))
       | subtree-else-shape-eq-SELECT_FIELD+else-count-eq0+in_ok-operands w ↦ reads_on_met _ _ _ _ _ _ _ w.work-is w.st-is w.selected-is
           (is (λ z. w.if-shape-eq-SELECT_FIELD.false (s ∙ z)) _ _
           (rw w.in_ok-operands.was at (children-read parent c.kids-count.ensures.0 w.opcode-op.ensures w.operands.ensures)))
@@ -120,24 +114,24 @@ field-operands-requires t c =
       field_operands g c.opcode-op.ensures,
     )
 
-pub field-returns-in_err-k : goal.field-returns-in_err-k
-field-returns-in_err-k t c =
+pub field-returns-in_err-b : goal.field-returns-in_err-b
+field-returns-in_err-b t c =
     let p = err_from_is_err_and c.from_residual.result c.from_residual.ensures.1 in
     rw (p.1, p.2)
-    (field_fails (field_asked t (goal.at.field-returns-in_err-k t c).Start) c.opcode-op.ensures
-    (rw c.in_err-k.was at c.operands.ensures) refl)
+    (field_fails (field_asked t (goal.at.field-returns-in_err-b t c).Start) c.opcode-op.ensures
+    (rw c.in_err-b.was at c.operands.ensures) refl)
 
 pub field-reads_again-requires : goal.field-reads_again-requires
 field-reads_again-requires t c =
     record {
       input = field_input (field_asked t (goal.at.field-reads_again-requires t c).Start) c.opcode-op.ensures
-          (rw c.in_ok-k.was at c.operands.ensures) refl;
+          (rw c.in_ok-b.was at c.operands.ensures) refl;
     }
 
 pub field-field-requires : goal.field-field-requires
 field-field-requires t c =
     let g = field_asked t (goal.at.field-field-requires t c).Start in
-    let v = rw c.in_ok-k.was at c.operands.ensures in
+    let v = rw c.in_ok-b.was at c.operands.ensures in
     let selects = field_selects g c.opcode-op.ensures v refl in
     let once = field_once g c.opcode-op.ensures v refl c.reads_again.ensures c.if-not-reads_again.true in
     record { rep = v.rep; fact = v.opened; selects = selects; held_value = once }
@@ -146,21 +140,21 @@ pub field-returns-in_err-symbol : goal.field-returns-in_err-symbol
 field-returns-in_err-symbol t c =
     let p = err_from_is_err_and c.from_residual-in_err-symbol.result c.from_residual-in_err-symbol.ensures.1 in
     rw (p.1, p.2)
-    (reads_err (rw c.in_err-symbol.was at (field_done (field_asked t (goal.at.field-returns-in_err-symbol t c).Start)
-    c.opcode-op.ensures (rw c.in_ok-k.was at c.operands.ensures) refl c.reads_again.ensures
-    (c.field.ensures _ _))))
+    (rw c.in_err-symbol.was at (field_done (field_asked t (goal.at.field-returns-in_err-symbol t c).Start)
+    c.opcode-op.ensures (rw c.in_ok-b.was at c.operands.ensures) refl c.reads_again.ensures
+    (c.field.ensures _ _)))
 
 pub field-returns-then-not-reads_again : goal.field-returns-then-not-reads_again
 field-returns-then-not-reads_again t c =
     rw c.in_ok-symbol.was at (field_done (field_asked t (goal.at.field-returns-then-not-reads_again t c).Start)
-    c.opcode-op.ensures (rw c.in_ok-k.was at c.operands.ensures) refl c.reads_again.ensures
+    c.opcode-op.ensures (rw c.in_ok-b.was at c.operands.ensures) refl c.reads_again.ensures
     (c.field.ensures _ _))
 
 pub field-count_again-requires : goal.field-count_again-requires
 field-count_again-requires t c =
     let asks =
     recount_asks (field_asked t (goal.at.field-count_again-requires t c).Start) c.opcode-op.ensures
-    (rw c.in_ok-k.was at c.operands.ensures) refl
+    (rw c.in_ok-b.was at c.operands.ensures) refl
     (sym c.repeats.ensures ∙ c.if-repeats.true) in record {
       readings_le_readings = omega (arith, asks);
       readings_bound = omega (arith, asks);
@@ -169,15 +163,15 @@ field-count_again-requires t c =
 pub field-returns-then-repeats : goal.field-returns-then-repeats
 field-returns-then-repeats t c =
     recount_done (field_asked t (goal.at.field-returns-then-repeats t c).Start) c.opcode-op.ensures
-    (rw c.in_ok-k.was at c.operands.ensures) refl c.reads_again.ensures c.if-not-reads_again.false
-    (sym c.repeats.ensures ∙ c.if-repeats.true) (ap (λ s. kids_done s c.in_ok-k.k) c.count_again.ensures)
+    (rw c.in_ok-b.was at c.operands.ensures) refl c.reads_again.ensures c.if-not-reads_again.false
+    (sym c.repeats.ensures ∙ c.if-repeats.true) (ap (λ s. kids_done s c.in_ok-b.b) c.count_again.ensures)
 
 pub field-operands-requires-2 : goal.field-operands-requires-2
 field-operands-requires-2 t c =
     let g = field_asked t (goal.at.field-operands-requires-2 t c).Start in
     let h = g.parent in (
       omega (arith, c.decreases, h.there, records_few _ h.sound, weight_between c.opcode-op.result),
-      again_operands g c.opcode-op.ensures (rw c.in_ok-k.was at c.operands.ensures) refl,
+      again_operands g c.opcode-op.ensures (rw c.in_ok-b.was at c.operands.ensures) refl,
     )
 
 pub field-returns-in_err-again : goal.field-returns-in_err-again
@@ -185,13 +179,13 @@ field-returns-in_err-again t c =
     let p = err_from_is_err_and c.from_residual-in_err-again.result c.from_residual-in_err-again.ensures.1 in
     rw (p.1, p.2)
     (incomplete_refused (again_done (field_asked t (goal.at.field-returns-in_err-again t c).Start) c.opcode-op.ensures
-    (rw c.in_ok-k.was at c.operands.ensures) refl c.reads_again.ensures c.if-not-reads_again.false
+    (rw c.in_ok-b.was at c.operands.ensures) refl c.reads_again.ensures c.if-not-reads_again.false
     (rw c.in_err-again.was at c.operands-2.ensures)) refl)
 
 pub field-returns : goal.field-returns
 field-returns t c =
     again_done (field_asked t (goal.at.field-returns t c).Start) c.opcode-op.ensures
-    (rw c.in_ok-k.was at c.operands.ensures) refl c.reads_again.ensures c.if-not-reads_again.false
+    (rw c.in_ok-b.was at c.operands.ensures) refl c.reads_again.ensures c.if-not-reads_again.false
     (rw c.in_ok-again.was at c.operands-2.ensures)
 
 pub in_thunk-push-inner-requires : goal.in_thunk-push-inner-requires
@@ -207,25 +201,25 @@ in_thunk-operands-r-requires t c =
       thunk_operands p.i_bound p.in_thunk c.open_thunk.ensures c.push-inner.ensures,
     )
 
-pub in_thunk-returns-in_err-k : goal.in_thunk-returns-in_err-k
-in_thunk-returns-in_err-k t c =
+pub in_thunk-returns-in_err-r : goal.in_thunk-returns-in_err-r
+in_thunk-returns-in_err-r t c =
     let q = c.requires in
     let p = err_from_is_err_and c.from_residual.result c.from_residual.ensures.1 in
     rw (p.1, p.2)
     (thunk_done q.i_bound q.in_thunk c.open_thunk.ensures c.push-inner.ensures
-    (rw c.in_err-k.was at c.operands-r.ensures) c.close_thunk.ensures)
+    (rw c.in_err-r.was at c.operands-r.ensures) c.close_thunk.ensures)
 
 pub in_thunk-returns : goal.in_thunk-returns
 in_thunk-returns t c =
     let p = c.requires in
     thunk_done p.i_bound p.in_thunk c.open_thunk.ensures c.push-inner.ensures
-    (rw c.in_ok-k.was at c.operands-r.ensures) c.close_thunk.ensures
+    (rw c.in_ok-r.was at c.operands-r.ensures) c.close_thunk.ensures
 
 pub lambda-returns-in_err-inside : goal.lambda-returns-in_err-inside
 lambda-returns-in_err-inside t c =
     let p = err_from_is_err_and c.from_residual.result c.from_residual.ensures.1 in
     rw (p.1, p.2)
-    (lambda_unmade (lambda_asked t (goal.at.lambda-returns-in_err-inside t c).Start) c.enter_lambda.ensures refl
+    (lambda_unmade (lambda_asked t (goal.at.lambda-returns-in_err-inside t c).Start) c.enter_lambda.ensures
     c.in_err-inside.was)
 
 pub lambda-operands-requires : goal.lambda-operands-requires
@@ -235,38 +229,30 @@ lambda-operands-requires t c =
       lambda_operands h c.enter_lambda.ensures c.in_ok-inside.was c.opcode-op.ensures,
     )
 
-pub lambda-returns-in_err-k : goal.lambda-returns-in_err-k
-lambda-returns-in_err-k t c =
-    let p = err_from_is_err_and c.from_residual-in_err-k.result c.from_residual-in_err-k.ensures.1 in
+pub lambda-returns-in_err-operands : goal.lambda-returns-in_err-operands
+lambda-returns-in_err-operands t c =
+    let p = err_from_is_err_and c.from_residual-in_err-operands.result c.from_residual-in_err-operands.ensures.1 in
     rw (p.1, p.2)
-    (lambda_refused (lambda_asked t (goal.at.lambda-returns-in_err-k t c).Start) c.enter_lambda.ensures
-    c.in_ok-inside.was c.opcode-op.ensures (rw c.in_err-k.was at c.operands.ensures) refl refl)
+    (lambda_refused (lambda_asked t (goal.at.lambda-returns-in_err-operands t c).Start) c.enter_lambda.ensures
+    c.in_ok-inside.was c.opcode-op.ensures (rw c.in_err-operands.was at c.operands.ensures) refl)
 
 pub lambda-lambda-requires : goal.lambda-lambda-requires
 lambda-lambda-requires t c =
-    let v = rw c.in_ok-k.was at c.operands.ensures in
+    let v = rw c.in_ok-operands.was at c.operands.ensures in
     let it =
     lambda_asks (lambda_asked t (goal.at.lambda-lambda-requires t c).Start) c.enter_lambda.ensures c.in_ok-inside.was
     c.opcode-op.ensures v refl in
     record { rep = v.rep; fact = v.opened; concludes = it.0; i_value = it.1.0; body_of = it.1.1 }
 
-pub lambda-returns-in_err-symbol : goal.lambda-returns-in_err-symbol
-lambda-returns-in_err-symbol t c =
-    let p = err_from_is_err_and c.from_residual-in_err-symbol.result c.from_residual-in_err-symbol.ensures.1 in
-    rw (p.1, p.2)
-    (reads_err (rw c.in_err-symbol.was at (lambda_done (lambda_asked t (goal.at.lambda-returns-in_err-symbol t c).Start)
-    c.enter_lambda.ensures c.in_ok-inside.was c.opcode-op.ensures (rw c.in_ok-k.was at c.operands.ensures) refl
-    c.lambda.ensures)))
-
 pub lambda-returns : goal.lambda-returns
 lambda-returns t c =
-    rw c.in_ok-symbol.was at (lambda_done (lambda_asked t (goal.at.lambda-returns t c).Start)
-    c.enter_lambda.ensures c.in_ok-inside.was c.opcode-op.ensures (rw c.in_ok-k.was at c.operands.ensures) refl
-    c.lambda.ensures)
+    lambda_done (lambda_asked t (goal.at.lambda-returns t c).Start)
+    c.enter_lambda.ensures c.in_ok-inside.was c.opcode-op.ensures (rw c.in_ok-operands.was at c.operands.ensures) refl
+    c.lambda.ensures
 
 pub operands-loop-j-init : goal.operands-loop-j-init
 operands-loop-j-init t c =
-    let p = c.requires in loop_start c.args.forest.now.formed p.operands refl
+    let p = c.requires in loop_start c.args.forest.now.formed.formed p.operands
 
 pub operands-in_thunk-r-requires : goal.operands-in_thunk-r-requires
 operands-in_thunk-r-requires t c =
@@ -286,14 +272,14 @@ operands-subtree-r-requires t c =
       (there, reading_plain inv c.loop-j-test.true is c.child_at-here.ensures),
     )
 
-pub operands-returns-in_err-child : goal.operands-returns-in_err-child
-operands-returns-in_err-child t c =
+pub operands-returns-in_err-symbol : goal.operands-returns-in_err-symbol
+operands-returns-in_err-symbol t c =
     let p = err_from_is_err_and c.from_residual.result c.from_residual.ensures.1 in
     rw (p.1, p.2)
     (reading_refused c.loop-j.invariant c.loop-j-test.true
     c.is_thunked.ensures c.child_at-here.ensures
-    (rw c.in_err-child.was at (child_read t (goal.at.operands-returns-in_err-child t c).Joined-is_thunked))
-    refl refl)
+    (rw c.in_err-symbol.was at (child_read t (goal.at.operands-returns-in_err-symbol t c).Joined-is_thunked))
+    refl)
 
 pub operands-bind_def-top-requires : goal.operands-bind_def-top-requires
 operands-bind_def-top-requires t c =
@@ -305,13 +291,22 @@ operands-bind_def-top-requires t c =
       );
     }
 
+pub operands-bounds-forest-next : goal.operands-bounds-forest-next
+operands-bounds-forest-next t c =
+    omega (arith, reading_low c.loop-j.invariant c.loop-j-test.true)
+
+pub operands-offset_bounds-forest-next : goal.operands-offset_bounds-forest-next
+operands-offset_bounds-forest-next t c =
+    omega (arith, reading_low c.loop-j.invariant c.loop-j-test.true)
+
 pub operands-loop-j-preserved : goal.operands-loop-j-preserved
 operands-loop-j-preserved t c =
     reading_turn c.loop-j.invariant c.loop-j-test.true c.is_thunked.ensures
     c.child_at-here.ensures
-    (rw c.in_ok-child.was at (child_read t (goal.at.operands-loop-j-preserved t c).Joined-is_thunked)) refl
+    (rw c.in_ok-symbol.was at (child_read t (goal.at.operands-loop-j-preserved t c).Joined-is_thunked)) refl
+    c.args.forest.now.passes c.args.forest.now.ended c.from-next.ensures
     c.bind_def-top.ensures
-    (ap (λ (b : Branches). all_read b c.if-is_thunked.st c.in_ok-child.child.next)
+    (ap (kids_done c.if-is_thunked.st)
     (thunk_noted t (goal.at.operands-loop-j-preserved t c).Joined-is_thunked))
 
 pub operands-returns : goal.operands-returns
@@ -320,13 +315,13 @@ operands-returns t c =
 
 pub subtree-returns-then-st-eq2048 : goal.subtree-returns-then-st-eq2048
 subtree-returns-then-st-eq2048 t c =
-    record_full c.requires.stands_at c.if-st-eq2048.true refl
+    record_full c.requires.stands_at c.if-st-eq2048.true
 
 pub subtree-returns-then-shape-eq-VAL_USE : goal.subtree-returns-then-shape-eq-VAL_USE
 subtree-returns-then-shape-eq-VAL_USE t c =
     record_use (counted t (goal.at.subtree-returns-then-shape-eq-VAL_USE t c).After-count_reading)
     (sym c.shape-shape.ensures ∙ c.if-shape-eq-VAL_USE.true)
-    (ap (given c.count_reading.new.st) c.value_use-symbol.ensures)
+    (ap (given c.count_reading.new.st) c.value_use.ensures)
 
 pub subtree-returns-then-shape-eq-FUNC_VALUE : goal.subtree-returns-then-shape-eq-FUNC_VALUE
 subtree-returns-then-shape-eq-FUNC_VALUE t c =
@@ -368,9 +363,10 @@ subtree-returns-in_err-operands t c =
     (λ z. c.if-shape-eq-SELECT_FIELD.false (s ∙ z)) _ _
     (rw c.in_err-operands.was at (children-read g c.kids-count.ensures.0 c.opcode-op.ensures c.operands.ensures))) refl)
 
-pub subtree-complete-requires : goal.subtree-complete-requires
-subtree-complete-requires t c =
-    let incomplete = rw c.in-Children.is at (reads_on t (goal.at.subtree-complete-requires t c).Joined-shape-eq-SELECT_FIELD) in record { completable = incomplete.ready }
+pub subtree-conclude-requires : goal.subtree-conclude-requires
+subtree-conclude-requires t c =
+    let ready = (rw c.in-Children.is at (reads_on t (goal.at.subtree-conclude-requires t c).Joined-shape-eq-SELECT_FIELD)).ready in
+    record { rep = ready.rep; fact = ready.opened; concluding = ready.concludes refl; branched = ready.branched }
 
 pub subtree-returns-in-Done : goal.subtree-returns-in-Done
 subtree-returns-in-Done t c =
@@ -379,4 +375,4 @@ subtree-returns-in-Done t c =
 pub subtree-returns-in-Children : goal.subtree-returns-in-Children
 subtree-returns-in-Children t c =
     incomplete_reads (rw c.in-Children.is at (reads_on t (goal.at.subtree-returns-in-Children t c).Joined-shape-eq-SELECT_FIELD))
-    c.complete.ensures
+    refl c.conclude.ensures

@@ -1,6 +1,6 @@
 -- The functions of the cycle `interning` of `intern` in their loops and calls: what stays, and what falls. Assumes nothing.
 use Prim.Native.Nat.{◌+◌, ◌-◌, ◌*◌}
-use Rattle.intern.specs.Steps.{all_read}
+use Rattle.intern.specs.Steps.{kids_done}
 use Rattle.intern.proofs.Weight.{weight}
 use Rattle.intern.proofs.Remains.{Reading}
 use Rattle.intern.proofs.+interning.Given as given
@@ -23,8 +23,8 @@ decreases-operands l =
 
 abbrev pub invariant-operands-loop-j : given.invariant-operands-loop-j
 invariant-operands-loop-j l =
-    Reading l.forest.laid l.t l.i l.count l.op l.at l.initial.work l.initial.st l.work
-    (all_read l.branches l.st l.next) l.top l.j
+    Reading l.forest.formed.laid l.t l.i l.count l.op l.at l.initial.work l.initial.st l.work
+    (kids_done l.st l.branches) l.next l.top l.j
 
 abbrev pub decreases-subtree : given.decreases-subtree
 decreases-subtree l =

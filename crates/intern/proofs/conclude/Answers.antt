@@ -9,7 +9,7 @@ use Rattle.intern.proofs.conclude.Goals.{After-kids-count}
 
 -- what holds once the children are counted
 given : (c : After-kids-count) →
-    let a = c.args in Concludable a.forest.now.laid a.work.now a.i a.at (kids_done a.st.now a.k) c.kids-count.result
+    let a = c.args in Concludable a.forest.now.laid a.work.now a.i a.at (kids_done a.st.now a.b) c.kids-count.result
 given c =
     let p = c.requires in
     record { sound = c.args.forest.now.formed; rep = p.rep; concludes = p.concluding; count = c.kids-count.ensures.0 }

@@ -1,18 +1,19 @@
 -- Records by number, in trees taken apart: the first record, those below it, and those of the later trees.
 -- In order: lists joined; spots; records and extents; which record lies below which.
 -- Assumes nothing.
-use mathlib.Core.Path.{◌≡◌, refl, ap, ap₂, ◌∙◌, subst}
+use mathlib.Core.Path.{◌≡◌, refl, ap, subst}
 use mathlib.Core.Bool.{Bool, true, false}
 use mathlib.Core.List.{List, ◌++◌}
 use Prim.Native.Nat.{ℕ, zero, suc, ◌+◌, ◌-◌, ◌≤◌, ◌<◌}
 use native.Mathlib.Omega.{arith}
 use lib.Dec.{ltb}
-use lib.ListN.{length, get_or, length-append, get_or-append, get_or-eq_default}
+use lib.ListN.{length, get_or, get_or-append, get_or-eq_default}
 use lib.Seq.{get_or-append-add}
 use borrow.Author.Tests.{ltb-true, ltb-false}
 use Rattle.model.specs.Tree.{Rec, Tree, Trees, node, nil, cons, size, sizes, rows, rows_of}
 use Rattle.model.specs.Places.{no_record}
 use Rattle.laws.proofs.Rows.{sizes_rows}
+use Rattle.laws.proofs.Extents.{extents_lengths}
 use Rattle.model.specs.Nesting.{rec_in, shape_in, extents, extents_in, end_of, Descends}
 
 -- ---- lists joined
@@ -58,17 +59,6 @@ module _ (P : Trees → Type 0) (base : P nil)
 
 abbrev pub extent : Trees → ℕ → ℕ
 extent ts b = get_or (extents_in ts) b 0
-
-mutual
-  unfolding extents size
-
-  extents_length : (t : Tree) → length (extents t) ≡ size t
-  extents_length (node r ts) = ap suc (extents_lengths ts)
-
-  extents_lengths : (ts : Trees) → length (extents_in ts) ≡ sizes ts
-  extents_lengths nil = refl
-  extents_lengths (cons t ts) =
-      length-append (extents t) (extents_in ts) ∙ ap₂ ◌+◌ (extents_length t) (extents_lengths ts)
 
 pub out_of_range : (ts : Trees) (p : ℕ) → sizes ts ≤ p → get_or (rows_of ts) p no_record ≡ no_record
 out_of_range ts p l = get_or-eq_default (rows_of ts) no_record (omega (arith, sizes_rows ts))

@@ -13,4 +13,4 @@ decreases-subtrees l =
 
 abbrev pub invariant-subtrees-loop-left : given.invariant-subtrees-loop-left
 invariant-subtrees-loop-left l =
-    Walking l.forest.laid l.test l.i l.count l.at l.initial.work l.work l.j l.left l.top
+    Walking l.forest.laid l.test l.i l.count l.at l.initial.work l.work l.initial.ends l.ends l.j l.left l.top
