@@ -6,9 +6,10 @@ Usage: check_definitions.py ROWS.tsv [--least N] [--jobs N] [--batch N]
 A row is tab separated: forest, output length, work words, number, place, written length, symbols, readings, tree; or, for the
 lister, forest and text; or, for the sheet, the word `sheet`, forest and text; or, for the line of a template, the word `template`, forest and
 line; or, for a filling, the word `fill`, forest, values and filled forest, the values as aux=literal,aux=literal; or, for values, the
-word `value`, forest, a meaning's number, the root's value and the written tree's, '-' for none. Byte strings are in hex, '-' for none.
-`cse-reference rows`, `list-rows`, `template-rows` and `value-rows` write rows of all kinds but the sheet's; those of tests/definitions are
-written by hand.
+word `value`, forest, a meaning's number, the root's value and the written tree's, '-' for none; or, for where subtrees end, the word
+`ends`, forest and the ends of its records with commas, '-' for none. Byte strings are in hex, '-' for none.
+`cse-reference rows`, `list-rows`, `template-rows`, `value-rows` and `ends-rows` write rows of all kinds but the sheet's; those of
+tests/definitions are written by hand.
 
 Each row becomes one declaration, proved by `refl`, in a module beside a copy of the definitions, and one that is wrong follows them, which
 the checker must refuse. A row that it refuses is printed with its line number; a row over the checker's step limit says nothing either way and
@@ -40,7 +41,8 @@ use {SPECS}.Sheet.{{sheet}}
 use {SPECS}.Template.{{Filling, fill_forest}}
 use {SPECS}.TemplateLine.{{template_line}}
 use {SPECS}.Failing.{{Semantics, eval}}
-use {SPECS}.Computing.{{computing, evaluating}}
+use {SPECS}.Ends.{{entries}}
+use {SPECS}.Computing.{{computing, evaluating, ending}}
 
 -- so many bytes of a number, the lowest first
 bytes : ℕ → ℕ → List ℕ
@@ -97,6 +99,12 @@ numbered m =
 
 value_of : ℕ → List ℕ → Option ℕ
 value_of m forest = eval (numbered m) (root (trees_of forest)) []
+
+-- so many entries: the ends of records, and zeros after them
+padded : ℕ → List ℕ → List ℕ
+padded zero es = es
+padded (suc k) [] = 0 ∷ padded k []
+padded (suc k) (e ∷ es) = e ∷ padded k es
 """
 CALL = """
 r{i} : gives (run (record {{ forest = {forest}; room = {room}; words = {words} }})) (record {{ number = {number}; place = {place}; len = {len}; symbols = {symbols};
@@ -118,6 +126,11 @@ VALUE = """
 r{i} : (value_of {m} {forest} ≡ {root}) × (value_of {m} (written (run (ample {forest}))) ≡ {tree})
 unfolding weighted weight last_of quotient means numbered value_of written bytes computing evaluating
 r{i} = (refl, refl)
+"""
+ENDS = """
+r{i} : same (entries {forest}) (padded 256 {ends}) ≡ true
+unfolding padded bytes computing ending
+r{i} = refl
 """
 # the definition that makes a row's text, by the row's first word
 TEXTS = {"sheet": "sheet", "template": "template_line"}
@@ -142,7 +155,7 @@ def numeral(text, line):
     return f"(bytes {len(data)} 0x{data[::-1].hex()})" if data else bad(line, "empty hex; write '-'")
 
 
-def entries(text, line):
+def literals(text, line):
     """The values of a filling, each an aux, a first byte and the other bytes: a literal has at least one."""
     values = ""
     for value in text.split(","):
@@ -151,6 +164,14 @@ def entries(text, line):
         aux, literal = value.split("=")
         values += f"({aux}, 0x{literal[:2]}, {numeral(literal[2:] or '-', line)}) ∷ "
     return f"({values}[])"
+
+
+def ends(text, line):
+    """The ends of a forest's records; none of one that is refused."""
+    if not re.fullmatch(r"-|[0-9]+(,[0-9]+)*", text):
+        bad(line, "ends are numbers with commas, or '-'")
+    numbers = [] if text == "-" else text.split(",")
+    return f"({''.join(number + ' ∷ ' for number in numbers)}[])"
 
 
 def option(text, line):
@@ -164,15 +185,20 @@ def declaration(i, line, fields):
     if len(fields) == 2 or len(fields) == 3 and fields[0] in TEXTS:
         text = "lister" if len(fields) == 2 else TEXTS[fields[0]]
         return LIST.format(i=i, text=text, forest=numeral(fields[-2], line), lines=numeral(fields[-1], line))
+    if len(fields) == 3 and fields[0] == "ends":
+        return ENDS.format(i=i, forest=numeral(fields[1], line), ends=ends(fields[2], line))
     if len(fields) == 4 and fields[0] == "fill":
-        return FILL.format(i=i, forest=numeral(fields[1], line), values=entries(fields[2], line), filled=numeral(fields[3], line))
+        return FILL.format(i=i, forest=numeral(fields[1], line), values=literals(fields[2], line), filled=numeral(fields[3], line))
     if len(fields) == 5 and fields[0] == "value":
         if not re.fullmatch(r"[0-9]+", fields[2]):
             bad(line, "a meaning's number is no number")
         root, tree = option(fields[3], line), option(fields[4], line)
         return VALUE.format(i=i, forest=numeral(fields[1], line), m=fields[2], root=root, tree=tree)
     if len(fields) != 9:
-        bad(line, f"{len(fields)} fields, not 9, 2, 3 with the first `sheet` or `template`, 4 with the first `fill`, or 5 with the first `value`")
+        bad(
+            line,
+            f"{len(fields)} fields, not 9, 2, 3 with the first `sheet`, `template` or `ends`, 4 with the first `fill`, or 5 with the first `value`",
+        )
     names = ("room", "words", "number", "place", "len", "symbols", "readings")
     for name, value in zip(names, fields[1:8]):
         if not re.fullmatch(r"[0-9]+", value):

@@ -3,13 +3,15 @@
 
 Usage: make_replay.py < ROWS
 
-ROWS are `forest in hex, tab, verdict` ('-' for no bytes), as `cse-reference check-rows` prints them. Writes crates/replay_check/stdin,
-for each row a 32-bit little-endian length and the bytes, and crates/replay_check/stdout, the verdicts a line each. The program holds
-at most 65,536 bytes, so longer forests are left out; how many is said on standard error.
+ROWS are `forest in hex, tab, verdict` ('-' for no bytes), as `cse-reference check-rows` prints them: a verdict is `accepted` and, each after
+a space, the number of the first record after each record's subtree, or `refused N at P`. Writes crates/replay_check/stdin, for each row
+a 32-bit little-endian length and the bytes, and crates/replay_check/stdout, the verdicts a line each. The program holds at most 65,536
+bytes, so longer forests are left out; how many is said on standard error.
 
 The list in the repository was made by:
   cse-reference check-rows 700 --seed 0, and two forests at the limit of length:
-  the first forest of `cse-reference generate near-limit 2000` with exactly 65,535 bytes, and the same with a byte 00 behind it."""
+  the first forest of `cse-reference generate near-limit 2000` with exactly 65,535 bytes, and the same with a byte 00 behind it; their
+  verdicts are by `cse-reference check`."""
 import os
 import sys
 

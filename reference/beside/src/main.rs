@@ -1,8 +1,9 @@
-//! The proved main call and programs beside the original and the readings; see `USAGE`.
+//! The proved main call, check and programs beside the original and the readings; see `USAGE`.
 
 mod asked;
 mod compare;
 mod count;
+mod ends;
 mod fillings;
 mod halves;
 mod list;
@@ -29,6 +30,10 @@ usage: beside compare KIND COUNT [SEED [LEAST [TELLING]]]
                                           program lister, its text beside the reading's; TELLING of them have to tell
                                           what is counted: by the uses of all symbols they would have another text; or,
                                           with marks, tell these apart: without they would have another text
+       beside ends KIND COUNT [SEED [LEAST [TELLING]]]
+                                          accepted forests of a kind, or refused ones where KIND is damaged, through the
+                                          check: number, place and where subtrees end beside the reading; TELLING of them
+                                          have to have a record that ends neither at the next one nor where its tree does
        beside fillings KIND COUNT [SEED [LEAST [TELLING]]]
                                           templates of a kind, each filled in three ways, through the main call: what it
                                           gives beside what it gives for the template, filled, and beside the original;
@@ -51,8 +56,8 @@ A KIND may have marked- before it: its constants then have marks. Templates of a
 marks on some constants, so that equal ones are one parameter. A difference is printed with its forest, and the status
 is 1; so it is where a main call took over a second (but for values, which does not measure time), where fewer than
 LEAST forests were compared, which is COUNT unless it is said, and not 0, or fewer than TELLING tell what they have to,
-which is 0 unless it is said; compare takes another for marked kinds and flat only, and template-lines none for
-damaged.";
+which is 0 unless it is said; compare takes another for marked kinds and flat only, and ends and template-lines
+none for damaged.";
 
 fn main() -> ExitCode {
     let arguments: Vec<String> = std::env::args().skip(1).collect();
@@ -89,6 +94,12 @@ fn run(words: &[&str]) -> Option<bool> {
         }
         ["damaged", rest @ ..] if rest.len() < 4 => Some(compare::damaged(Asked::parse(rest)?)),
         ["list", kind, rest @ ..] => Some(list::listed(or_damaged(kind)?, Asked::parse(rest)?)),
+        ["ends", kind, rest @ ..] => {
+            let family = or_damaged(kind)?;
+            let asked = Asked::parse(rest)?;
+            let may_tell = family.is_some();
+            (may_tell || asked.telling == 0).then(|| ends::compared(family, asked))
+        }
         ["fillings", kind, rest @ ..] => {
             Some(fillings::filled(Family::parse(kind)?, Asked::parse(rest)?))
         }

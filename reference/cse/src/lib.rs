@@ -1,11 +1,12 @@
 //! The original cse pass, unchanged, run on forests, and an independent reading of document 01 (the
-//! paper with the rules) for what the original does not do: checks, limits, unfolding, templates and
-//! values.
+//! paper with the rules) for what the original does not do: checks, limits, unfolding, templates,
+//! values, and where subtrees end.
 
 pub mod check;
 pub mod convert;
 pub mod cost;
 pub mod damage;
+pub mod ends;
 pub mod evaluate;
 pub mod forest;
 pub mod generate;

@@ -5,7 +5,9 @@ use std::process::ExitCode;
 
 use cse_reference::check::accept;
 use cse_reference::damage::damaged;
+use cse_reference::ends::ends;
 use cse_reference::evaluate::Numbered;
+use cse_reference::forest::Forest;
 use cse_reference::generate::{Family, Kind};
 use cse_reference::lister::lister;
 use cse_reference::oracle::{answer, Answer, NoAnswer, MAX_OUTPUT, MIN_WORK_WORDS};
@@ -16,6 +18,8 @@ const USAGE: &str = "\
 usage: cse-reference COMMAND
   answer [--out N] [--words N]     forests in: number, place, written length, symbols, readings, tree
   list                             forests in: the lister's text
+  check                            forests in: what checks 2 to 10 say, accepted and where subtrees end, or refused,
+                                   number and place
   generate KIND COUNT [--seed S]   accepted forests
   damage COUNT [--seed S]          forests that are refused: forest, number, place
   rows COUNT [--seed S] [--max-records N]
@@ -27,7 +31,9 @@ usage: cse-reference COMMAND
   value-rows COUNT [--seed S] [--max-records N]
                                    value, forest, a meaning's number, the values under it of the root and of the
                                    written tree, - for none
-  check-rows COUNT [--seed S]      forest, and what checks 2 to 10 say of it
+  ends-rows COUNT [--seed S] [--max-records N]
+                                   ends, forest, where its subtrees end, with commas, - where it is refused
+  check-rows COUNT [--seed S]      forest, and what check gives
   from-notation                    notation in: forests
   to-notation                      forests in: notation
   forest NOTATION                  the forest's bytes
@@ -99,6 +105,10 @@ fn run(arguments: &[String], out: &mut impl Write) -> Result<(), Failure> {
                 or_skipped(text.map(|text| String::from_utf8(text).expect("the text is ASCII")))
             })
         }
+        "check" => {
+            parsed(&[], &[])?;
+            each_line(out, |line| Ok(format!("{}\n", verdict(&hex::parse(line)?))))
+        }
         "generate" => {
             let arguments = parsed(&["KIND", "COUNT"], &["--seed"])?;
             let family = family(&arguments.operands[0])?;
@@ -164,15 +174,21 @@ fn run(arguments: &[String], out: &mut impl Write) -> Result<(), Failure> {
             }
             Ok(())
         }
+        "ends-rows" => {
+            let arguments = parsed(&["COUNT"], &["--seed", "--max-records"])?;
+            let most = arguments.option("--max-records", u64::MAX);
+            for seed in arguments.seeds(0)? {
+                let forest = rows::ends_row(seed, most);
+                let given = accept(&forest).map_or("-".to_string(), |forest| joined(&forest, ","));
+                writeln!(out, "ends\t{}\t{given}", hex::print(&forest))?;
+            }
+            Ok(())
+        }
         "check-rows" => {
             let arguments = parsed(&["COUNT"], &["--seed"])?;
             for seed in arguments.seeds(0)? {
                 let forest = rows::check_row(seed);
-                let verdict = match accept(&forest) {
-                    Ok(_) => "accepted".to_string(),
-                    Err(refusal) => format!("refused {} at {}", refusal.number, refusal.place),
-                };
-                writeln!(out, "{}\t{verdict}", hex::print(&forest))?;
+                writeln!(out, "{}\t{}", hex::print(&forest), verdict(&forest))?;
             }
             Ok(())
         }
@@ -243,6 +259,20 @@ fn values(filling: &Filling) -> String {
     let values = filling.iter();
     let values = values.map(|(aux, literal)| format!("{aux}={}", hex::print(literal)));
     values.collect::<Vec<String>>().join(",")
+}
+
+/// What checks 2 to 10 say of a forest: a line of the program replay_check.
+fn verdict(bytes: &[u8]) -> String {
+    match accept(bytes) {
+        Ok(forest) => format!("accepted {}", joined(&forest, " ")),
+        Err(refusal) => format!("refused {} at {}", refusal.number, refusal.place),
+    }
+}
+
+/// Where the subtrees of a forest end, with that between any two.
+fn joined(forest: &Forest, between: &str) -> String {
+    let ends: Vec<String> = ends(forest).iter().map(u16::to_string).collect();
+    ends.join(between)
 }
 
 /// A value, `-` for none.

@@ -1,5 +1,5 @@
 //! Rows for a comparison: a call of the main call, or of the lister, with its answer; the line of a template; a filling; values
-//! of a root and of its written tree.
+//! of a root and of its written tree; forests for where subtrees end, and for the checks.
 
 use crate::check::accept;
 use crate::damage::{damaged, each};
@@ -161,6 +161,23 @@ fn valued(forest: &Forest) -> Result<Vec<Valued>, NoAnswer> {
     Ok(Numbered::all().map(under).collect())
 }
 
+/// The forest of a seed, of at most so many records, for where its subtrees end: every fourth a damaged one, and those of even
+/// seeds of several trees, if one is found; some have marks.
+pub fn ends_row(seed: u64, max_records: u64) -> Vec<u8> {
+    let mut rng = Rng::new(seed);
+    if seed % 4 == 3 {
+        let mut draws = (0..TRIES).filter_map(|_| damaged_of(&mut rng, max_records));
+        return draws.next().unwrap_or_default();
+    }
+    let mut draws = (0..TRIES).filter_map(|_| {
+        let kind = rng.pick(&[Kind::Small, Kind::Medium, Kind::Unreached]);
+        let forest = at_times_marked(rng.bits(), kind);
+        let several = seed % 2 == 1 || forest.trees.len() > 1;
+        (several && fits(&forest, max_records)).then_some(forest)
+    });
+    draws.next().unwrap_or_else(|| alone(h())).to_bytes()
+}
+
 /// The forest of a seed, for the checks alone: in turn one damaged for each of refusals 2 to 10, and
 /// five to accept, a third of them with marks.
 pub fn check_row(seed: u64) -> Vec<u8> {
@@ -250,20 +267,23 @@ fn fits(forest: &Forest, max_records: u64) -> bool {
     forest.size() as u64 <= max_records
 }
 
-/// A damaged forest; its header says how many records it has, if it is long enough to say so.
+/// A damaged forest, or no bytes if none is small enough.
 fn refused(rng: &mut Rng, max_records: u64) -> Result<Row, NoAnswer> {
-    let draw = || {
-        let bytes = damaged(rng.bits()).bytes;
-        let records = match bytes.get(2..4) {
-            Some(count) => u64::from(u16::from_le_bytes([count[0], count[1]])),
-            None => 0,
-        };
-        (records <= max_records).then(|| call(bytes))
-    };
+    let draw = || damaged_of(rng, max_records).map(call);
     match first(draw, |_| true)? {
         Some(row) => Ok(row),
         None => call(Vec::new()),
     }
+}
+
+/// A damaged forest, unless it is too large; its header says how many records it has, if it is long enough to say so.
+fn damaged_of(rng: &mut Rng, max_records: u64) -> Option<Vec<u8>> {
+    let bytes = damaged(rng.bits()).bytes;
+    let records = match bytes.get(2..4) {
+        Some(count) => u64::from(u16::from_le_bytes([count[0], count[1]])),
+        None => 0,
+    };
+    (records <= max_records).then_some(bytes)
 }
 
 /// An output exactly long enough or a byte short, too few work words, or one of refusals 11 to 14

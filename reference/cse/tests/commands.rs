@@ -4,6 +4,7 @@ use std::io::Write;
 use std::process::{Command, Stdio};
 
 use cse_reference::check::accept;
+use cse_reference::ends::{ends, telling};
 use cse_reference::evaluate::{is_simple, value, Numbered};
 use cse_reference::hex;
 use cse_reference::template::{fill, line, Filling};
@@ -232,6 +233,55 @@ fn value_rows_are_values_of_root_and_written_tree() {
     assert_eq!(prints(&["value-rows", "1", "--max-records", "0"], ""), row);
 }
 
+#[test]
+fn check_says_where_subtrees_end() {
+    let forests = prints(&["from-notation"], "p(z,z)\nn(z) | z\np(z,3)\n");
+    assert_eq!(
+        prints(&["check"], &forests),
+        "accepted 3 2 3\naccepted 2 2 3\nrefused 10 at 2\n"
+    );
+    let rows = prints(&["check-rows", "60"], "");
+    let forests = rows.lines().map(|row| row.split('\t').next().unwrap());
+    let verdicts = rows.lines().map(|row| row.split('\t').nth(1).unwrap());
+    let forests: Vec<&str> = forests.collect();
+    let given = prints(&["check"], &forests.join("\n"));
+    assert!(verdicts.eq(given.lines()), "{rows}");
+}
+
+#[test]
+fn ends_rows_are_forests_with_their_ends() {
+    let (mut refused, mut several, mut with_marks, mut told) = (0, 0, 0, 0);
+    for row in prints(&["ends-rows", "200", "--max-records", "24"], "").lines() {
+        let fields: Vec<&str> = row.split('\t').collect();
+        let ["ends", forest, given] = fields[..] else {
+            panic!("{row}");
+        };
+        let bytes = hex::parse(forest).unwrap();
+        let Ok(mut accepted) = accept(&bytes) else {
+            assert_eq!(given, "-", "{row}");
+            refused += 1;
+            continue;
+        };
+        let given: Vec<u16> = given.split(',').map(|end| end.parse().unwrap()).collect();
+        assert_eq!(given, ends(&accepted), "{row}");
+        assert!(given.len() <= 24, "{row}");
+        several += u32::from(accepted.trees.len() > 1);
+        told += u32::from(telling(&given));
+        with_marks += u32::from(accepted.constants_mut().iter().any(|c| c.aux >= 7));
+    }
+    assert_eq!(refused, 50);
+    assert!(
+        several >= 50 && with_marks >= 20 && told >= 100,
+        "{several} {with_marks} {told}"
+    );
+    // Where none is small enough, whatever is asked of its trees.
+    let row = format!("ends\t{HEIGHT}\t1\n");
+    assert_eq!(
+        prints(&["ends-rows", "2", "--max-records", "0"], ""),
+        row.repeat(2)
+    );
+}
+
 /// Every third forest to accept is from a marked kind, which leaves some without marks.
 #[test]
 fn rows_have_marks() {
@@ -254,7 +304,7 @@ fn rows_have_marks() {
 
 #[test]
 fn wrong_command_lines() {
-    let cases: [(&[&str], &str); 19] = [
+    let cases: [(&[&str], &str); 21] = [
         (&[], "a command is wanted"),
         (&["answers"], "no command is called answers"),
         (&["answer", "--length", "3"], "no option is called --length"),
@@ -288,6 +338,11 @@ fn wrong_command_lines() {
             &["list-rows", "1", "--max-records", "1"],
             "no option is called --max-records",
         ),
+        (&["check", "1"], "check: wants no operand"),
+        (
+            &["ends-rows", "1", "--out", "1"],
+            "no option is called --out",
+        ),
         (&["to-notation", "x"], "to-notation: wants no operand"),
     ];
     for (arguments, words) in cases {
@@ -299,7 +354,7 @@ fn wrong_command_lines() {
 #[test]
 fn wrong_lines() {
     let good = format!("{}\n", HEIGHT);
-    for command in ["answer", "list", "to-notation"] {
+    for command in ["answer", "list", "check", "to-notation"] {
         let before = prints(&[command], &good);
         let cases: [(&[u8], &str); 6] = [
             (b"0", "line 2: an odd number of hex digits, 1"),
