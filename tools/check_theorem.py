@@ -471,7 +471,8 @@ def checked(edit, fates, crates):
             f.write("model:\nlaws: model\ntheory: model laws\n")
         model = os.path.join(room, "crates", "model")
         # the tables of examples, and laws that code cites and the theorem does not, would be refused before anything else
-        leave_out(os.path.join(model, "specs"), ["Examples", "SheetExamples", "TemplateExamples", "FailingExamples"])
+        specs = os.path.join(model, "specs")
+        leave_out(specs, [name.removesuffix(".antt") for name in os.listdir(specs) if name.endswith("Examples.antt")])
         leave_out(os.path.join(room, "crates", "laws", "proofs"), ["Blocks", "Building", "Numbering"])
         os.mkdir(os.path.join(model, "proofs"))
         with open(os.path.join(model, "proofs", "Lib.antt"), "w") as f:
