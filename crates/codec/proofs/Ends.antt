@@ -16,8 +16,11 @@ use Rattle.model.specs.Nesting.{extents_in}
 use Rattle.model.specs.Ends.{ends_from, ends_of, entries_of, entries}
 use Rattle.laws.specs.Frame.{Frame}
 use Rattle.laws.proofs.Extents.{extents_lengths}
-use Rattle.walk.specs.Walk.{tree_at, Ends}
+use Rattle.walk.specs.Walk.{tree_at, WellFormed, Ends}
+use Rattle.walk.proofs.Bridge.{records_few}
 use Rattle.walk.proofs.Ends.{all_records, extent_is}
+use Rattle.codec.specs.Accepted.{Passes}
+use Rattle.codec.proofs.Accepting.{passes_accepts}
 
 -- ---- entries one by one
 
@@ -102,6 +105,12 @@ module _ (bs : List ℕ) (few : record_count bs ≤ 256) where
     unfolding own ends_of
     first_entries =
         ap₂ take (sym own_length) entries_are ∙ take-append_seam own spare ∙ sym (ap ends_of accepted)
+
+pub entry_is : (bs es : List ℕ) → WellFormed bs → Passes bs → es ≡ entries bs → (i : ℕ) → i < record_count bs →
+    get_or es i 0 ≡ i + size (tree_at bs i)
+entry_is bs es sound passes is i there =
+    ap (λ (l : List ℕ). get_or l i 0) is
+    ∙ noted_entries bs (records_few bs sound) (passes_accepts bs sound passes) i (omega arith) there
 
 -- ---- of a refused one
 

@@ -1,4 +1,5 @@
--- The definitions' answer, from the numbers that the call tells, for those that call it. In order: a refusal; a tree.
+-- The definitions' answer, from the numbers that the call tells, for those that call it. In order: a refusal; a tree; its
+-- bytes.
 -- Assumes nothing.
 use Prim.Native.Nat.{ℕ, ◌≤◌}
 use mathlib.Core.Path.{◌≡◌, refl, sym, ap, ◌∙◌, subst}
@@ -6,7 +7,8 @@ use mathlib.Core.Logic.{inl}
 use mathlib.Core.List.{List}
 use Rattle.std.specs.Prelude.{Result, Ok, Err}
 use native.Mathlib.Omega.{arith}
-use lib.ListN.{length, replicate, length-replicate}
+use lib.ListN.{length, take, drop, replicate, length-replicate}
+use lib.Seq.{take_at}
 use Rattle.model.specs.Lists.{is_in}
 use Rattle.model.specs.Answer.{refused, good, ◌>>=◌}
 use Rattle.model.specs.Answer as answer
@@ -15,6 +17,7 @@ use Rattle.model.specs.Forest.{trees_of}
 use Rattle.model.specs.Accept.{accept}
 use Rattle.model.specs.Intern.{State}
 use Rattle.model.specs.Call.{Call, ample, interned, tree_of, bytes_of, written_of, run, Numbers, numbers_of, numbers}
+use Rattle.model.specs.Call.{out_with, out_after}
 use Rattle.model.specs.Call as call
 use Rattle.model.specs.Conditions.{at_2}
 use Rattle.laws.proofs.Apart.{good_inj}
@@ -87,3 +90,16 @@ module _ (c : Call) (r : Result Written Refusal) (is : numbers_in r ≡ numbers 
             subst (λ (o : ℕ × State). accept (bytes_of o) ≡ good (cons (tree_of o) nil)) same
             ((accepted_exactly (bytes_of v.interned)).1 v.accepted ∙ ap good v.reads_back);
       }
+
+-- ---- a tree's bytes in the output
+
+module _ (c : Call) (m : Made c) (w : Written) (is : numbers_in (Ok w) ≡ numbers c) where
+  pub written_length : w.length ≡ length (bytes_of m.out)
+  unfolding numbers numbers_of written_of
+  written_length = ap (λ (z : Numbers). z.len) (is ∙ ap numbers_of m.runs)
+
+  pub written_bytes : (out out' : List ℕ) → out' ≡ out_after c out → take w.length out' ≡ bytes_of m.out
+  unfolding out_after out_with written_of
+  written_bytes out out' left =
+      ap (take w.length) (left ∙ ap (λ (a : answer.Answer call.Written). out_with a out) m.runs) ∙
+      take_at (bytes_of m.out) (drop (length (bytes_of m.out)) out) w.length (sym written_length)

@@ -2,7 +2,6 @@
 pub mod Kept
 pub mod After
 pub mod Weight
-pub mod Ends
 pub mod Remains
 pub mod Reading
 pub mod Bodies

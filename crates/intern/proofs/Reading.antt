@@ -20,7 +20,9 @@ use Rattle.refusal.specs.declared.Refusal.{Refusal}
 use Rattle.refusal.specs.Refusal.{number_of}
 use Rattle.walk.specs.Walk.{trees_from, rest_at, tree_at, WellFormed}
 use Rattle.walk.proofs.Bridge.{trees_at, trees_left, records_few}
+use Rattle.walk.proofs.Ends.{trees_after}
 use Rattle.codec.specs.Accepted.{Passes}
+use Rattle.codec.proofs.Ends.{entry_is}
 use Rattle.symbols.specs.Words.{words_from, pending_from}
 use Rattle.symbols.proofs.Words.{words_agree}
 use Rattle.scopes.specs.Scopes.{scope_word, level_of}
@@ -44,7 +46,6 @@ use Rattle.intern.specs.Steps.{KidsStep, kids_step, kids_done, child_at, noted}
 use Rattle.intern.specs.Words.{Kept}
 use Rattle.intern.specs.Intern.{Stands, StandsAt, Reads, LegibleAt, InThunk, trees, Operands}
 use Rattle.intern.specs.Intern.{kids_answer, ReadsAll}
-use Rattle.intern.proofs.Ends.{trees_after, entry_is}
 use Rattle.intern.proofs.Remains.{Remains, Reading}
 use Rattle.intern.proofs.Kept.{kept_none, kept_then, ChildStored, stored}
 use Rattle.intern.proofs.After.{kids_good, kids_refused, after, after_none, after-end}

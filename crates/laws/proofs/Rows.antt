@@ -54,7 +54,7 @@ join_drop (cons t ts) us = join_drop ts us
 mutual
   unfolding rows grow join_t
 
-  grow_tree : (t : Tree) (rest : List Row) → grow (rows t ++ rest) ≡ cons t (grow rest)
+  pub grow_tree : (t : Tree) (rest : List Row) → grow (rows t ++ rest) ≡ cons t (grow rest)
   grow_tree (node r ts) rest = rw (grow-trees ts rest, join_take ts (grow rest), join_drop ts (grow rest))
 
   grow-trees : (ts : Trees) (rest : List Row) → grow (rows_of ts ++ rest) ≡ join_t ts (grow rest)

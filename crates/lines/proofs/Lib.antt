@@ -1,3 +1,4 @@
 -- Laws of the lister's text, for this crate and for those that call it. Assumes nothing.
 pub mod Line
 pub mod Lines
+pub mod Savings

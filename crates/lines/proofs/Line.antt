@@ -23,7 +23,7 @@ use Rattle.output.proofs.Put.{put_then, put_both}
 use Rattle.text.proofs.Line.{newline}
 use Rattle.lines.specs.Lines.{columns}
 
-space : (32 ∷ []) ≡ text " "
+pub space : (32 ∷ []) ≡ text " "
 unfolding text
 space = refl
 

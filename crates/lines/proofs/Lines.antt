@@ -1,4 +1,4 @@
--- All symbols' lines. In order: one line more; how long lines are; the lines of the first symbols; the whole.
+-- All symbols' lines. In order: one line more; how long lines are; the lines of the first symbols; the whole, with its length.
 -- Assumes nothing.
 use Prim.Native.Nat.{ℕ, suc, ◌+◌, ◌*◌, ◌≤◌}
 use mathlib.Core.Path.{◌≡◌, sym}
@@ -15,6 +15,7 @@ use Rattle.gate.specs.Gate.{uses_at}
 use Rattle.output.specs.declared.Output.{Output}
 use Rattle.output.specs.Output.{Put}
 use Rattle.output.proofs.Put.{put_none, put_as, put_then, put_both}
+use Rattle.text.proofs.Numbers.{numeral-length}
 use Rattle.text.proofs.Line.{newline}
 use Rattle.lines.specs.Lines.{lines_to}
 use Rattle.lines.proofs.Line.{line-length}
@@ -71,3 +72,19 @@ pub symbols_parts : (bs ws : List ℕ) (n : ℕ) {o o₁ o₂ o₃ : Output} →
 unfolding symbol_lines
 symbols_parts bs ws n w₁ w₂ w₃ =
     rw (syms_length bs ws n) (put_then (rw newline at (put_both w₁ (numeral n) (10 ∷ []) w₂)) w₃)
+
+pub symbol_lines-length : (uses : ℕ → ℕ) (ss : List Sym) → length (symbol_lines uses ss) ≤ 70 * length ss + 30
+unfolding symbol_lines text
+symbol_lines-length uses ss =
+    let n = numeral (length ss) in
+    omega (
+      arith,
+      length-append (n ++ (10 ∷ [])) (lines_from uses 0 ss),
+      length-append n (10 ∷ []),
+      numeral-length (length ss),
+      lines_length uses 0 ss,
+    )
+
+pub symbols_end : (bs ws : List ℕ) (n : ℕ) {o o₁ : Output} → Put o (symbol_lines (uses_at ws) (syms_of bs ws n)) o₁ →
+    o₁.at ≤ o.at + (70 * n + 30)
+symbols_end bs ws n w = omega (arith, w.ends, symbol_lines-length (uses_at ws) (syms_of bs ws n), syms_length bs ws n)

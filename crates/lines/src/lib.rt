@@ -1,16 +1,17 @@
 // The lister's lines, written over an output, from its place on. In order: a number; a symbol's columns; its line; all
-// symbols. A refusal's line is written by `text`.
+// symbols; the line of a definition; all definitions. A refusal's line is written by `text`.
 #![tactic(auto)]
 
-ghost use Rattle.std.specs.Prelude.{◌≡◌, List, [], ◌∷◌, ◌++◌, ℕ, ◌*◌, ◌<◌, ◌≤◌, length};
+ghost use Rattle.std.specs.Prelude.{◌≡◌, List, [], ◌∷◌, ◌++◌, ℕ, ◌+◌, ◌*◌, ◌<◌, ◌≤◌, length};
 ghost use Rattle.model.specs.Forest.{record_count};
 ghost use Rattle.model.specs.Intern.{sym_at};
 ghost use Rattle.model.specs.Lister.{numeral, tag_of, opcode_shown, yes_no, line, symbol_lines};
+ghost use Rattle.model.specs.Lister.{saving_line, saving_lines};
 ghost use Rattle.regions.specs.Regions.{SLOTS, WORDS};
 ghost use Rattle.key.specs.Key.{parts_of};
 ghost use Rattle.symbols.specs.Symbols.{rec_of, model_node, syms_of, Sound};
 ghost use Rattle.gate.specs.Gate.{uses_at};
-ghost use Rattle.output.specs.Output.{Wrote, Room, Put};
+ghost use Rattle.output.specs.Output.{Room, Put};
 ghost use Rattle.lines.specs.Lines.{columns, lines_to, Listable};
 
 use key::Node;
@@ -100,18 +101,35 @@ fn put_lines(forest: &Forest, work: &[u32], n: usize, out: &mut Output)
     }
 }
 
-// What the lister prints for n symbols, whose uses are counted in the words, over the output's start.
-// The answer is its length. Rules out: that a symbol is reached as its usage; the count of symbols left out.
-pub fn put_symbols(forest: &Forest, work: &[u32], n: usize, out: &mut [u8]) -> usize
+// The count of n symbols, and their lines; the words count their uses.
+// Rules out: that a symbol is reached as its usage; the count of symbols left out.
+pub fn put_symbols(forest: &Forest, work: &[u32], n: usize, out: &mut Output)
     requires listable { Listable forest.now work.now n }
-    requires in_bounds { 65535 ≤ length out.old }
-    ensures { Wrote out.old 0
-        (symbol_lines (uses_at work.now) (syms_of forest.now work.now n))
-        out.new result }
+    requires room { Room out.old (70 * n + 30) }
+    ensures { Put out.old (symbol_lines (uses_at work.now) (syms_of forest.now work.now n)) out.new }
 {
-    let mut listed = Output::new(out);
-    listed.put_bytes(b"symbols ");
-    put_number(&mut listed, n as u32, b'\n');
-    put_lines(forest, work, n, &mut listed);
-    listed.at
+    out.put_bytes(b"symbols ");
+    put_number(out, n as u32, b'\n');
+    put_lines(forest, work, n, out);
+}
+
+// The line of a definition. Rules out: the saving before the id; a saving below zero without its minus.
+fn put_saving(out: &mut Output, id: u32, saving: i32)
+    requires { Room out.old 43 }
+    ensures { Put out.old (saving_line (id, saving)) out.new }
+{
+    put_number(out, id, b' ');
+    text::put_signed(out, saving);
+    out.put_byte(b'\n');
+}
+
+// The lines of definitions, each an id and a saving, in their order.
+// Rules out: the last one left out; one line for an id that stands twice.
+pub fn put_savings(savings: &[(u32, i32)], out: &mut Output)
+    requires { Room out.old (43 * length savings.now) }
+    ensures { Put out.old (saving_lines savings.now) out.new }
+{
+    for &(id, saving) in savings {
+        put_saving(out, id, saving);
+    }
 }

@@ -1,5 +1,5 @@
-// Reads a forest from standard input and prints its symbols, a line each, or its refusal. Of a forest over 65,535 bytes
-// 65,536 are read: it is refused for its length. A read or a write that fails ends the program with its error.
+// Reads a forest from standard input and prints its symbols and the written tree's definitions, a line each, or its
+// refusal. Of a forest over 65,535 bytes 65,536 are read: it is refused for its length. A read or a write that fails ends the program with its error.
 #![tactic(auto)]
 
 ghost use Rattle.std.specs.Prelude.{take, OnOk, IfSome};

@@ -11,7 +11,9 @@ use Rattle.model.specs.Answer as answer
 use Rattle.model.specs.Intern.{State}
 use Rattle.model.specs.Gate.{usage}
 use Rattle.model.specs.Call.{Call, ample, interned, reached_of, Written, measured, written, run, out_after}
-use Rattle.model.specs.Lister.{lines_of, lister, symbol_lines, refusal}
+use Rattle.model.specs.Tree.{nil, cons}
+use Rattle.model.specs.Savings.{savings}
+use Rattle.model.specs.Lister.{lines_of, lister, symbol_lines, saving_lines, refusal}
 use Rattle.regions.specs.Regions.{WORDS}
 use Rattle.output.proofs.Over.{over_front}
 use Rattle.output.specs.Output.{Wrote}
@@ -37,7 +39,7 @@ module _ (c : Call) (room : c.room ≡ 65535) (enough : WORDS ≤ c.words) where
   lister_refused n p e = lister_of (refused n p) e
 
   lister_good : (w : Written) (o : ℕ × State) → run c ≡ good w → interned c.forest ≡ good o →
-      lister c.forest ≡ symbol_lines (usage (reached_of o)) o.1.syms
+      lister c.forest ≡ symbol_lines (usage (reached_of o)) o.1.syms ++ saving_lines (savings (cons w.tree nil))
   unfolding lines_of
   lister_good w o e f = lister_of (good w) e ∙ ap (lines_of (good w)) f
 
@@ -60,6 +62,7 @@ module _ (c : Call) (room : c.room ≡ 65535) (enough : WORDS ≤ c.words) where
     pub refusal-listed : (n p : ℕ) → run c ≡ refused n p → Wrote mid 0 (refusal n p) out' r → Listed c out out' r
     refusal-listed n p e = text_stands (lister_refused n p e)
 
-    pub symbols-listed : (w : Written) (o : ℕ × State) → run c ≡ good w → interned c.forest ≡ good o →
-        Wrote mid 0 (symbol_lines (usage (reached_of o)) o.1.syms) out' r → Listed c out out' r
-    symbols-listed w o e f = text_stands (lister_good w o e f)
+    pub lines_listed : (w : Written) (o : ℕ × State) → run c ≡ good w → interned c.forest ≡ good o →
+        Wrote mid 0 (symbol_lines (usage (reached_of o)) o.1.syms ++ saving_lines (savings (cons w.tree nil))) out' r →
+        Listed c out out' r
+    lines_listed w o e f = text_stands (lister_good w o e f)

@@ -30,9 +30,11 @@ use Rattle.model.specs.Materialize.{process_scope}
 use Rattle.model.specs.Materialize.{build_op, arg_lit, build_node, build_step, build_value, materialize}
 use Rattle.model.specs.Call.{check1, lent_checks, interned, tree_of, bytes_of, check13, check14, tree_checks}
 use Rattle.model.specs.Call.{written_of, measured, written, run, numbers_of, numbers, out_with, out_after, work_after}
+use Rattle.model.specs.Savings.{weight, value_size, own_use, uses_of, def_here, defs_of, saving, savings, sum_ℤ, worth}
+use Rattle.model.specs.Savings.{bind, hide, use_share, share, later, shares_of, counted}
 use Rattle.model.specs.Text.{text}
 use Rattle.model.specs.Lister.{digits, numeral, hex_digit, hex_byte, tag_of, opcode_shown, yes_no, line, lines_from}
-use Rattle.model.specs.Lister.{symbol_lines, refusal, lines_of, lister}
+use Rattle.model.specs.Lister.{symbol_lines, signed, saving_line, saving_lines, refusal, lines_of, lister}
 use Rattle.model.specs.Sheet.{named, shape_names, class_names, opcode_names, hex_bytes, id_texts, args_text}
 use Rattle.model.specs.Sheet.{id_text, mark_text, const_text, own_text, literal_text, place_text, opcode_text, record_line}
 use Rattle.model.specs.Sheet.{tree_lines, forest_lines, sheet_of, sheet}
@@ -78,8 +80,13 @@ unfolding check1 lent_checks interned tree_of bytes_of check13 check14 tree_chec
     numbers_of numbers out_with out_after work_after
 calling = tt
 
+unfoldable pub saving_bytes : Unit {0}
+unfolding weight value_size own_use uses_of def_here defs_of saving savings sum_ℤ worth bind hide use_share share later shares_of counted
+saving_bytes = tt
+
 unfoldable pub listing : Unit {0}
-unfolding text digits numeral hex_digit hex_byte tag_of opcode_shown yes_no line lines_from symbol_lines refusal lines_of lister
+unfolding text digits numeral hex_digit hex_byte tag_of opcode_shown yes_no line lines_from symbol_lines signed saving_line
+    saving_lines refusal lines_of lister saving_bytes
 listing = tt
 
 unfoldable pub showing : Unit {0}

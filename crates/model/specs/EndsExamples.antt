@@ -1,6 +1,6 @@
 -- Where subtrees end, computed: of p(z,z); of two trees; of a forest that is refused; of too few work words.
 -- Assumes nothing.
-use Rattle.std.specs.Prelude.{ℕ, ◌≡◌, refl, List, [], ◌∷◌, ◌++◌, replicate, true}
+use Rattle.std.specs.Prelude.{◌≡◌, refl, [], ◌∷◌, ◌++◌, replicate, true}
 use Rattle.model.specs.Lists.{same}
 use Rattle.model.specs.Tree.{cons, serialise}
 use Rattle.model.specs.Ends.{entries, entries_of, checking, told}

@@ -149,7 +149,7 @@ h-read = refl
 
 -- ---- the lister's lines
 
-pub lines : lister (serialise (one (p z z))) ≡ text "symbols 2\n0 O FE 0 2 y\n1 O 9A 0 0 n\n"
+pub lines : lister (serialise (one (p z z))) ≡ text "symbols 2\n0 O FE 0 2 y\n1 O 9A 0 0 n\n1 -31\n"
 unfolding computing
 lines = refl
 

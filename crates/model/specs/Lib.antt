@@ -27,6 +27,7 @@ pub mod Ends
 pub mod Parameters
 pub mod Template
 pub mod Failing
+pub mod Savings
 pub mod Text
 pub mod Lister
 pub mod TemplateLine
@@ -37,3 +38,4 @@ pub mod SheetExamples
 pub mod TemplateExamples
 pub mod FailingExamples
 pub mod EndsExamples
+pub mod SavingsExamples

@@ -1,10 +1,12 @@
 -- The lister's lines ("Trees to compare", at its end), as bytes; each line ends with a newline.
 -- Assumes nothing.
-use Rattle.std.specs.Prelude.{ℕ, zero, suc, ◌+◌, ◌/◌, ◌%◌, Bool, true, false, List, [], ◌∷◌, ◌++◌, ltb, length}
+use Rattle.std.specs.Prelude.{ℕ, zero, suc, ◌+◌, ◌/◌, ◌%◌, Bool, true, false, List, [], ◌∷◌, ◌++◌, ltb, length, ℤ, pos, negsuc}
 use Rattle.model.specs.Answer.{Answer, refused, good}
+use Rattle.model.specs.Tree.{nil, cons}
 use Rattle.model.specs.Intern.{Node, constant, unparsed, argument, func, operation, Sym, Out}
 use Rattle.model.specs.Gate.{usage, should_hoist}
 use Rattle.model.specs.Call.{Written, ample, run, interned, reached_of}
+use Rattle.model.specs.Savings.{savings}
 use Rattle.model.specs.Text.{text}
 
 -- ---- numbers
@@ -61,17 +63,33 @@ lines_from uses i (s ∷ ss) = line i (uses i) s ++ lines_from uses (suc i) ss
 unfoldable pub symbol_lines : (ℕ → ℕ) → List Sym → List ℕ
 symbol_lines uses ss = text "symbols " ++ numeral (length ss) ++ text "\n" ++ lines_from uses 0 ss
 
--- the line of a refusal: number n, place p
+-- ---- the line of a definition: id and saving
+
+-- "A saving below zero is printed with a minus"
+unfoldable pub signed : ℤ → List ℕ
+signed (pos n) = numeral n
+signed (negsuc n) = text "-" ++ numeral (suc n)
+
+unfoldable pub saving_line : ℕ × ℤ → List ℕ
+saving_line s = numeral s.0 ++ text " " ++ signed s.1 ++ text "\n"
+
+unfoldable pub saving_lines : List (ℕ × ℤ) → List ℕ
+saving_lines [] = []
+saving_lines (s ∷ ss) = saving_line s ++ saving_lines ss
+
+-- ---- the line of a refusal: number n, place p
+
 unfoldable pub refusal : ℕ → ℕ → List ℕ
 refusal n p = text "refused " ++ numeral n ++ text " at " ++ numeral p ++ text "\n"
 
 -- ---- what is printed for a forest, the main call being lent 65,535 output bytes
 
--- usage is `flat_usage_reachable` from the root, which is the gate's own count (request A.2), and y is said at it
+-- usage is `flat_usage_reachable` from the root, which is the gate's own count (request A.2), and y is said at it; after the
+-- symbols' lines stand those of the written tree's definitions (request A.1)
 unfoldable pub lines_of : Answer Written → Out → List ℕ
 lines_of (refused n p) o = refusal n p
 lines_of (good w) (refused n p) = []
-lines_of (good w) (good o) = symbol_lines (usage (reached_of o)) o.1.syms
+lines_of (good w) (good o) = symbol_lines (usage (reached_of o)) o.1.syms ++ saving_lines (savings (cons w.tree nil))
 
 unfoldable pub lister : List ℕ → List ℕ
 lister bs = lines_of (run (ample bs)) (interned bs)

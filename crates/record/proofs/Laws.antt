@@ -1,5 +1,5 @@
 -- Where records lie, from checks 2 and 3: a row of the forest is what its pair cuts out. In order: the pairs; the rows
--- that sound pairs cut out; where a record lies; what is read; a row's fields.
+-- that sound pairs cut out; where a record lies; all records; what is read; a row's fields.
 -- Assumes nothing.
 use Prim.Native.Nat.{ℕ, zero, suc, ◌+◌, ◌*◌, ◌-◌, ◌<◌, ◌≤◌}
 use mathlib.Core.Path.{◌≡◌, refl, sym, ap, ◌∙◌, subst}
@@ -21,6 +21,7 @@ use Rattle.model.specs.Forest.{tree_count, record_count, pairs_at, pairs_of, row
 use Rattle.model.specs.Forest.{bad_pairs, check3}
 use Rattle.laws.proofs.Apart.{some_none}
 use Rattle.laws.specs.Clear.{Clear}
+use Rattle.laws.specs.Rows as rows
 use Rattle.laws.proofs.Clear.{first_clear}
 use Rattle.laws.proofs.Header.{header_of, pairs_length}
 use Rattle.laws.proofs.Members.{or_neither}
@@ -39,6 +40,11 @@ pair_at (suc n) bs (suc i) l =
     pair_at n (drop 4 bs) i (omega arith) ∙ rw (drop-drop (4 * i) 4 bs, drop-drop (2 + 4 * i) 4 bs, e, f)
 
 -- ---- rows that sound pairs cut out
+
+-- a row is as long as its pair says
+cut_long : (n : ℕ) (s : List ℕ) → 5 ≤ n → n ≤ length s → row_len (row_of (take n s)) ≡ n
+unfolding row_len row_of
+cut_long n s least most = omega (arith, length-drop 5 (take n s), length-take-le n s most)
 
 -- what check 3 leaves of a pair, and the row that it cuts out
 record Cut (total : ℕ) (s : List ℕ) (p : ℕ × ℕ) (r : Row) : Type 0 where
@@ -120,6 +126,30 @@ laid_lies bs i laid l = record {
         let e : 4 + (2 + 4 * i) ≡ 6 + 4 * i = omega arith in
         pair_at (record_count bs) (drop 4 bs) i l ∙ rw (drop-drop (4 * i) 4 bs, drop-drop (2 + 4 * i) 4 bs, e)
 
+-- ---- all records
+
+-- they take no more bytes than the forest has
+cuts_inside : (s : List ℕ) (from : ℕ) (ps : Pairs) → from ≤ length s → Clear (bad_pairs (length s) from ps) →
+    from + rows.total (rows_at ps (drop from s)) ≤ length s
+unfolding rows_at bad_pairs
+cuts_inside s from [] most h = omega arith
+cuts_inside s from (p ∷ ps) most h =
+    let start = pair_starts (length s) from p ps h in
+    let inside = pair_inside (length s) from p ps h in
+    let e : from + p.1 ≡ p.0 + p.1 = omega (arith, start) in
+    let rest : drop p.1 (drop from s) ≡ drop (p.0 + p.1) s = drop-drop p.1 from s ∙ ap (λ (z : ℕ). drop z s) e in
+    let long = cut_long p.1 (drop from s) (pair_long (length s) from p ps h) (omega (arith, length-drop from s, start, inside)) in
+    rw (rest, long) (omega (arith, start, cuts_inside s (p.0 + p.1) ps inside h.1))
+
+pub lengths_inside : (bs : List ℕ) → Laid bs → rows.total (rows_in bs) ≤ length bs
+unfolding rows_in
+lengths_inside bs laid =
+    let d = fits-directory bs laid.directory in
+    omega (arith, cuts_inside bs (body_start bs) (pairs_of bs) d.0 d.1)
+
+pub bytes_few : (bs : List ℕ) → Laid bs → length bs ≤ 65535
+bytes_few bs laid = (header_of bs laid.header).most
+
 pub records_few : (bs : List ℕ) → Laid bs → record_count bs ≤ 256
 records_few bs laid = (header_of bs laid.header).records_most
 
@@ -192,13 +222,10 @@ module _ (bs : List ℕ) (i : ℕ) (laid : Laid bs) (l : i < record_count bs) wh
 
   -- a record is as long as its pair says
   pub size_at : row_len (row_at bs i) ≡ size_of bs i
-  unfolding row_len row_of
   size_at =
       let rest = drop (start_of bs i) bs in
-      let cut = take (size_of bs i) rest in
       let enough : size_of bs i ≤ length rest = omega (arith, length-drop (start_of bs i) bs, lies.inside) in
-      let long : length cut ≡ size_of bs i = length-take-le (size_of bs i) rest enough in
-      ap row_len lies.row ∙ omega (arith, length-drop 5 cut, long, lies.fixed)
+      ap row_len lies.row ∙ cut_long (size_of bs i) rest lies.fixed enough
 
   pub size_inside : start_of bs i + row_len (row_at bs i) ≤ length bs
   size_inside = omega (arith, size_at, lies.inside)

@@ -7,6 +7,9 @@
 // would have to promise at each call that it still holds the same words.
 pub const WORDS: usize = 16384;
 
+// Of these the ids in force take, while checks run: a check by itself needs no more.
+pub const IDS_WORDS: usize = 3840;
+
 // While symbols are made. (The ids in force while checks run, and the symbols, begin at word 0.)
 pub const SLOTS: usize = 2560;
 

@@ -5,16 +5,15 @@ use Prim.Native.Nat.{ℕ}
 use mathlib.Core.Path.{◌≡◌, refl, sym, ap, ap₂, ◌∙◌, subst}
 use mathlib.Core.List.{List, append-nil}
 use Rattle.std.specs.Prelude.{Ok, Err}
-use lib.ListN.{length, take, drop}
-use lib.Seq.{take_at}
+use lib.ListN.{length, take}
 use Rattle.model.specs.Answer.{refused, good}
 use Rattle.model.specs.Answer as answer
 use Rattle.model.specs.Tree.{nil, cons, rows, rows_of}
 use Rattle.model.specs.Forest.{rows_in}
 use Rattle.model.specs.Accept.{accept}
 use Rattle.model.specs.Intern.{State}
-use Rattle.model.specs.Call.{Call, call_of, ample, tree_of, bytes_of, written_of, run, Numbers, numbers_of, numbers}
-use Rattle.model.specs.Call.{out_with, out_after}
+use Rattle.model.specs.Call.{Call, call_of, ample, tree_of, bytes_of, written_of, run, numbers}
+use Rattle.model.specs.Call.{out_after}
 use Rattle.model.specs.Call as call
 use Rattle.model.specs.Lister.{refusal}
 use Rattle.model.specs.TemplateLine.{two_values, verdict, line_of, template_line}
@@ -25,7 +24,7 @@ use Rattle.refusal.specs.declared.Refusal.{Refusal}
 use Rattle.refusal.specs.Refusal.{number_of}
 use Rattle.cse.specs.declared.Written.{Written}
 use Rattle.cse.specs.Call.{numbers_in}
-use Rattle.cse.proofs.Told.{told_refused, told_written}
+use Rattle.cse.proofs.Told.{told_refused, told_written, written_bytes}
 
 -- ---- the written tree's bytes
 
@@ -68,15 +67,12 @@ module _ (bs out ws : List ℕ) (room : length out ≡ 65535) (words : length ws
 
   pub read-written : (w : Written) (out' : List ℕ) → numbers_in (Ok w) ≡ numbers lent → out' ≡ out_after lent out →
       Read bs (take w.length out')
-  unfolding numbers numbers_of out_after out_with written_of line_of
+  unfolding written_of line_of
   read-written w out' is left =
       let m = told_written lent (Ok w) is w refl in
       let o = m.out in
       let again = rows_again o m.rereads in
-      let long : w.length ≡ length (bytes_of o) = ap (λ (z : Numbers). z.len) (is ∙ ap numbers_of m.runs) in
-      let bytes : take w.length out' ≡ bytes_of o =
-      ap (take w.length) (left ∙ ap (λ (a : answer.Answer call.Written). out_with a out) m.runs) ∙
-      take_at (bytes_of o) (drop (length (bytes_of o)) out) w.length (sym long) in
+      let bytes = written_bytes lent m w is out out' left in
       record {
         forest_laid = (accept-passed bs _ m.accepts).shaped.sound.laid;
         tree_laid = subst Laid (sym bytes) again.0;

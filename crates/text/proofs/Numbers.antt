@@ -1,4 +1,4 @@
--- Numbers as text. In order: the digits of a number; how many; one digit more.
+-- Numbers as text. In order: the digits of a number; how many; one digit more; below zero.
 -- Assumes nothing.
 use Prim.Native.Nat.{ℕ, zero, suc, ◌+◌, ◌*◌, ◌/◌, ◌%◌, ◌<◌, ◌≤◌}
 use mathlib.Core.Path.{◌≡◌, refl, sym, ap, ◌∙◌}
@@ -7,9 +7,13 @@ use mathlib.Core.List.{List, [], ◌∷◌, ◌++◌}
 use mathlib.Core.Logic.{◌⊎◌, inl, inr, ⊎_elim}
 use native.Mathlib.Omega.{arith}
 use lib.Dec.{ltb}
+use lib.IntN.{ℤ, pos, negsuc, nat_abs}
 use lib.ListN.{length, length-append}
+use lib.Signed.{◌<ℤ◌, ◌≤ℤ◌}
 use borrow.Author.Tests.{lt-ltb, le-ltb, ltb-true, ltb-false}
-use Rattle.model.specs.Lister.{digits, numeral}
+use Rattle.std.proofs.lemmas.Int.{ints}
+use Rattle.model.specs.Text.{text}
+use Rattle.model.specs.Lister.{digits, numeral, signed}
 
 -- ---- the digits of a number
 
@@ -70,6 +74,11 @@ pub numeral-length : (n : ℕ) → length (numeral n) ≤ 20
 unfolding numeral
 numeral-length n = digits-length 20 n []
 
+pub signed-length : (z : ℤ) → length (signed z) ≤ 21
+unfolding signed text
+signed-length (pos n) = omega (arith, numeral-length n)
+signed-length (negsuc n) = omega (arith, numeral-length (suc n))
+
 -- ---- one digit more
 
 pub numeral-one : (n d : ℕ) → n < 10 → d ≡ 48 + n → (d ∷ []) ≡ numeral n
@@ -93,3 +102,25 @@ pub numeral_before : (n : ℕ) → 10 ≤ n → n < 18446744073709551616 → len
 numeral_before n l h =
     let e = numeral-more n (48 + n % 10) l h refl in
     omega (arith, ap length e, length-append (numeral (n / 10)) ((48 + n % 10) ∷ []))
+
+-- ---- below zero
+
+-- what stands before the digits
+unfoldable pub minus : ℤ → List ℕ
+minus (pos n) = []
+minus (negsuc n) = 45 ∷ []
+
+pub minus_digits : (z : ℤ) → minus z ++ numeral (nat_abs z) ≡ signed z
+unfolding minus signed text
+minus_digits (pos n) = refl
+minus_digits (negsuc n) = refl
+
+pub minus_below : (z : ℤ) → z <ℤ pos 0 → (45 ∷ []) ≡ minus z
+unfolding minus
+minus_below (pos n) below = absurd (omega (arith, ints))
+minus_below (negsuc n) below = refl
+
+pub minus_above : (z : ℤ) → pos 0 ≤ℤ z → [] ≡ minus z
+unfolding minus
+minus_above (pos n) above = refl
+minus_above (negsuc n) above = absurd (omega (arith, ints))

@@ -1,10 +1,10 @@
 // Text written over an output, from its place on; the rest of the output is as it was.
-// In order: two bytes; a number in decimal; a byte in hexadecimal; lines with two numbers, that of a refusal among
-// them.
+// In order: two bytes; a number in decimal, also below zero; a byte in hexadecimal; lines with two numbers, that of a
+// refusal among them.
 #![tactic(auto)]
 
 ghost use Rattle.std.specs.Prelude.{◌≡◌, [], ◌∷◌, ◌++◌, ◌+◌, ◌<◌, ◌≤◌, length};
-ghost use Rattle.model.specs.Lister.{numeral, hex_digit, hex_byte, refusal};
+ghost use Rattle.model.specs.Lister.{numeral, signed, hex_digit, hex_byte, refusal};
 ghost use Rattle.output.specs.Output.{Wrote, Room, Put};
 
 use output::Output;
@@ -39,6 +39,19 @@ pub fn put_decimal(out: &mut Output, n: u64)
     }
     put_decimal(out, n / 10);
     out.put_byte(digit(n % 10));
+}
+
+// n in decimal, with a minus where it is below zero.
+// Rules out: a minus before 0; the sign lost at -1.
+pub fn put_signed(out: &mut Output, n: i32)
+    requires { Room out.old (length (signed n)) }
+    ensures { Put out.old (signed n) out.new }
+{
+    let negative = n < 0;
+    if negative {
+        out.put_byte(b'-');
+    }
+    put_decimal(out, u64::from(n.unsigned_abs()));
 }
 
 // ---- a byte in hexadecimal

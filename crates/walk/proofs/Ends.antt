@@ -1,24 +1,26 @@
 -- Where subtrees end: what a walk has noted of them.
--- In order: records and subtrees within the forest; nothing noted; steps; the entries by the trees of the forest.
+-- In order: records and subtrees within the forest; what starts there; nothing noted; steps; the entries by the trees of the
+-- forest.
 -- Assumes nothing.
-use Prim.Native.Nat.{ℕ, ◌+◌, ◌-◌, ◌<◌, ◌≤◌}
-use mathlib.Core.Path.{◌≡◌, ap, ◌∙◌}
+use Prim.Native.Nat.{ℕ, suc, ◌+◌, ◌-◌, ◌<◌, ◌≤◌}
+use mathlib.Core.Path.{◌≡◌, sym, ap, ◌∙◌}
 use mathlib.Core.List.{List}
 use Rattle.std.specs.Prelude.{Ok}
 use native.Mathlib.Omega.{arith}
 use native.Mathlib.Decide.{dec_lt}
 use native.Mathlib.Numerals.{add-one}
 use lib.ListN.{length, get_or, set, drop, length-drop}
-use lib.Seq.{get_or-set_same, get_or-set_other}
-use Rattle.model.specs.Tree.{size, sizes}
+use lib.Seq.{drop-drop, get_or-set_same, get_or-set_other}
+use Rattle.model.specs.Tree.{size, sizes, grow}
 use Rattle.model.specs.Forest.{record_count, rows_in, trees_of}
 use Rattle.model.specs.Nesting.{extents_in}
 use Rattle.laws.specs.Frame.{Frame}
 use Rattle.laws.proofs.Frame.{frame_none, frame_inside, frame_store, frame_then}
 use Rattle.laws.proofs.Header.{row_count}
+use Rattle.laws.proofs.Rows.{next_row}
 use Rattle.laws.proofs.Extents.{sizes_grow, extent_at}
 use Rattle.record.specs.Record.{no_row, row_at}
-use Rattle.walk.specs.Walk.{trees_from, kid_trees_at, tree_at, Noted}
+use Rattle.walk.specs.Walk.{trees_from, kid_trees_at, rest_at, tree_at, Noted}
 use Rattle.walk.proofs.Bridge.{trees_at}
 
 -- ---- records and subtrees within the forest
@@ -35,6 +37,15 @@ all_records bs = sizes_grow (rows_in bs) ∙ row_count bs
 pub subtree_within : (bs : List ℕ) (i : ℕ) → i < record_count bs → i + size (tree_at bs i) ≤ record_count bs
 unfolding size
 subtree_within bs i l = omega (arith, records_from bs i, ap sizes (trees_at bs i l))
+
+-- the trees that follow a record's subtree start where it ends
+pub trees_after : (bs : List ℕ) (i : ℕ) → trees_from bs (i + size (tree_at bs i)) ≡ rest_at bs i
+unfolding trees_from kid_trees_at rest_at size
+trees_after bs i =
+    let e : i + suc (sizes (kid_trees_at bs i)) ≡ i + 1 + sizes (kid_trees_at bs i) = omega arith in
+    ap (λ (n : ℕ). grow (drop n (rows_in bs))) e
+    ∙ ap grow (sym (drop-drop (sizes (kid_trees_at bs i)) (i + 1) (rows_in bs)))
+    ∙ next_row (drop (i + 1) (rows_in bs)) (row_at bs i).kids
 
 -- ---- nothing noted
 

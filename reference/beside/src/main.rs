@@ -28,8 +28,10 @@ usage: beside compare KIND COUNT [SEED [LEAST [TELLING]]]
        beside list KIND COUNT [SEED [LEAST [TELLING]]]
                                           accepted forests of a kind, or refused ones where KIND is damaged, through the
                                           program lister, its text beside the reading's; TELLING of them have to tell
-                                          what is counted: by the uses of all symbols they would have another text; or,
-                                          with marks, tell these apart: without they would have another text
+                                          what is counted: by the uses of all symbols they would have other symbols'
+                                          lines; or, with marks, tell these apart: without they would have another text;
+                                          or, of savings, tell what is saved: they have a saving above zero and one that
+                                          is not, and by the uses of ids alone they would have other definitions' lines
        beside ends KIND COUNT [SEED [LEAST [TELLING]]]
                                           accepted forests of a kind, or refused ones where KIND is damaged, through the
                                           check: number, place and where subtrees end beside the reading; TELLING of them

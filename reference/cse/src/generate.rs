@@ -12,6 +12,7 @@ mod profile;
 pub mod records;
 mod rng;
 mod room;
+mod savings;
 mod templates;
 
 pub use rng::Rng;
@@ -58,10 +59,12 @@ pub enum Kind {
     /// One tree without lambda and field, rich in IF, ED, EC and definitions: the forests of request A.8. Up to 60 records, at
     /// times up to 256.
     Simple,
+    /// Definitions that save bytes, and some that do not: request A.1.
+    Savings,
 }
 
 impl Kind {
-    pub const ALL: [Kind; 16] = [
+    pub const ALL: [Kind; 17] = [
         Kind::Small,
         Kind::Medium,
         Kind::Large,
@@ -78,6 +81,7 @@ impl Kind {
         Kind::Unreached,
         Kind::Flat,
         Kind::Simple,
+        Kind::Savings,
     ];
 
     pub fn name(self) -> &'static str {
@@ -98,6 +102,7 @@ impl Kind {
             Kind::Unreached => "unreached",
             Kind::Flat => "flat",
             Kind::Simple => "simple",
+            Kind::Savings => "savings",
         }
     }
 
@@ -178,6 +183,7 @@ pub fn accepted(seed: u64, kind: Kind) -> Forest {
         Kind::Readings => counted::near_readings(&mut rng),
         Kind::Symbols => counted::near_symbols(&mut rng),
         Kind::Flat => flat::forest(&mut rng),
+        Kind::Savings => savings::forest(&mut rng),
         Kind::Scopes if rng.chance(40) => limits::nested(&mut rng),
         _ => builder::forest(rng, kind),
     }

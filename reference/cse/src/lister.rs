@@ -1,5 +1,7 @@
-//! The lister of document 01, with request A.2: the original's symbols, a line each.
+//! The lister of document 01, with requests A.2 and A.1: the original's symbols, a line each, and then a line for each
+//! definition of the tree that it writes.
 
+use std::cmp::Ordering;
 use std::collections::BTreeMap;
 use std::fmt::Write;
 
@@ -11,8 +13,9 @@ use crate::oracle::{
     answer_deep, by_original, interned, on_large_stack, without_marks, NoAnswer, Work, MAX_OUTPUT,
     MIN_WORK_WORDS,
 };
+use crate::savings::{savings, Savings};
 
-/// The lister's text: a line a symbol, or what the main call refuses with. By the original, as far as it ends in time.
+/// The lister's text: a line a symbol and a line a definition, or what the main call refuses with. By the original, as far as it ends in time.
 pub fn lister(forest: &[u8]) -> Result<Vec<u8>, NoAnswer> {
     let listing = listing(forest)?;
     by_original(listing.work)?;
@@ -27,8 +30,10 @@ pub struct Listing {
     pub unreached: bool,
     /// Whether a definition has no use.
     pub unused: bool,
-    /// Whether the text would be another if the uses by all symbols counted.
+    /// Whether the symbols' lines would be others if the uses by all symbols counted.
     pub telling: bool,
+    /// What the definitions of the written tree save.
+    pub savings: Savings,
     /// What making the tree took, where one was made.
     pub work: Option<Work>,
 }
@@ -44,17 +49,39 @@ pub fn listing(forest: &[u8]) -> Result<Listing, NoAnswer> {
         });
     }
     let forest = accept(forest).expect("a forest with an answer is accepted");
+    let written = accept(&told.answer.tree).expect("a written tree is accepted");
     Ok(on_large_stack(|| {
         let (interner, root) = interned(&forest);
-        let text = symbol_lines(&interner, &interner.flat_usage_reachable(root));
+        let symbols = symbol_lines(&interner, &interner.flat_usage_reachable(root));
+        let savings = savings(&written.trees[0]);
         Listing {
             unreached: unreached(&forest, &interner, root),
             unused: forest.trees.iter().any(defines_unused),
-            telling: text != symbol_lines(&interner, &interner.flat_usage()),
+            telling: symbols != symbol_lines(&interner, &interner.flat_usage()),
             work: told.work,
-            text,
+            text: symbols + &savings.lines(),
+            savings,
         }
     }))
+}
+
+impl Listing {
+    /// Whether the written tree has a definition.
+    pub fn defines(&self) -> bool {
+        !self.savings.definitions.is_empty()
+    }
+
+    /// Whether it has one with a saving below zero, of zero or above it, as `side` says.
+    pub fn saves(&self, side: Ordering) -> bool {
+        self.savings.each().any(|saving| saving.cmp(&0) == side)
+    }
+
+    /// Whether it has one that saves bytes and one that does not, and another text would follow if uses were counted by
+    /// their ids alone.
+    pub fn tells_savings(&self) -> bool {
+        let both = self.saves(Ordering::Greater) && self.savings.each().any(|saving| saving <= 0);
+        both && self.savings.lines() != self.savings.lines_by_id()
+    }
 }
 
 /// Whether marks matter to a forest with that listing: without them its text would be another. False where it would have

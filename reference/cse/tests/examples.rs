@@ -236,7 +236,7 @@ fn lists(forest: &Forest, text: &str) {
 fn the_lister() {
     lists(
         &alone(p(z(), z())),
-        "symbols 2\n0 O FE 0 2 y\n1 O 9A 0 0 n\n",
+        "symbols 2\n0 O FE 0 2 y\n1 O 9A 0 0 n\n1 -31\n",
     );
     lists(&alone(val_use(3)), "refused 10 at 0\n");
 }
@@ -245,7 +245,8 @@ fn the_lister() {
 fn the_lister_shows_no_marks() {
     // What the gate says and how often a symbol is used still hang on them.
     let pair = |left, right| alone(p(marked(x(), left), marked(x(), right)));
-    let shared = "symbols 2\n0 C 00 0 2 y\n1 O 9A 0 0 n\n";
+    // The tree has {1=x; p(1,1)}: 2 × 11 - 11 - 14 - 2 × 13.
+    let shared = "symbols 2\n0 C 00 0 2 y\n1 O 9A 0 0 n\n1 -29\n";
     lists(&pair(0, 0), shared);
     lists(&pair(35, 35), shared);
     let apart = "symbols 3\n0 C 00 0 1 n\n1 C 00 0 1 n\n2 O 9A 0 0 n\n";
@@ -288,7 +289,7 @@ fn the_lister_counts_from_the_root() {
     };
     lists(
         &environment(p(z(), z())),
-        "symbols 3\n0 O FE 0 2 y\n1 O 9A 0 0 n\n2 O F0 0 0 n\n",
+        "symbols 3\n0 O FE 0 2 y\n1 O 9A 0 0 n\n2 O F0 0 0 n\n1 -31\n",
     );
     lists(
         &environment(z()),

@@ -1,5 +1,5 @@
-//! Generated forests: the accepted ones get an answer that keeps the meaning, the damaged ones
-//! exactly their refusal.
+//! Generated forests: the accepted ones get an answer that keeps the meaning, with definitions that save what the records
+//! say, the damaged ones exactly their refusal.
 
 use std::collections::BTreeMap;
 
@@ -7,6 +7,7 @@ use cse_reference::check::{accept, Refusal};
 use cse_reference::damage::damaged;
 use cse_reference::generate::{Family, Kind};
 use cse_reference::oracle::{answer, NoAnswer};
+use cse_reference::savings::savings;
 use cse_reference::unfold::keeps_meaning;
 
 const FORESTS_A_KIND: u64 = 240;
@@ -24,6 +25,9 @@ fn numbers(family: Family, seeds: std::ops::Range<u64>) -> BTreeMap<Option<u32>,
                 if given.number == 0 {
                     let same = keeps_meaning(&bytes, &given.tree);
                     assert_eq!(same, Some(true), "{name} {seed}");
+                    let written = accept(&given.tree).unwrap();
+                    let found = savings(&written.trees[0]);
+                    assert_eq!(found.total(), found.counted, "{name} {seed}");
                 }
                 Some(given.number)
             }

@@ -1,34 +1,55 @@
 -- `listing::list` meets its contract. Assumes nothing.
-use mathlib.Core.Path.{refl, ap₂, ◌∙◌}
+use mathlib.Core.Path.{refl, sym, ap₂, ◌∙◌}
+use mathlib.Core.List.{◌++◌}
+use Rattle.std.proofs.lemmas.List.{length-take-le}
 use Rattle.model.specs.Call.{call_of, written_of}
-use Rattle.model.specs.Lister.{refusal}
+use Rattle.model.specs.Lister.{saving_lines, refusal}
 use Rattle.output.proofs.Wrote.{wrote_as}
-use Rattle.cse.proofs.Told.{told_refused, told_written}
+use Rattle.cse.proofs.Told.{told_refused}
 use Rattle.listing.proofs.Symbols.{held_laid, listable, lines_same}
 use Rattle.listing.proofs.Told.{pass_numbers, pass_output}
-use Rattle.listing.proofs.Text.{refusal-listed, symbols-listed}
+use Rattle.listing.proofs.Tree.{Left, tree_left}
+use Rattle.listing.proofs.Text.{refusal-listed, lines_listed}
 use Rattle.listing.proofs.list.Goals as goal
+use Rattle.listing.proofs.list.Goals.{In-Ok}
+
+-- what is left of a tree that is written
+left : (c : In-Ok) → Left (call_of c.args.forest.now c.args.out.now c.args.work.now) c.in-Ok.w c.pass.new.out
+left c =
+    let out = c.args.out.now in
+    let call = call_of c.args.forest.now out c.args.work.now in
+    let p = c.pass in
+    tree_left call c.requires.1 out p.new.out p.result p.ensures.tells refl p.auto.out c.in-Ok.w c.in-Ok.is
+
+pub slice_bounds-savings-end : goal.slice_bounds-savings-end
+slice_bounds-savings-end c = (left (goal.at.slice_bounds-savings-end c).In-Ok).within
+
+pub slice_bounds-savings-end-in-Ok : goal.slice_bounds-savings-end-in-Ok
+slice_bounds-savings-end-in-Ok c =
+    sym (length-take-le c.in-Ok.w.length c.pass.new.out (left (goal.at.slice_bounds-savings-end-in-Ok c).In-Ok).within)
 
 pub new-requires : goal.new-requires
 new-requires c =
     held_laid c.args.forest.now c.pass.new.work _ c.in-Ok.ensures.held_after
 
-pub put_symbols-requires-clause-listable : goal.put_symbols-requires-clause-listable
-put_symbols-requires-clause-listable c =
+pub put_lines-requires-clause-listable : goal.put_lines-requires-clause-listable
+put_lines-requires-clause-listable c =
     rw c.new.ensures (listable c.args.forest.now c.pass.new.work _ c.in-Ok.ensures.held_after)
 
 pub returns-in-Ok-clause-listed : goal.returns-in-Ok-clause-listed
+unfolding written_of
 returns-in-Ok-clause-listed c =
+    let bs = c.args.forest.now in
     let out = c.args.out.now in
-    let call = call_of c.args.forest.now out c.args.work.now in
+    let call = call_of bs out c.args.work.now in
     let p = c.pass in
-    let told = p.ensures.tells in
-    let v = c.in-Ok in
-    let made = told_written call p.result (pass_numbers call c.requires.1 out p.new.out p.result told) v.w v.is in
-    symbols-listed call c.requires.0 c.requires.1 out p.new.out c.put_symbols.new.out c.put_symbols.result
-    (pass_output call c.requires.1 out p.new.out p.result told) p.auto.out (written_of made.out) made.out made.runs
-    made.interns
-    (wrote_as (lines_same c.args.forest.now p.new.work _ v.ensures.held_after made.out made.interns) (rw c.new.ensures at c.put_symbols.ensures))
+    let t = left (goal.at.returns-in-Ok-clause-listed c).In-Ok in
+    let made = t.made in
+    let symbols = lines_same bs p.new.work _ c.in-Ok.ensures.held_after made.out made.interns in
+    let lines = ap₂ (λ a b. a ++ saving_lines b) symbols (c.deref.ensures.0 ∙ c.savings-saved.ensures.lines ∙ t.saves) in
+    lines_listed call c.requires.0 c.requires.1 out p.new.out c.put_lines.new.out c.put_lines.result
+    (pass_output call c.requires.1 out p.new.out p.result p.ensures.tells) p.auto.out (written_of made.out) made.out made.runs
+    made.interns (wrote_as lines (rw c.new.ensures at c.put_lines.ensures))
 
 pub returns-in-Err-clause-listed : goal.returns-in-Err-clause-listed
 returns-in-Err-clause-listed c =

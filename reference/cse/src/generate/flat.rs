@@ -151,7 +151,7 @@ impl Flat {
     }
 }
 
-fn thunk(rng: &mut Rng, inner: Tree) -> Tree {
+pub(super) fn thunk(rng: &mut Rng, inner: Tree) -> Tree {
     let (shape, opcode, children) = match rng.below(4) {
         0 => (TWO, BIN_AND, vec![height(), inner]),
         1 => (TWO, BIN_OR, vec![height(), inner]),

@@ -213,7 +213,12 @@ impl Profile {
                 ..mixed
             },
             // All but the first are made elsewhere, by counting.
-            Kind::Small | Kind::NearLimit | Kind::Readings | Kind::Symbols | Kind::Flat => mixed,
+            Kind::Small
+            | Kind::NearLimit
+            | Kind::Readings
+            | Kind::Symbols
+            | Kind::Flat
+            | Kind::Savings => mixed,
         }
     }
 

@@ -1,0 +1,4 @@
+-- What the contracts cite. Assumes nothing.
+pub mod Plain
+pub mod Siblings
+pub mod Saved
