@@ -17,7 +17,7 @@ use output::Output;
 use record::Forest;
 
 // The lines of n symbols, whose uses are counted in the words, and then those of definitions, over the output's start; the
-// answer is their length. Rules out: the definitions first; a line of symbols for the length.
+// answer is their length. Rules out: the definitions first; the length of the symbols' lines alone.
 fn put_lines(
     forest: &Forest,
     work: &[u32],
