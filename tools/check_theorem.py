@@ -448,9 +448,9 @@ def replace(room, place, old, new, once):
         f.write(text.replace(old, new))
 
 
-def leave_out(folder, names):
-    """Removes modules of a folder."""
-    lib = os.path.join(folder, "Lib.antt")
+def leave_out(folder, names, listing="Lib.antt"):
+    """Removes modules of a folder, which that file lists."""
+    lib = os.path.join(folder, listing)
     with open(lib) as f:
         text = f.read()
     for name in names:
@@ -474,6 +474,8 @@ def checked(edit, fates, crates):
         specs = os.path.join(model, "specs")
         leave_out(specs, [name.removesuffix(".antt") for name in os.listdir(specs) if name.endswith("Examples.antt")])
         leave_out(os.path.join(room, "crates", "laws", "proofs"), ["Blocks", "Building", "Numbering"])
+        # and what is said of labels, whose definitions repeat those that are edited
+        leave_out(os.path.join(room, "crates", "theory", "proofs", "Promise"), ["Definitions"], "../Promise.antt")
         os.mkdir(os.path.join(model, "proofs"))
         with open(os.path.join(model, "proofs", "Lib.antt"), "w") as f:
             f.write("mod Counter\n")

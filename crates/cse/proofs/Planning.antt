@@ -5,13 +5,14 @@ use mathlib.Core.List.{List}
 use Rattle.std.specs.Prelude.{Option, None, Some, MatchOption, IfSome}
 use native.Mathlib.Omega.{arith}
 use lib.ListN.{length}
-use Rattle.regions.specs.Regions.{SYMBOLS, SLOTS, USES, WORDS}
+use Rattle.regions.specs.Regions.{SYMBOLS, SLOTS, PLAN, USES, REACHED, WORDS}
 use Rattle.model.specs.Tree.{Tree, size, rows}
 use Rattle.model.specs.Materialize.{materialize}
 use Rattle.model.specs.Answer.{good}
 use Rattle.model.specs.Forest.{trees_of}
 use Rattle.model.specs.Accept.{accept}
-use Rattle.model.specs.Call.{tree_of, interned}
+use Rattle.model.specs.Call.{reached_of, tree_of, interned}
+use Rattle.model.specs.Labels.{labelled, defined_of}
 use Rattle.laws.proofs.Frame.{frame_then, frame_wider}
 use Rattle.laws.proofs.Rows.{size_rows}
 use Rattle.symbols.specs.Symbols.{syms_of}
@@ -24,6 +25,7 @@ use Rattle.interner.specs.State.{abs_of, Rep}
 use Rattle.gate.specs.Gate.{Reached}
 use Rattle.graph.specs.Graph.{Arena}
 use Rattle.graph.proofs.Laws.{Still, still_above, arena_agree}
+use Rattle.plan.specs.Plan.{plan_from, symbols_in}
 use Rattle.planner.specs.declared.Plan.{Plan}
 use Rattle.materialize.specs.Materialize.{Counted, PlannedAs, Materialized}
 use Rattle.cse.specs.Call.{PlanOf, PlanWritable, Planned, Held}
@@ -76,10 +78,18 @@ module _ (bs ws : List ℕ) (st : State) (rep : Rep bs ws st) (root : ℕ) (ws�
           record { words = long; few = h.few; writable = h.writable },
         )
 
-    -- planning leaves symbols, scopes and uses as they are
-    pub held : accept bs ≡ good (trees_of bs) → interned bs ≡ good (root, abs_of bs ws new_tables st) →
-        Held bs ws₂ st.symbols
-    held accepted interns =
+    -- its definitions, once it is planned
+    defined : (p : Plan) → r ≡ Some p → symbols_in (plan_from ws₂ PLAN.first (size (tree_of (root, abs_of bs ws new_tables st))))
+        ≡ defined_of (labelled (reached_of (root, abs_of bs ws new_tables st)) root)
+    defined p is =
+        let count = rw is at planned_tree.tree in
+        let symbols = rw is at done.symbols in
+        rw (← count.count, ← syms_same, ← scopes_same) symbols
+
+    -- planning leaves symbols, scopes, uses and what is reached as they are
+    pub held : accept bs ≡ good (trees_of bs) → interned bs ≡ good (root, abs_of bs ws new_tables st) → (p : Plan)
+        → r ≡ Some p → Held bs ws₂ st.symbols
+    held accepted interns p is =
         let a : Arena bs ws₁ st.symbols st.scopes =
         arena_agree still bs (λ i l. (rep.arena.sound i l).slots) rep.arena in
         let still₂ : Still ws₁ ws₂ SLOTS.size st.symbols st.scopes =
@@ -94,4 +104,6 @@ module _ (bs ws : List ℕ) (st : State) (rep : Rep bs ws st) (root : ℕ) (ws�
           syms = syms_agree bs ws₁ ws₂ SLOTS.size still₂.slots st.symbols still₂.own a.sound ∙ syms_same;
           uses = λ s l.
               done.kept.after (USES.first + s) (omega arith) ∙ reached.uses bs (scopes_of ws st.scopes) s l;
+          reached = λ s l. done.kept.after (REACHED.first + s) (omega arith) ∙ reached.reached bs s l;
+          defined = defined p is;
         }

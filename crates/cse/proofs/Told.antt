@@ -1,7 +1,7 @@
 -- The definitions' answer, from the numbers that the call tells, for those that call it. In order: a refusal; a tree; its
--- bytes.
+-- bytes, and their count of records.
 -- Assumes nothing.
-use Prim.Native.Nat.{ℕ, ◌≤◌}
+use Prim.Native.Nat.{ℕ, ◌+◌, ◌≤◌}
 use mathlib.Core.Path.{◌≡◌, refl, sym, ap, ◌∙◌, subst}
 use mathlib.Core.Logic.{inl}
 use mathlib.Core.List.{List}
@@ -12,8 +12,8 @@ use lib.Seq.{take_at}
 use Rattle.model.specs.Lists.{is_in}
 use Rattle.model.specs.Answer.{refused, good, ◌>>=◌}
 use Rattle.model.specs.Answer as answer
-use Rattle.model.specs.Tree.{nil, cons}
-use Rattle.model.specs.Forest.{trees_of}
+use Rattle.model.specs.Tree.{nil, cons, many, size, rows_of, serialise}
+use Rattle.model.specs.Forest.{record_count, trees_of}
 use Rattle.model.specs.Accept.{accept}
 use Rattle.model.specs.Intern.{State}
 use Rattle.model.specs.Call.{Call, ample, interned, tree_of, bytes_of, written_of, run, Numbers, numbers_of, numbers}
@@ -22,6 +22,8 @@ use Rattle.model.specs.Call as call
 use Rattle.model.specs.Conditions.{at_2}
 use Rattle.laws.proofs.Apart.{good_inj}
 use Rattle.laws.proofs.Checks.{passes_checked}
+use Rattle.laws.proofs.Rows.{sizes_rows}
+use Rattle.theory.proofs.Acceptance.Bytes.{laid_count}
 use Rattle.theory.proofs.Demand3.{demand_3}
 use Rattle.theory.proofs.Demand3.Counted.{interned_exactly}
 use Rattle.theory.proofs.Demand3.Order.{call_passes, accepted_exactly}
@@ -91,7 +93,14 @@ module _ (c : Call) (r : Result Written Refusal) (is : numbers_in r ≡ numbers 
             ((accepted_exactly (bytes_of v.interned)).1 v.accepted ∙ ap good v.reads_back);
       }
 
--- ---- a tree's bytes in the output
+-- ---- a tree's count of records, and its bytes in the output
+
+pub written_records : (o : ℕ × State) → record_count (bytes_of o) ≡ size (tree_of o)
+unfolding bytes_of serialise many size
+written_records o =
+    let t = tree_of o in
+    let e : size t + 0 ≡ size t = omega arith in
+    laid_count 1 (rows_of (cons t nil)) ∙ sizes_rows (cons t nil) ∙ e
 
 module _ (c : Call) (m : Made c) (w : Written) (is : numbers_in (Ok w) ≡ numbers c) where
   pub written_length : w.length ≡ length (bytes_of m.out)

@@ -1,22 +1,24 @@
 -- What the main call answers, as model has it. In order: the five numbers; an answer and the output after it; the words
 -- after it; a tree that is planned; what is left in the words for a caller that does not clear them.
 -- Assumes nothing.
-use Rattle.std.specs.Prelude.{ℕ, ◌≤◌, ◌<◌, ◌≡◌, Option, MatchOption, IfSome, List, ◌++◌, length, drop, replicate, Result, Ok, Err}
+use Rattle.std.specs.Prelude.{ℕ, suc, ◌≤◌, ◌<◌, ◌≡◌, Option, MatchOption, IfSome, List, [], ◌∷◌, ◌++◌, length, drop, replicate, Result, Ok, Err}
 use Rattle.model.specs.Answer.{good}
 use Rattle.model.specs.Answer as answer
 use Rattle.model.specs.Tree.{Tree, size, depth, rows}
 use Rattle.model.specs.Forest.{trees_of}
 use Rattle.model.specs.Accept.{accept}
 use Rattle.model.specs.Intern.{State}
-use Rattle.model.specs.Gate.{usage}
+use Rattle.model.specs.Lists.{is_in}
+use Rattle.model.specs.Gate.{reach, usage}
+use Rattle.model.specs.Labels.{labelled, defined_of}
 use Rattle.model.specs.Call.{Numbers, numbers_of, out_with, tree_of, interned, reached_of}
 use Rattle.model.specs.Call as call
 use Rattle.laws.specs.Frame.{Frame}
 use Rattle.regions.specs.Regions.{SYMBOLS, PLAN, WORDS}
 use Rattle.symbols.specs.Symbols.{syms_of}
-use Rattle.gate.specs.Gate.{uses_at}
+use Rattle.gate.specs.Gate.{uses_at, reached_at, bit}
 use Rattle.graph.specs.Graph.{Arena}
-use Rattle.plan.specs.Plan.{plan_from, AllWritable, planned_rows}
+use Rattle.plan.specs.Plan.{plan_from, symbols_in, AllWritable, planned_rows}
 use Rattle.planner.specs.declared.Plan.{Plan}
 use Rattle.refusal.specs.declared.Refusal.{Refusal}
 use Rattle.refusal.specs.Refusal.{number_of}
@@ -73,7 +75,8 @@ pub record Planned (bs ws ws' : List ℕ) (o : ℕ × State) (r : Option Plan) :
 
 -- ---- what is left in the words
 
--- the n symbols of an accepted forest, as interning made them, their scopes, and their uses from the root
+-- the n symbols of an accepted forest, as interning made them, their scopes, which of them the root reaches, and their uses from
+-- it; and, in the plan of the written tree, the symbols that its definitions are of
 pub record Held (bs ws : List ℕ) (n : ℕ) : Type 0 where
   pub words : WORDS ≤ length ws
   pub made : ℕ × State
@@ -83,6 +86,8 @@ pub record Held (bs ws : List ℕ) (n : ℕ) : Type 0 where
   pub arena : Arena bs ws n scopes
   pub syms : syms_of bs ws n ≡ made.1.syms
   pub uses : (s : ℕ) → s < n → uses_at ws s ≡ usage (reached_of made) s
+  pub reached : (s : ℕ) → s < n → reached_at ws s ≡ bit (is_in s (reach made.1.syms (suc made.0) (made.0 ∷ [])))
+  pub defined : symbols_in (plan_from ws PLAN.first (size (tree_of made))) ≡ defined_of (labelled (reached_of made) made.0)
 
 -- n is the answer's count of symbols, where a tree was written
 abbrev pub Counts : ℕ → Result Written Refusal → Type 0

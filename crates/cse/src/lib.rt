@@ -6,7 +6,7 @@
 
 mod checking;
 
-ghost use Rattle.std.specs.Prelude.{◌≡◌, ℕ, ◌≤◌, length};
+ghost use Rattle.std.specs.Prelude.{◌≡◌, ℕ, ◌≤◌, length, IfSome};
 ghost use Rattle.model.specs.Answer.{good};
 ghost use Rattle.model.specs.Call.{call_of, tree_of, interned, measured, written, numbers, out_after, work_after};
 ghost use Rattle.model.specs.Intern as intern;
@@ -92,7 +92,7 @@ fn planned(forest: &Accepted, work: &mut [u32], st: State, root: usize) -> Optio
     requires root_made { interned forest.now.formed.laid ≡ good (root, abs_of forest.now.formed.laid work.old new_tables st) }
     ensures planned { Planned forest.now.formed.laid work.old work.new
         (root, abs_of forest.now.formed.laid work.old new_tables st) result }
-    ensures held { Held forest.now.formed.laid work.new st.symbols }
+    ensures held { IfSome result (λ p. Held forest.now.formed.laid work.new st.symbols) }
 {
     let symbols = st.symbols as usize;
     gate::reach_and_count(work, symbols, root);
@@ -119,7 +119,7 @@ fn accepted(forest: &Accepted, out: &mut [u8], work: &mut [u32]) -> Result<Writt
 }
 
 // Any forest, once the work words suffice: the call, but that it leaves the words as they are, so that after a tree is
-// written its symbols, scopes and uses can still be read in them.
+// written its symbols, scopes and uses, and of which symbols its definitions are, can still be read in them.
 // Rules out: a forest interned that a check refuses; another place; symbols of another forest left in the words.
 pub fn pass(forest: &[u8], out: &mut [u8], work: &mut [u32]) -> Result<Written, Refusal>
     requires { WORDS ≤ length work.old }

@@ -1,6 +1,6 @@
 // Usage and the gate (gate.rs): how often a symbol is used, and whether it may be hoisted. Word s of region USES is the
 // count of symbol s, word s of region REACHED is 1 if it is reached.
-// In order: words cleared, uses noted; what is reached from the root, counted; the gate.
+// In order: words cleared, uses noted; what is reached from the root, counted; the gate's tests; the gate.
 // That a symbol is `Sound` stays a clause: the lister asks the gate too, and holds no graph.
 #![tactic(auto)]
 
@@ -95,24 +95,26 @@ pub fn reach_and_count(work: &mut [u32], n: usize, root: usize)
     visit(work, root)
 }
 
-// Which symbols are context properties, by their records' opcodes.
+// Which symbols are context properties, by their records' opcodes. Rules out: GLOBAL; SELF left out.
 #[tactic(auto, unfolding(model::specs::Gate::is_context_property, model::specs::Lists::is_in))]
-fn is_context_property(opcode: u8) -> bool
+pub fn is_context_property(opcode: u8) -> bool
     ensures { (y : Sym) → y.rec.opcode ≡ opcode → result ≡ is_context_property y }
 {
     matches!(opcode, HEIGHT_OP | INPUTS_OP | OUTPUTS_OP | SELF_BOX_OP)
 }
 
+// Which are GLOBAL. Rules out: HEIGHT; another leaf.
 #[tactic(auto, unfolding(model::specs::Gate::is_internal))]
-fn is_internal(opcode: u8) -> bool
+pub fn is_internal(opcode: u8) -> bool
     ensures { (y : Sym) → y.rec.opcode ≡ opcode → result ≡ is_internal y }
 {
     opcode == GLOBAL_OP
 }
 
-// A projection's record has no aux.
+// Which are scalar constants: record i, or a projection of that field made beside it, whose record has no aux.
+// Rules out: a constant of no primitive class; a scalar with a mark left out.
 #[tactic(auto, using(crate::proofs::Gate::records), unfolding(model::specs::Gate::is_const))]
-fn is_const(forest: &Forest, i: usize, field: u32) -> bool
+pub fn is_const(forest: &Forest, i: usize, field: u32) -> bool
     requires i_bound { i < record_count forest.now }
     ensures { (y : Sym) → y.rec ≡ key_rec forest.now i field → result ≡ is_const y }
 {

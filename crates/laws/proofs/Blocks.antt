@@ -11,7 +11,7 @@ use mathlib.Core.List.{List, [], ◌∷◌, ◌++◌}
 use Prim.Native.Nat.{ℕ, suc, ◌+◌, ◌<◌, max}
 use native.Mathlib.Omega.{arith}
 use lib.Dec.{eqb}
-use Rattle.model.specs.Tree.{rec, Tree, Trees, node, nil, cons, top, many, snoc, depth, depths, rows}
+use Rattle.model.specs.Tree.{rec, Tree, Trees, node, nil, cons, top, below, many, snoc, depth, depths, rows}
 use Rattle.model.specs.Tree.{rows_of}
 use Rattle.model.specs.Intern.{Env}
 use Rattle.model.specs.Gate.{Graph}
@@ -23,6 +23,10 @@ use Rattle.laws.proofs.Trees.{node_rows, node_depth, many-snoc, rows_snoc, depth
 
 abbrev pub NoRename : Tree → Type 0
 NoRename d = (i : ℕ) × (v : Tree) × (d ≡ val_def_of i v) × (eqb (top v).shape 7 ≡ false)
+
+pub no_rename : (d r : Tree) → NoRename d → renames d (below d) r ≡ false
+unfolding renames val_def_of
+no_rename d r (i, v, e, f) = subst (λ (x : Tree). renames x (below x) r ≡ false) (sym e) (rw (f, renames))
 
 abbrev pub NoRenames : Trees → Type 0
 NoRenames nil = Unit {0}
@@ -50,10 +54,8 @@ wrap_none (cons d ds) r e = absurd (omega arith)
 -- a definition whose value is no use is kept
 wrap_whole : (d : Tree) (ds : Trees) (r : Tree) → NoRename d →
     wrap_block (cons d ds) r ≡ node (rec 11 0xD8 0 []) (snoc (cons d ds) r)
-unfolding wrap_block snoc renames val_def_of
-wrap_whole d nil r (i, v, e, f) =
-    subst (λ (x : Tree). wrap_block (cons x nil) r ≡ node (rec 11 0xD8 0 []) (cons x (cons r nil))) (sym e)
-    (rw (f, wrap_block, renames))
+unfolding wrap_block snoc
+wrap_whole d nil r h = rw (no_rename d r h, wrap_block)
 wrap_whole d (cons x ds) r h = refl
 
 module _ (ds : Trees) (r : Tree) (h : NoRenames ds) (k : ℕ) (count : many ds ≡ k) (some : 0 < k) where

@@ -183,7 +183,7 @@ module _ (g : Graph) (kids_low : (s : ℕ) → Under s (sym_of g s).kids) (s : �
 abbrev pub NoUses : Graph → Type 0
 NoUses g = (s : ℕ) → is_arg (sym_of g s).node ≡ false → eqb (sym_of g s).rec.shape 7 ≡ false
 
-value_no_use : (g : Graph) → NoUses g → (sc : ℕ) → BuildsValues g (build_value g) sc
+pub value_no_use : (g : Graph) → NoUses g → (sc : ℕ) → BuildsValues g (build_value g) sc
 unfolding build_value build_step build_node member
 value_no_use g h sc s env last e =
     subst (λ (z : ℕ → Env → ℕ → Tree). eqb (top (z sc env last)).shape 7 ≡ false)

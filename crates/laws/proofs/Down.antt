@@ -1,7 +1,8 @@
 -- The equation of `down`, with no condition on the step: the value at n is the step from the values below n.
 --
 -- In order: `under`, which masks what is not below n (`under_low`, `under_same`); fuel that suffices is as good as
--- more; `down_step`; what a step keeps (`down_holds`); two recursions side by side (`down_related`).
+-- more; `down_step`; what a step keeps (`down_holds`); two recursions side by side (`down_related`), of
+-- one type or of two.
 -- The meaning and the value of a symbol, free lists and building are such recursions: each is opened by `down_step` and
 -- `under_low`, or goes by `down_holds`.
 -- Assumes nothing.
@@ -48,16 +49,20 @@ module _ {A : Type 0} (z : A) (step : (ℕ → A) → ℕ → A) where
       subst (P n) (sym (down_step n)) (h (under z n (down z step)) n λ d l.
       subst (P d) (sym (under_low n (down z step) d (lt-ltb d n l))) (ih d l))
 
+-- what relates both relates either
+pub if_related : {A B : Type 0} (R : A → B → Type 0) (b : Bool) (x y : A) (x' y' : B) → R x x' → R y y' →
+    R (elim b [ true ↦ x | false ↦ y ]) (elim b [ true ↦ x' | false ↦ y' ])
+if_related R true x y x' y' h k = h
+if_related R false x y x' y' h k = k
+
 -- two recursions side by side: what their steps keep holds of their values
-module _ {A : Type 0} (R : A → A → Type 0) (z' z : A) (zero_ok : R z' z) (step' step : (ℕ → A) → ℕ → A)
-    (step_ok : (v' v : ℕ → A) → ((d : ℕ) → R (v' d) (v d)) → (n : ℕ) → R (step' v' n) (step v n)) where
-  under_related : (n : ℕ) (v' v : ℕ → A) → ((d : ℕ) → R (v' d) (v d)) → (d : ℕ) → R (under z' n v' d) (under z n v d)
+module _ {A B : Type 0} (R : A → B → Type 0) (z' : A) (z : B) (zero_ok : R z' z) (step' : (ℕ → A) → ℕ → A)
+    (step : (ℕ → B) → ℕ → B)
+    (step_ok : (v' : ℕ → A) (v : ℕ → B) → ((d : ℕ) → R (v' d) (v d)) → (n : ℕ) → R (step' v' n) (step v n)) where
+  under_related : (n : ℕ) (v' : ℕ → A) (v : ℕ → B) → ((d : ℕ) → R (v' d) (v d)) →
+      (d : ℕ) → R (under z' n v' d) (under z n v d)
   unfolding under
-  under_related n v' v h d = go (ltb d n)
-    where
-      go : (b : Bool) → R (elim b [ true ↦ v' d | false ↦ z' ]) (elim b [ true ↦ v d | false ↦ z ])
-      go true = h d
-      go false = zero_ok
+  under_related n v' v h d = if_related R (ltb d n) (v' d) z' (v d) z (h d) zero_ok
 
   fuel_related : (k n : ℕ) → R (down_fuel z' step' k n) (down_fuel z step k n)
   unfolding down_fuel

@@ -2,3 +2,4 @@
 pub mod Line
 pub mod Lines
 pub mod Savings
+pub mod Rules

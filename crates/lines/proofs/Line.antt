@@ -14,7 +14,7 @@ use Rattle.model.specs.Lister.{numeral, hex_byte, tag_of, opcode_shown, yes_no, 
 use Rattle.regions.specs.Regions.{SLOTS}
 use Rattle.key.specs.declared.Symbol.{Symbol}
 use Rattle.key.specs.Key.{parts_of, symbol_at}
-use Rattle.symbols.specs.Symbols.{rec_of, model_node, sym_of, syms_of, Sound}
+use Rattle.symbols.specs.Symbols.{rec_of, sym_of, syms_of, Sound}
 use Rattle.symbols.proofs.Laws.{sym_at_lem}
 use Rattle.output.specs.declared.Output.{Output}
 use Rattle.output.specs.Output.{Put}
@@ -84,17 +84,9 @@ module _ {o o₁ o₂ o₃ o₄ : Output} where
 -- ---- the columns of a stored symbol
 
 module _ (bs ws : List ℕ) (s : ℕ) (x : Symbol) (loads : x ≡ symbol_at ws s) (n : ℕ) (lt : s < n) where
-  pub stored_node : model_node bs x.node ≡ (sym_at (syms_of bs ws n) s).node
-  unfolding sym_of
-  stored_node = rw loads (sym (ap (λ (z : Sym). z.node) (sym_at_lem bs ws n s lt)))
-
   pub stored_opcode : (rec_of bs x.node).opcode ≡ (sym_at (syms_of bs ws n) s).rec.opcode
   unfolding sym_of
   stored_opcode = rw loads (sym (ap (λ (z : Sym). z.rec.opcode) (sym_at_lem bs ws n s lt)))
-
-  pub stored_scope : x.scope ≡ (sym_at (syms_of bs ws n) s).scope
-  unfolding sym_of
-  stored_scope = rw loads (sym (ap (λ (z : Sym). z.scope) (sym_at_lem bs ws n s lt)))
 
 pub stored_from : (bs ws : List ℕ) (s : ℕ) (x : Symbol) → x ≡ symbol_at ws s → Sound bs ws SLOTS.size s →
     (parts_of x.node).source < record_count bs

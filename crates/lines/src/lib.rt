@@ -1,22 +1,25 @@
 // The lister's lines, written over an output, from its place on. In order: a number; a symbol's columns; its line; all
-// symbols; the line of a definition; all definitions. A refusal's line is written by `text`.
+// symbols; the line of a definition; all definitions; the line of a symbol's rule; those of all that are reached. A
+// refusal's line is written by `text`.
 #![tactic(auto)]
 
 ghost use Rattle.std.specs.Prelude.{◌≡◌, List, [], ◌∷◌, ◌++◌, ℕ, ◌+◌, ◌*◌, ◌<◌, ◌≤◌, length};
 ghost use Rattle.model.specs.Forest.{record_count};
 ghost use Rattle.model.specs.Intern.{sym_at};
 ghost use Rattle.model.specs.Lister.{numeral, tag_of, opcode_shown, yes_no, line, symbol_lines};
-ghost use Rattle.model.specs.Lister.{saving_line, saving_lines};
+ghost use Rattle.model.specs.Lister.{saving_line, saving_lines, rule_text, rule_line, rule_lines};
 ghost use Rattle.regions.specs.Regions.{SLOTS, WORDS};
 ghost use Rattle.key.specs.Key.{parts_of};
 ghost use Rattle.symbols.specs.Symbols.{rec_of, model_node, syms_of, Sound};
 ghost use Rattle.gate.specs.Gate.{uses_at};
+ghost use Rattle.rules.specs.Rules.{rule_in, rules_to};
 ghost use Rattle.output.specs.Output.{Room, Put};
 ghost use Rattle.lines.specs.Lines.{columns, lines_to, Listable};
 
 use key::Node;
 use output::Output;
 use record::Forest;
+use rules::Rule;
 
 // A number, of at most twenty digits, and the byte after it.
 fn put_number(out: &mut Output, n: u32, after: u8)
@@ -131,5 +134,51 @@ pub fn put_savings(savings: &[(u32, i32)], out: &mut Output)
 {
     for &(id, saving) in savings {
         put_saving(out, id, saving);
+    }
+}
+
+// A rule in the paper's words. Rules out: GLOBAL said of a scalar constant; the scope left out.
+fn put_rule_text(out: &mut Output, rule: Rule)
+    requires { Room out.old 38 }
+    ensures { Put out.old (rule_text (rule_in rule)) out.new }
+{
+    match rule {
+        Rule::Argument => out.put_bytes(b"argument"),
+        Rule::UsedAtMostOnce => out.put_bytes(b"used at most once"),
+        Rule::ContextProperty => out.put_bytes(b"context property"),
+        Rule::Global => out.put_bytes(b"GLOBAL"),
+        Rule::ScalarConstant => out.put_bytes(b"scalar constant"),
+        Rule::Hoisted(scope) => {
+            out.put_bytes(b"hoisted in scope ");
+            text::put_decimal(out, u64::from(scope));
+        }
+        Rule::NoDefinition => out.put_bytes(b"no definition written"),
+    }
+}
+
+// The line of symbol s and its rule. Rules out: the rule before the symbol; the scope as the symbol.
+fn put_rule(out: &mut Output, s: usize, rule: Rule)
+    requires s_bound { s < 512 }
+    requires room { Room out.old 64 }
+    ensures { Put out.old (rule_line (s, rule_in rule)) out.new }
+{
+    put_number(out, s as u32, b' ');
+    put_rule_text(out, rule);
+    out.put_byte(b'\n');
+}
+
+// The lines of those of the first n symbols that the words call reached, the plan of the written tree having so many rows.
+// Rules out: the line of a symbol that is not reached; the last symbol's left out.
+pub fn put_rules(forest: &Forest, work: &[u32], n: usize, rows: usize, out: &mut Output)
+    requires listable { Listable forest.now work.now n }
+    requires rows_bound { rows ≤ 256 }
+    requires room { Room out.old (32 * n + 64) }
+    ensures { Put out.old (rule_lines (rules_to forest.now work.now n rows n)) out.new }
+{
+    for s in 0..n {
+        let reached = work[regions::REACHED + s] == 1;
+        if reached {
+            put_rule(out, s, rules::rule_of(forest, work, s, rows));
+        }
     }
 }

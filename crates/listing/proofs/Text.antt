@@ -13,12 +13,18 @@ use Rattle.model.specs.Gate.{usage}
 use Rattle.model.specs.Call.{Call, ample, interned, reached_of, Written, measured, written, run, out_after}
 use Rattle.model.specs.Tree.{nil, cons}
 use Rattle.model.specs.Savings.{savings}
-use Rattle.model.specs.Lister.{lines_of, lister, symbol_lines, saving_lines, refusal}
+use Rattle.model.specs.Rules.{rules_of}
+use Rattle.model.specs.Lister.{lines_of, lister, symbol_lines, saving_lines, rule_lines, refusal}
 use Rattle.regions.specs.Regions.{WORDS}
 use Rattle.output.proofs.Over.{over_front}
 use Rattle.output.specs.Output.{Wrote}
 use Rattle.cse.proofs.Telling.{run_enough}
 use Rattle.listing.specs.Listing.{Listed}
+
+-- where a tree is written
+abbrev pub text_for : Written → ℕ × State → List ℕ
+text_for w o =
+    symbol_lines (usage (reached_of o)) o.1.syms ++ saving_lines (savings (cons w.tree nil)) ++ rule_lines (rules_of o)
 
 -- the call is lent 65,535 bytes and enough words
 module _ (c : Call) (room : c.room ≡ 65535) (enough : WORDS ≤ c.words) where
@@ -39,7 +45,7 @@ module _ (c : Call) (room : c.room ≡ 65535) (enough : WORDS ≤ c.words) where
   lister_refused n p e = lister_of (refused n p) e
 
   lister_good : (w : Written) (o : ℕ × State) → run c ≡ good w → interned c.forest ≡ good o →
-      lister c.forest ≡ symbol_lines (usage (reached_of o)) o.1.syms ++ saving_lines (savings (cons w.tree nil))
+      lister c.forest ≡ text_for w o
   unfolding lines_of
   lister_good w o e f = lister_of (good w) e ∙ ap (lines_of (good w)) f
 
@@ -63,6 +69,6 @@ module _ (c : Call) (room : c.room ≡ 65535) (enough : WORDS ≤ c.words) where
     refusal-listed n p e = text_stands (lister_refused n p e)
 
     pub lines_listed : (w : Written) (o : ℕ × State) → run c ≡ good w → interned c.forest ≡ good o →
-        Wrote mid 0 (symbol_lines (usage (reached_of o)) o.1.syms ++ saving_lines (savings (cons w.tree nil))) out' r →
+        Wrote mid 0 (text_for w o) out' r →
         Listed c out out' r
     lines_listed w o e f = text_stands (lister_good w o e f)

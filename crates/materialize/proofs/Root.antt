@@ -3,7 +3,7 @@
 -- Assumes nothing.
 use Prim.Native.Nat.{ℕ, ◌+◌, ◌-◌, ◌<◌, ◌≤◌}
 use mathlib.Core.Path.{◌≡◌, sym, ap, ◌∙◌, subst}
-use Rattle.std.specs.Prelude.{Option, None, Some, MatchOption}
+use Rattle.std.specs.Prelude.{Option, None, Some, MatchOption, IfSome}
 use mathlib.Core.List.{List, [], ◌++◌}
 use native.Mathlib.Omega.{arith}
 use lib.ListN.{length, get_or, drop, replicate}
@@ -11,18 +11,20 @@ use lib.Seq.{get_or-drop}
 use Rattle.model.specs.Tree.{Tree, rows, depth}
 use Rattle.model.specs.Gate.{reachable}
 use Rattle.model.specs.Materialize.{materialize, build_value, process_scope}
+use Rattle.model.specs.Labels.{l_build_value, l_process_scope, labelled, defined_of}
 use Rattle.laws.specs.Frame.{Agree}
 use Rattle.laws.proofs.Frame.{frame_wider}
 use Rattle.regions.specs.Regions.{PLAN, USES}
-use Rattle.plan.specs.Plan.{plan_from, rows_for}
+use Rattle.plan.specs.Plan.{plan_from, rows_for, symbols_in}
 use Rattle.planner.specs.declared.Plan.{Plan}
 use Rattle.planner.specs.declared.source.Source.{Source}
-use Rattle.planner.specs.Grew.{Grew, Over, Grown}
+use Rattle.planner.specs.Grew.{Grew, Over, Defining, Grown}
 use Rattle.planner.specs.Building.{Buildable}
 use Rattle.planner.specs.Sources.{GraphIn}
-use Rattle.planner.specs.Planning.{Plans}
+use Rattle.planner.specs.Planning.{Plans, Labels}
 use Rattle.planner.proofs.Ids.{maps_none}
-use Rattle.materialize.specs.Materialize.{root_graph, root_tree, CountedIn, Counted, no_rows, PlanOnly, PlannedAs, Materialized}
+use Rattle.materialize.specs.Materialize.{root_graph, root_tree, root_symbols, CountedIn, Counted}
+use Rattle.materialize.specs.Materialize.{no_rows, PlanOnly, PlannedAs, Materialized}
 use Rattle.materialize.proofs.Parts.{in_made, in_plan, past_plan, plan_frame, shifted, syms_made, scopes_made, buildable_made}
 
 -- ---- in words of its own
@@ -46,6 +48,12 @@ module _ {bs ws us : List ℕ} {n m : ℕ} (root : ℕ) (counted : CountedIn bs 
       subst (λ (z : List ℕ). Grown z pl no_rows 0 (root_tree bs ws n m root) pl' r) forest
       (h.grown (root_graph bs ws n m root) 0 [] graph_there maps_none)
 
+  pub root_labels : {pl pl' : List ℕ} {r : Option Plan}
+      → Labels x (replicate 512 0) pl no_rows (λ gr at env. defined_of (l_process_scope gr (l_build_value gr) root 0 env 0)) pl' r
+      → Defining pl no_rows (root_symbols bs ws n m root) pl' r
+  unfolding labelled
+  root_labels h = h.are (root_graph bs ws n m root) 0 [] graph_there maps_none
+
 module _ {bs ws : List ℕ} {n m : ℕ} (b : Buildable bs ws n m) (made pl others : List ℕ)
     (parts : ws ≡ made ++ (pl ++ others)) (first : length made ≡ PLAN.first) where
   same : Agree ws made 0 PLAN.first
@@ -58,6 +66,9 @@ module _ {bs ws : List ℕ} {n m : ℕ} (b : Buildable bs ws n m) (made pl other
 
   tree_same : (root : ℕ) → root_tree bs made n m root ≡ root_tree bs ws n m root
   tree_same root = rw (syms_made b made same first, scopes_made b made same first)
+
+  symbols_same : (root : ℕ) → root_symbols bs made n m root ≡ root_symbols bs ws n m root
+  symbols_same root = rw (syms_made b made same first, scopes_made b made same first)
 
   module _ (second : length pl ≡ PLAN.size) (root : ℕ) where
     pub counted_lent : {us : List ℕ} → us ≡ drop (USES.first - PLAN.first - PLAN.size) others
@@ -113,11 +124,21 @@ module _ {bs ws : List ℕ} {n m : ℕ} (b : Buildable bs ws n m) (made pl other
                 ∙ ap (λ (z : List ℕ). get_or z k 0) (sym parts)))));
           }
 
+      -- few rows, since they are planned
+      symbols : (t : Tree) (r : Option Plan) → Grown bs pl no_rows 0 t pl' r
+          → Defining pl no_rows (root_symbols bs made n m root) pl' r
+          → IfSome r (λ p. symbols_in (plan_from (made ++ (pl' ++ others)) PLAN.first p.rows) ≡ root_symbols bs ws n m root)
+      unfolding plan_from symbols_in
+      symbols t None h k = tt
+      symbols t (Some p) h k = rw (rows_same p.rows h.is.few) (k ∙ symbols_same root)
+
       pub materialized : {r : Option Plan} → Grown bs pl no_rows 0 (root_tree bs made n m root) pl' r
+          → Defining pl no_rows (root_symbols bs made n m root) pl' r
           → Materialized bs ws n m root (made ++ (pl' ++ others)) r
-      materialized {r} h = record {
+      materialized {r} h k = record {
         planned = go (root_tree bs ws n m root) r
             (subst (λ (t : Tree). Grown bs pl no_rows 0 t pl' r) (tree_same root) h).is;
+        symbols = symbols (root_tree bs made n m root) r h k;
         kept = kept;
       }
         where

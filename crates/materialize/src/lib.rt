@@ -2,22 +2,24 @@
 // result, each record before its children. In order: a symbol; an operation and its operands; scopes; the root.
 // A block of one definition that only renames its result would be written as that definition's value (`wrap_block`).
 // Interning makes no symbol for a use, so no definition's value is one, and the case has no code.
-// Where the plan has no room for a row, planning ends.
+// Where the plan has no room for a row, planning ends. Each function promises two things: which rows are planned, and of which
+// symbols their definitions are, as labels say.
 // What nests: `build`, `fresh`, `operands`, `operand` once a symbol, with no array. `lambda`, and `thunk` where it
 // gives ids, open a copy of the ids (2 KB), `define` an order (1 KB); these nest once a scope. `last`, `above` and `p`
 // stay three parameters, and `Site` a clause over them: what comes back is the plan, or the plan and `last`, and in six
 // of fifteen calls a struct of the three would be taken apart and made anew.
 #![tactic(auto)]
 
-ghost use Rattle.std.specs.Prelude.{◌≡◌, ◌∷◌, [], ℕ, ◌+◌, ◌<◌, ◌≤◌, length, get_or, IfSome, MatchOption};
+ghost use Rattle.std.specs.Prelude.{◌≡◌, ◌∷◌, [], ℕ, ◌+◌, ◌<◌, ◌≤◌, length, get_or, Some, IfSome, MatchOption};
 ghost use Rattle.model.specs.Materialize.{build_value, process_scope};
+ghost use Rattle.model.specs.Labels.{l_build_value, l_process_scope, defined_of};
 ghost use Rattle.key.specs.declared.Node.TheVariants.{Lambda, Op};
 ghost use Rattle.key.specs.Key.{symbol_at};
 ghost use Rattle.regions.specs.Regions.{PLAN, WORDS};
-ghost use Rattle.planner.specs.Building.{Buildable, operand_tree};
-ghost use Rattle.planner.specs.Planning.{fresh_tree, Site, Plans, Defines, DefinesOver};
-ghost use Rattle.planner.specs.Grew.{Grown};
-ghost use Rattle.materialize.specs.Materialize.{CountedIn, Counted, no_rows, root_tree, Materialized};
+ghost use Rattle.planner.specs.Building.{Buildable, operand_tree, l_operand_tree};
+ghost use Rattle.planner.specs.Planning.{fresh_tree, l_fresh_tree, order_symbols, Site, Plans, Labels, Defines, DefinesOver};
+ghost use Rattle.planner.specs.Grew.{Defining, Grown};
+ghost use Rattle.materialize.specs.Materialize.{CountedIn, Counted, no_rows, root_tree, root_symbols, Materialized};
 
 use arrayvec::ArrayVec;
 use key::{Func, Node, Operation};
@@ -46,8 +48,10 @@ fn build(
     p: Plan,
 ) -> Option<Plan>
     requires site { Site source.now.graph.symbols s 0 last above p plan.old }
-    ensures { Plans source.now ids.now plan.old p above
+    ensures plans { Plans source.now ids.now plan.old p above
         (λ gr sc env. build_value gr s sc env last) plan.new result }
+    ensures labels { Labels source.now ids.now plan.old p
+        (λ gr sc env. defined_of (l_build_value gr s sc env last)) plan.new result }
 {
     let id = ids[s];
     if id != 0 {
@@ -68,8 +72,10 @@ fn fresh(
     p: Plan,
 ) -> Option<Plan>
     requires site { Site source.now.graph.symbols s 0 last above p plan.old }
-    ensures { Plans source.now ids.now plan.old p above
+    ensures plans { Plans source.now ids.now plan.old p above
         (fresh_tree s last) plan.new result }
+    ensures labels { Labels source.now ids.now plan.old p
+        (λ gr sc env. defined_of (l_fresh_tree s last gr sc env)) plan.new result }
 {
     match key::load(source.graph.words, s).node {
         Node::Const(l) | Node::Unparsed(l) => {
@@ -97,8 +103,10 @@ fn operands(
 ) -> Option<Plan>
     requires site { Site source.now.graph.symbols s 0 last above p plan.old }
     requires s_value { (symbol_at source.now.graph.words.now s).node ≡ Op o }
-    ensures { Plans source.now ids.now plan.old p above
+    ensures plans { Plans source.now ids.now plan.old p above
         (fresh_tree s last) plan.new result }
+    ensures labels { Labels source.now ids.now plan.old p
+        (λ gr sc env. defined_of (l_fresh_tree s last gr sc env)) plan.new result }
 {
     let opcode = source.forest.opcode(o.source as usize);
     let kids = graph::children(source.graph.words, key::load(source.graph.words, s));
@@ -124,8 +132,10 @@ fn operand(
 ) -> Option<Plan>
     requires site { Site source.now.graph.symbols s 600 last above p plan.old }
     requires scope_low { IfSome scope (λ b. b < source.now.graph.scopes) }
-    ensures { Plans source.now ids.now plan.old p above
+    ensures plans { Plans source.now ids.now plan.old p above
         (λ gr sc env. operand_tree scope gr s sc env last) plan.new result }
+    ensures labels { Labels source.now ids.now plan.old p
+        (λ gr sc env. defined_of (l_operand_tree scope gr s sc env last)) plan.new result }
 {
     match scope {
         None => build(source, plan, s, ids, last, above, p),
@@ -149,8 +159,10 @@ fn thunk(
 ) -> Option<Plan>
     requires site { Site source.now.graph.symbols root 600 last above p plan.old }
     requires sc_lt_scopes { sc < source.now.graph.scopes }
-    ensures { Plans source.now ids.now plan.old p above
+    ensures plans { Plans source.now ids.now plan.old p above
         (λ gr at env. process_scope gr (build_value gr) root sc env last) plan.new result }
+    ensures labels { Labels source.now ids.now plan.old p
+        (λ gr at env. defined_of (l_process_scope gr (l_build_value gr) root sc env last)) plan.new result }
 {
     if !source.any_member(root, sc, ids) {
         return build(source, plan, root, ids, last, above, p);
@@ -174,8 +186,10 @@ fn lambda(
 ) -> Option<Plan>
     requires site { Site source.now.graph.symbols s 0 last above p plan.old }
     requires s_value { (symbol_at source.now.graph.words.now s).node ≡ Lambda f }
-    ensures { Plans source.now ids.now plan.old p above
+    ensures plans { Plans source.now ids.now plan.old p above
         (fresh_tree s last) plan.new result }
+    ensures labels { Labels source.now ids.now plan.old p
+        (λ gr sc env. defined_of (l_fresh_tree s last gr sc env)) plan.new result }
 {
     let count = source.forest.aux(f.source as usize);
     let root = graph::children(source.graph.words, key::load(source.graph.words, s))[0] as usize;
@@ -210,8 +224,10 @@ fn define(
 ) -> Option<Plan>
     requires site { Site source.now.graph.symbols root 600 last above p plan.old }
     requires sc_lt_scopes { sc < source.now.graph.scopes }
-    ensures { Plans source.now map.old plan.old p above
+    ensures plans { Plans source.now map.old plan.old p above
         (λ gr at env. process_scope gr (build_value gr) root sc env last) plan.new result }
+    ensures labels { Labels source.now map.old plan.old p
+        (λ gr at env. defined_of (l_process_scope gr (l_build_value gr) root sc env last)) plan.new result }
 {
     if !source.any_member(root, sc, map) {
         return build(source, plan, root, map, last, above, p);
@@ -245,10 +261,12 @@ fn definitions(
     requires site { Site source.now.graph.symbols root 590 last above p plan.old }
     requires order_bound { length order.now ≤ 512 }
     requires by_index { (k : ℕ) → k < length order.now → get_or order.now k 0 ≤ root }
-    ensures { MatchOption result
+    ensures plans { MatchOption result
         (DefinesOver source.now map.old p sc order.now last)
         (λ d. Defines source.now map.old plan.old p above sc order.now last
         (length order.now) plan.new map.new d.plan d.last) }
+    ensures labels { IfSome result (λ d. Labels source.now map.old plan.old p
+        (order_symbols sc order.now last) plan.new (Some d.plan)) }
 {
     let mut d = Defined { plan: p, last };
     for &s in order {
@@ -258,7 +276,7 @@ fn definitions(
 }
 
 // The definition of symbol s, if it gets one. Its value is built before its number is given.
-// Rules out: a value that is a use of itself.
+// Rules out: a value that is a use of itself; a row of another symbol's definition.
 #[cycle(building)]
 fn definition(
     source: &Source,
@@ -271,14 +289,16 @@ fn definition(
     p: Plan,
 ) -> Option<Defined>
     requires site { Site source.now.graph.symbols s 10 last above p plan.old }
-    ensures { MatchOption result
+    ensures plans { MatchOption result
         (DefinesOver source.now map.old p sc (s ∷ []) last)
         (λ d. Defines source.now map.old plan.old p above sc (s ∷ []) last 1
         plan.new map.new d.plan d.last) }
+    ensures labels { IfSome result (λ d. Labels source.now map.old plan.old p
+        (order_symbols sc (s ∷ []) last) plan.new (Some d.plan)) }
 {
     if source.member(s, sc, map) {
         let id = last + 1;
-        let q = planner::put(plan, p, above, Planned::ValDef(id))?;
+        let q = planner::put(plan, p, above, Planned::ValDef(id, s as u32))?;
         let r = build(source, plan, s, map, last, above + 1, q)?;
         map[s] = id;
         return Some(Defined { plan: r, last: id });
@@ -302,7 +322,8 @@ fn plan_root<'a>(
     requires long { (symbols ≤ length uses.now) × (PLAN.size ≤ length plan.old) }
     requires root_lt_symbols { root < symbols }
     requires counted { CountedIn forest.now words.now symbols scopes root uses.now }
-    ensures { Grown forest.now plan.old no_rows 0 (root_tree forest.now words.now symbols scopes root) plan.new result }
+    ensures plans { Grown forest.now plan.old no_rows 0 (root_tree forest.now words.now symbols scopes root) plan.new result }
+    ensures labels { Defining plan.old no_rows (root_symbols forest.now words.now symbols scopes root) plan.new result }
 {
     let source = Source::new(forest, words, symbols, scopes, uses);
     let mut map = [0; 512];

@@ -32,9 +32,13 @@ use Rattle.model.specs.Call.{check1, lent_checks, interned, tree_of, bytes_of, c
 use Rattle.model.specs.Call.{written_of, measured, written, run, numbers_of, numbers, out_with, out_after, work_after}
 use Rattle.model.specs.Savings.{weight, value_size, own_use, uses_of, def_here, defs_of, saving, savings, sum_ℤ, worth}
 use Rattle.model.specs.Savings.{bind, hide, use_share, share, later, shares_of, counted}
+use Rattle.model.specs.Labels.{erase, l_snoc, l_val_use_of, l_val_def_of, l_wrap_block, l_define, l_process_scope, l_build_op}
+use Rattle.model.specs.Labels.{l_build_node, l_build_step, l_build_value, labelled, defined_of, held_by, blocks_of}
+use Rattle.model.specs.Rules.{tests, first_rule, first_scope, rule_of, in_order, rules_of}
 use Rattle.model.specs.Text.{text}
 use Rattle.model.specs.Lister.{digits, numeral, hex_digit, hex_byte, tag_of, opcode_shown, yes_no, line, lines_from}
-use Rattle.model.specs.Lister.{symbol_lines, signed, saving_line, saving_lines, refusal, lines_of, lister}
+use Rattle.model.specs.Lister.{symbol_lines, signed, saving_line, saving_lines, rule_text, rule_line, rule_lines, refusal}
+use Rattle.model.specs.Lister.{lines_of, lister}
 use Rattle.model.specs.Sheet.{named, shape_names, class_names, opcode_names, hex_bytes, id_texts, args_text}
 use Rattle.model.specs.Sheet.{id_text, mark_text, const_text, own_text, literal_text, place_text, opcode_text, record_line}
 use Rattle.model.specs.Sheet.{tree_lines, forest_lines, sheet_of, sheet}
@@ -84,9 +88,14 @@ unfoldable pub saving_bytes : Unit {0}
 unfolding weight value_size own_use uses_of def_here defs_of saving savings sum_ℤ worth bind hide use_share share later shares_of counted
 saving_bytes = tt
 
+unfoldable pub ruling : Unit {0}
+unfolding erase l_snoc l_val_use_of l_val_def_of l_wrap_block l_define l_process_scope l_build_op l_build_node l_build_step
+    l_build_value labelled defined_of held_by blocks_of tests first_rule first_scope rule_of in_order rules_of
+ruling = tt
+
 unfoldable pub listing : Unit {0}
 unfolding text digits numeral hex_digit hex_byte tag_of opcode_shown yes_no line lines_from symbol_lines signed saving_line
-    saving_lines refusal lines_of lister saving_bytes
+    saving_lines rule_text rule_line rule_lines refusal lines_of lister saving_bytes ruling
 listing = tt
 
 unfoldable pub showing : Unit {0}

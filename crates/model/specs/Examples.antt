@@ -149,24 +149,24 @@ h-read = refl
 
 -- ---- the lister's lines
 
-pub lines : lister (serialise (one (p z z))) ≡ text "symbols 2\n0 O FE 0 2 y\n1 O 9A 0 0 n\n1 -31\n"
+pub lines : lister (serialise (one (p z z))) ≡ text "symbols 2\n0 O FE 0 2 y\n1 O 9A 0 0 n\n1 -31\n0 hoisted in scope 0\n1 used at most once\n"
 unfolding computing
 lines = refl
 
--- the uses by an environment tree do not count
+-- the uses by an environment tree do not count, and its symbols have no rule
 pub lines_unreached : lister (serialise (cons (n (p z z)) (one (n z)))) ≡
-    text "symbols 4\n0 O FE 0 1 n\n1 O 9A 0 0 n\n2 O F0 0 0 n\n3 O F0 0 0 n\n"
+    text "symbols 4\n0 O FE 0 1 n\n1 O 9A 0 0 n\n2 O F0 0 0 n\n3 O F0 0 0 n\n0 used at most once\n3 used at most once\n"
 unfolding computing
 lines_unreached = refl
 
 -- two marks, two symbols, and none has y
 pub lines_marked : lister (serialise (one (p (x_of 1) (x_of 2)))) ≡
-    text "symbols 3\n0 C 00 0 1 n\n1 C 00 0 1 n\n2 O 9A 0 0 n\n"
+    text "symbols 3\n0 C 00 0 1 n\n1 C 00 0 1 n\n2 O 9A 0 0 n\n0 used at most once\n1 used at most once\n2 used at most once\n"
 unfolding computing
 lines_marked = refl
 
 -- an argument that is used twice has y, though it gets no definition
 pub lines_argument : lister (serialise (one (L 7 (p (u 7) (u 7))))) ≡
-    text "symbols 3\n0 A 00 0 2 y\n1 O 9A 1 1 n\n2 O D9 0 0 n\n"
+    text "symbols 3\n0 A 00 0 2 y\n1 O 9A 1 1 n\n2 O D9 0 0 n\n0 argument\n1 used at most once\n2 used at most once\n"
 unfolding computing
 lines_argument = refl

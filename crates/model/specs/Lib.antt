@@ -28,6 +28,8 @@ pub mod Parameters
 pub mod Template
 pub mod Failing
 pub mod Savings
+pub mod Labels
+pub mod Rules
 pub mod Text
 pub mod Lister
 pub mod TemplateLine
@@ -39,3 +41,4 @@ pub mod TemplateExamples
 pub mod FailingExamples
 pub mod EndsExamples
 pub mod SavingsExamples
+pub mod RulesExamples

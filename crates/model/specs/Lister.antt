@@ -7,6 +7,8 @@ use Rattle.model.specs.Intern.{Node, constant, unparsed, argument, func, operati
 use Rattle.model.specs.Gate.{usage, should_hoist}
 use Rattle.model.specs.Call.{Written, ample, run, interned, reached_of}
 use Rattle.model.specs.Savings.{savings}
+use Rattle.model.specs.Rules.{Rule, is_argument, used_at_most_once, context_property, global, scalar_constant, hoisted}
+use Rattle.model.specs.Rules.{no_definition, rules_of}
 use Rattle.model.specs.Text.{text}
 
 -- ---- numbers
@@ -77,6 +79,24 @@ unfoldable pub saving_lines : List (ℕ × ℤ) → List ℕ
 saving_lines [] = []
 saving_lines (s ∷ ss) = saving_line s ++ saving_lines ss
 
+-- ---- the line of a symbol and its rule
+
+unfoldable pub rule_text : Rule → List ℕ
+rule_text is_argument = text "argument"
+rule_text used_at_most_once = text "used at most once"
+rule_text context_property = text "context property"
+rule_text global = text "GLOBAL"
+rule_text scalar_constant = text "scalar constant"
+rule_text (hoisted sc) = text "hoisted in scope " ++ numeral sc
+rule_text no_definition = text "no definition written"
+
+unfoldable pub rule_line : ℕ × Rule → List ℕ
+rule_line r = numeral r.0 ++ text " " ++ rule_text r.1 ++ text "\n"
+
+unfoldable pub rule_lines : List (ℕ × Rule) → List ℕ
+rule_lines [] = []
+rule_lines (r ∷ rs) = rule_line r ++ rule_lines rs
+
 -- ---- the line of a refusal: number n, place p
 
 unfoldable pub refusal : ℕ → ℕ → List ℕ
@@ -85,11 +105,12 @@ refusal n p = text "refused " ++ numeral n ++ text " at " ++ numeral p ++ text "
 -- ---- what is printed for a forest, the main call being lent 65,535 output bytes
 
 -- usage is `flat_usage_reachable` from the root, which is the gate's own count (request A.2), and y is said at it; after the
--- symbols' lines stand those of the written tree's definitions (request A.1)
+-- symbols' lines stand those of the written tree's definitions (request A.1), and then the rules (request A.4)
 unfoldable pub lines_of : Answer Written → Out → List ℕ
 lines_of (refused n p) o = refusal n p
 lines_of (good w) (refused n p) = []
-lines_of (good w) (good o) = symbol_lines (usage (reached_of o)) o.1.syms ++ saving_lines (savings (cons w.tree nil))
+lines_of (good w) (good o) =
+    symbol_lines (usage (reached_of o)) o.1.syms ++ saving_lines (savings (cons w.tree nil)) ++ rule_lines (rules_of o)
 
 unfoldable pub lister : List ℕ → List ℕ
 lister bs = lines_of (run (ample bs)) (interned bs)

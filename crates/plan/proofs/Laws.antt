@@ -1,18 +1,23 @@
 -- Planned rows in words. In order: a row's three words; a row stored is loaded again, and words elsewhere are kept; the
--- words that a plan hangs on; one row more at a plan's end; joined plans.
+-- words that a plan hangs on; one row more at a plan's end; joined plans; a search for a symbol's definition.
 -- Assumes nothing.
 use Prim.Native.Nat.{ℕ, zero, suc, ◌+◌, ◌*◌, ◌≤◌, ◌<◌}
 use mathlib.Core.Path.{◌≡◌, refl, sym, ap, ap₂, ◌∙◌}
-use mathlib.Core.List.{List, [], ◌∷◌, ◌++◌}
+use mathlib.Core.Bool.{Bool, ◌||◌}
+use mathlib.Core.List.{List, [], ◌∷◌, ◌++◌, append_assoc}
 use native.Mathlib.Omega.{arith}
 use Rattle.std.proofs.Common.{add-zero}
+use Rattle.std.specs.List.{list_any, range_with_len}
 use lib.ListN.{length, get_or, set}
 use lib.Seq.{sets, length-sets}
+use Rattle.model.specs.Lists.{is_in}
 use Rattle.model.specs.Tree.{Row}
 use Rattle.laws.specs.Frame.{Agree, Frame}
 use Rattle.laws.proofs.Frame.{frame_below}
+use Rattle.laws.proofs.Members.{is_in-append}
 use Rattle.laws.proofs.Runs.{sets_run, sets_before, sets_after}
-use Rattle.plan.specs.Plan.{words_of, store_planned, planned_of, planned_at, plan_from, row_for, rows_for, AllWritable}
+use Rattle.plan.specs.Plan.{words_of, store_planned, planned_of, planned_at, plan_from, row_for, rows_for, symbol_of, symbols_in}
+use Rattle.plan.specs.Plan.{AllWritable}
 use Rattle.plan.specs.declared.Planned.{Planned}
 use Rattle.plan.specs.declared.Planned.TheVariants.{Copy, Field, ValUse, ValDef, Block, Lambda}
 
@@ -20,7 +25,7 @@ words_length : (p : Planned) → length (words_of p) ≡ 3
 words_length (Copy i) = refl
 words_length (Field f) = refl
 words_length (ValUse id) = refl
-words_length (ValDef id) = refl
+words_length (ValDef id s) = refl
 words_length (Block kids) = refl
 words_length (Lambda i last) = refl
 
@@ -29,7 +34,7 @@ unfolding planned_of
 words_planned (Copy i) = refl
 words_planned (Field f) = refl
 words_planned (ValUse id) = refl
-words_planned (ValDef id) = refl
+words_planned (ValDef id s) = refl
 words_planned (Block kids) = refl
 words_planned (Lambda i last) = refl
 
@@ -50,7 +55,7 @@ stored_words ws at p row e = rw e (go p)
     go (Copy i) = set3_sets ws at 0 i 0
     go (Field f) = set3_sets ws at 1 f 0
     go (ValUse id) = set3_sets ws at 2 id 0
-    go (ValDef id) = set3_sets ws at 3 id 0
+    go (ValDef id s) = set3_sets ws at 3 id s
     go (Block kids) = set3_sets ws at 4 kids 0
     go (Lambda i last) = set3_sets ws at 5 i last
 
@@ -114,14 +119,40 @@ plan_more ws at n p h =
     ∙ ap₂ (λ (ps : List Planned) (q : Planned). ps ++ (q ∷ []))
     (plan_kept ws at n (at + 3 * n) p (omega arith)) (stored_loaded ws (at + 3 * n) p h))
 
--- ---- joined plans: what they stand for; that they can be written
+-- ---- joined plans: what they stand for; the symbols that they define; that they can be written
 
 pub rows_append : (bs : List ℕ) (ps qs : List Planned) → rows_for bs (ps ++ qs) ≡ rows_for bs ps ++ rows_for bs qs
 unfolding rows_for
 rows_append bs [] qs = refl
 rows_append bs (p ∷ ps) qs = ap (λ (rs : List Row). row_for bs p ∷ rs) (rows_append bs ps qs)
 
+pub symbols_append : (ps qs : List Planned) → symbols_in (ps ++ qs) ≡ symbols_in ps ++ symbols_in qs
+unfolding symbols_in
+symbols_append [] qs = refl
+symbols_append (p ∷ ps) qs =
+    ap (λ (ss : List ℕ). symbol_of p ++ ss) (symbols_append ps qs) ∙ sym (append_assoc (symbol_of p) (symbols_in ps) (symbols_in qs))
+
 pub writable_append : (bs : List ℕ) (ps qs : List Planned) → AllWritable bs ps → AllWritable bs qs →
     AllWritable bs (ps ++ qs)
 writable_append bs [] qs h k = k
 writable_append bs (p ∷ ps) qs h k = (h.0, writable_append bs ps qs h.1 k)
+
+-- ---- a search for a symbol's definition
+
+-- whether row k from word `at` on is one
+abbrev pub definition_at : List ℕ → ℕ → ℕ → ℕ → Bool
+definition_at ws at s k = is_in s (symbol_of (planned_at ws (at + 3 * k)))
+
+found_from : (ws : List ℕ) (at s i n : ℕ) →
+    list_any (definition_at ws at s) (range_with_len i n) ≡ is_in s (symbols_in (plan_from ws (at + 3 * i) n))
+unfolding plan_from symbols_in is_in
+found_from ws at s i zero = refl
+found_from ws at s i (suc n) =
+    let e : at + 3 * (i + 1) ≡ at + 3 * i + 3 = omega arith in
+    let rest = found_from ws at s (i + 1) n in
+    ap (λ (b : Bool). definition_at ws at s i || b) (rw e at rest)
+    ∙ sym (is_in-append s (symbol_of (planned_at ws (at + 3 * i))) (symbols_in (plan_from ws (at + 3 * i + 3) n)))
+
+pub definition_found : (ws : List ℕ) (at s n : ℕ) →
+    list_any (definition_at ws at s) (range_with_len 0 n) ≡ is_in s (symbols_in (plan_from ws at n))
+definition_found ws at s n = let e : at + 3 * 0 ≡ at = omega arith in rw e at (found_from ws at s 0 n)

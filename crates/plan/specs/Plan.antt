@@ -1,5 +1,5 @@
--- A plan's rows in work words. In order: a row in words; the rows of a written tree that they stand for; rows that can
--- be written.
+-- A plan's rows in work words. In order: a row in words; the rows of a written tree that they stand for; the symbols that
+-- are defined; rows that can be written.
 -- Assumes nothing.
 use Rattle.std.specs.Prelude.{ℕ, zero, suc, ◌+◌, ◌<◌, ◌≡◌, Bool, true, false, List, [], ◌∷◌, ◌++◌, eqb, length, get_or}
 use Rattle.std.proofs.lemmas.List.Edits.{sets}
@@ -20,7 +20,7 @@ abbrev pub words_of : Planned → List ℕ
 words_of (Copy i) = 0 ∷ i ∷ 0 ∷ []
 words_of (Field f) = 1 ∷ f ∷ 0 ∷ []
 words_of (ValUse id) = 2 ∷ id ∷ 0 ∷ []
-words_of (ValDef id) = 3 ∷ id ∷ 0 ∷ []
+words_of (ValDef id s) = 3 ∷ id ∷ s ∷ []
 words_of (Block kids) = 4 ∷ kids ∷ 0 ∷ []
 words_of (Lambda i last) = 5 ∷ i ∷ last ∷ []
 
@@ -37,7 +37,7 @@ planned_of tag a b =
     choose (eqb tag 0) (Copy a)
     (choose (eqb tag 1) (Field a)
     (choose (eqb tag 2) (ValUse a)
-    (choose (eqb tag 3) (ValDef a)
+    (choose (eqb tag 3) (ValDef a b)
     (choose (eqb tag 4) (Block a) (Lambda a b)))))
 
 unfoldable pub planned_at : List ℕ → ℕ → Planned
@@ -54,7 +54,7 @@ unfoldable pub row_for : List ℕ → Planned → Row
 row_for bs (Copy i) = row_at bs i
 row_for bs (Field f) = record { rec = rec code.SelectField code.SelectFieldOp 0 (f ∷ []); kids = 1 }
 row_for bs (ValUse id) = record { rec = rec code.ValUse code.ValUseOp 0 (put32 id); kids = 0 }
-row_for bs (ValDef id) = record { rec = rec code.ValDef code.ValDefOp 0 (put32 id ++ (0 ∷ [])); kids = 1 }
+row_for bs (ValDef id s) = record { rec = rec code.ValDef code.ValDefOp 0 (put32 id ++ (0 ∷ [])); kids = 1 }
 row_for bs (Block kids) = record { rec = rec code.BlockValue code.BlockValueOp 0 []; kids = kids }
 row_for bs (Lambda i last) =
     let xs = args_of (row_at bs i).rec.aux (row_at bs i).rec.lit in
@@ -68,6 +68,20 @@ rows_for bs (p ∷ ps) = row_for bs p ∷ rows_for bs ps
 abbrev pub planned_rows : List ℕ → List ℕ → ℕ → ℕ → List Row
 planned_rows bs ws at n = rows_for bs (plan_from ws at n)
 
+-- ---- the symbols that are defined, in the order of the rows
+
+abbrev pub symbol_of : Planned → List ℕ
+symbol_of (Copy i) = []
+symbol_of (Field f) = []
+symbol_of (ValUse id) = []
+symbol_of (ValDef id s) = s ∷ []
+symbol_of (Block kids) = []
+symbol_of (Lambda i last) = []
+
+unfoldable pub symbols_in : List Planned → List ℕ
+symbols_in [] = []
+symbols_in (p ∷ ps) = symbol_of p ++ symbols_in ps
+
 -- ---- rows that can be written
 
 -- a lambda whose arguments can be numbered after `last`: its literal is its arguments, and their numbers fit
@@ -80,7 +94,7 @@ abbrev pub Writable : List ℕ → Planned → Type 0
 Writable bs (Copy i) = i < record_count bs
 Writable bs (Field f) = f < 256
 Writable bs (ValUse id) = Unit {0}
-Writable bs (ValDef id) = Unit {0}
+Writable bs (ValDef id s) = Unit {0}
 Writable bs (Block kids) = kids < 65536
 Writable bs (Lambda i last) = (i < record_count bs) × Renumbered (row_at bs i) last
 

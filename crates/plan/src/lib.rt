@@ -1,8 +1,10 @@
-// The plan of a written tree: one row for each record to be written, three work words a row.
+// The plan of a written tree: one row for each record to be written, three work words a row. In order: a row; its words;
+// rows stored and loaded; which symbols a plan defines.
 #![tactic(auto)]
 
-ghost use Rattle.std.specs.Prelude.{◌≡◌, ◌+◌, ◌≤◌, length};
-ghost use Rattle.plan.specs.Plan.{words_of, planned_at, store_planned};
+ghost use Rattle.std.specs.Prelude.{◌≡◌, ◌+◌, ◌*◌, ◌≤◌, length};
+ghost use Rattle.model.specs.Lists.{is_in};
+ghost use Rattle.plan.specs.Plan.{words_of, planned_at, store_planned, plan_from, symbol_of, symbols_in};
 
 // A record to be written. Field is made beside a projection that was read, so no record of the forest has its
 // literal.
@@ -14,8 +16,8 @@ pub enum Planned {
     Field(u32),
     // a use of this id
     ValUse(u32),
-    // a definition of this id, without type
-    ValDef(u32),
+    // a definition of this id, without type, of this symbol
+    ValDef(u32, u32),
     // a block of so many children
     Block(u32),
     // the forest's lambda, its arguments numbered after this id
@@ -43,7 +45,7 @@ fn words_of(p: Planned) -> [u32; 3]
         Planned::Copy(i) => [COPY, i, 0],
         Planned::Field(f) => [FIELD, f, 0],
         Planned::ValUse(id) => [VAL_USE, id, 0],
-        Planned::ValDef(id) => [VAL_DEF, id, 0],
+        Planned::ValDef(id, symbol) => [VAL_DEF, id, symbol],
         Planned::Block(kids) => [BLOCK, kids, 0],
         Planned::Lambda(i, last) => [LAMBDA, i, last],
     }
@@ -72,8 +74,32 @@ pub fn load(words: &[u32], at: usize) -> Planned
         COPY => Planned::Copy(a),
         FIELD => Planned::Field(a),
         VAL_USE => Planned::ValUse(a),
-        VAL_DEF => Planned::ValDef(a),
+        VAL_DEF => Planned::ValDef(a, b),
         BLOCK => Planned::Block(a),
         _ => Planned::Lambda(a, b),
     }
+}
+
+// Whether a row is a definition of symbol s.
+#[tactic(auto, unfolding(model::specs::Lists::is_in))]
+fn is_definition(p: Planned, s: u32) -> bool
+    ensures { result ≡ is_in s (symbol_of p) }
+{
+    match p {
+        Planned::ValDef(_, symbol) => s == symbol,
+        Planned::Copy(_)
+        | Planned::Field(_)
+        | Planned::ValUse(_)
+        | Planned::Block(_)
+        | Planned::Lambda(_, _) => false,
+    }
+}
+
+// Whether one of the n rows from word `at` on is a definition of symbol s.
+// Rules out: true of an id that is s; the last row passed over.
+pub fn defines(words: &[u32], at: usize, n: usize, s: u32) -> bool
+    requires { at + 3 * n ≤ length words.now }
+    ensures { result ≡ is_in s (symbols_in (plan_from words.now at n)) }
+{
+    (0..n).any(|k| is_definition(load(words, at + 3 * k), s))
 }

@@ -1,5 +1,5 @@
--- An operation's operands, one by one. In order: depths of trees side by side; a child; before the first operand; one
--- more; none left; the operation.
+-- An operation's operands, one by one. In order: depths of trees side by side; children, and those left; before the first
+-- operand; one more; none left; the operation.
 -- Assumes nothing.
 use Prim.Native.Nat.{ℕ, suc, ◌+◌, ◌<◌, ◌≤◌, max}
 use mathlib.Core.Path.{◌≡◌, sym, ap, ap₂, ◌∙◌, subst}
@@ -57,6 +57,17 @@ module _ (x : Source) (s : ℕ) (lt : s < x.graph.symbols) {ks : List ℕ} (e : 
       (sym (words_at x.graph.words.now (SLOTS.first + (symbol_at x.graph.words.now s).kids) _ j few) ∙ same j)
       ((x.buildable.arena.sound s lt).lower j few)
 
+  pub kids_split : {j : ℕ} → j < length ks
+      → drop j (kids_at x.graph.words.now s) ≡ get_or ks j 0 ∷ drop (j + 1) (kids_at x.graph.words.now s)
+  kids_split {j} l =
+      rw (add-one j)
+      (drop-cons (kids_at x.graph.words.now s) j 0 (omega (arith, l, ap length e))
+      ∙ ap (λ (k : ℕ). k ∷ drop (suc j) (kids_at x.graph.words.now s)) (same j))
+
+  -- none is left
+  pub kids_done : {j : ℕ} → length ks ≤ j → drop j (kids_at x.graph.words.now s) ≡ []
+  kids_done l = drop_of_length-le (kids_at x.graph.words.now s) (omega (arith, l, ap length e))
+
 module _ (x : Source) {ids pl : List ℕ} {p : Plan} {above : ℕ} (s : ℕ) (lt : s < x.graph.symbols) (op : ℕ)
     (o : Operation) (last : ℕ) where
   -- ---- before the first operand
@@ -69,19 +80,11 @@ module _ (x : Source) {ids pl : List ℕ} {p : Plan} {above : ℕ} (s : ℕ) (lt
 
     module _ {scope : Option ℕ} (l : j < length ks) (f : scope ≡ opened_at op (branches_of o.branches) j)
         (before : Leads x ids pl p above s op o last j pl₁ q) where
-      some : j < length (kids_at x.graph.words.now s)
-      some = omega (arith, l, ap length e)
-
-      split : drop j (kids_at x.graph.words.now s) ≡ get_or ks j 0 ∷ drop (j + 1) (kids_at x.graph.words.now s)
-      split =
-          rw (add-one j)
-          (drop-cons (kids_at x.graph.words.now s) j 0 some
-          ∙ ap (λ (k : ℕ). k ∷ drop (suc j) (kids_at x.graph.words.now s)) (same x s lt e j))
-
       left : (gr : model.Graph) (sc : ℕ) (env : Env) → operands_left x s op o last j gr sc env
           ≡ cons (operand_tree scope gr (get_or ks j 0) sc env last) (operands_left x s op o last (j + 1) gr sc env)
       left gr sc env =
-          ap (λ (ks : List ℕ). build_op gr (build_value gr) sc env last op j ks (left_at op (branches_of o.branches) j)) split
+          ap (λ (ks : List ℕ). build_op gr (build_value gr) sc env last op j ks (left_at op (branches_of o.branches) j))
+          (kids_split x s lt e l)
           ∙ (operand_next gr sc env last op (branches_of o.branches) j (get_or ks j 0) (drop (j + 1) (kids_at x.graph.words.now s))
           ∙ rw (f, add-one j))
 
@@ -123,9 +126,8 @@ module _ (x : Source) {ids pl : List ℕ} {p : Plan} {above : ℕ} (s : ℕ) (lt
       where
         none : operands_left x s op o last j gr sc env ≡ nil
         none =
-            let done : length (kids_at x.graph.words.now s) ≤ j = omega (arith, l, ap length e) in
-            let e : drop j (kids_at x.graph.words.now s) ≡ [] = drop_of_length-le (kids_at x.graph.words.now s) done in
-            ap (λ (ks : List ℕ). build_op gr (build_value gr) sc env last op j ks (left_at op (branches_of o.branches) j)) e
+            ap (λ (ks : List ℕ). build_op gr (build_value gr) sc env last op j ks (left_at op (branches_of o.branches) j))
+            (kids_done x s lt e l)
             ∙ op_none gr (build_value gr) sc env last op j (left_at op (branches_of o.branches) j)
 
 -- ---- the operation
@@ -137,7 +139,7 @@ module _ (x : Source) (s : ℕ) (lt : s < x.graph.symbols) (op : ℕ) (o : Opera
       operands_all : Trees
       operands_all = operands_left x s op o last 0 gr sc env
 
-      opcode : (sym_of gr s).rec.opcode ≡ op
+      pub opcode : (sym_of gr s).rec.opcode ≡ op
       opcode = ap (λ (r : Rec). r.opcode) (rec_of_lem x s lt (Op o) e gr st)
           ∙ (key_opcode x.forest.now o.source _ ∙ sym f)
 

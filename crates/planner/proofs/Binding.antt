@@ -62,16 +62,16 @@ module _ (x : Source) (s : ℕ) (lt : s < x.graph.symbols) (f : Func)
 -- ---- its arguments, and its record with their new numbers
 
 module _ (bs : List ℕ) (f : Func) where
-  abbrev aux : ℕ
+  abbrev pub aux : ℕ
   aux = (row_at bs f.source).rec.aux
 
-  abbrev ys : ArgList
+  abbrev pub ys : ArgList
   ys = args_of aux (row_at bs f.source).rec.lit
 
-  abbrev xs : ArgList
+  abbrev pub xs : ArgList
   xs = with_opts ys (range f.first aux)
 
-  many_args : length ys ≡ aux
+  pub many_args : length ys ≡ aux
   many_args = args_length aux (row_at bs f.source).rec.lit
 
   abbrev lam : ℕ → Rec
@@ -108,6 +108,17 @@ module _ (x : Source) (s : ℕ) (lt : s < x.graph.symbols) (f : Func) (last : �
           ap rows lambda_is
           ∙ (one_rows (lam x.forest.now f last) inside ∙ ap (λ (r : Row). r ∷ rows inside) (lambda_row x.forest.now f last))
 
+    -- the ids inside
+    pub maps_in : {ids map : List ℕ} {many : ℕ} → length ids ≡ 512 → many ≡ (row_at x.forest.now f.source).rec.aux
+        → map ≡ sets ids f.first (range (last + 1) many) → (env : Env) → Maps ids env
+        → Maps map (arg_env last (xs x.forest.now f) env)
+    maps_in {ids} {map} {many} long ea em env maps =
+        let fit = lambda_fits x s lt f e in
+        subst (λ (z : List ℕ). Maps z (arg_env last (xs x.forest.now f) env))
+        (sym (em ∙ rw ea))
+        (maps_args ids env f.first (aux x.forest.now f) last (ys x.forest.now f) (many_args x.forest.now f) maps
+        (λ some. omega (arith, fit.first some, long, x.graph.scoped.few, lt)))
+
     pub plans_lambda : {ids pl : List ℕ} {p : Plan} {above : ℕ} → length ids ≡ 512 → {pl₁ pl₂ map : List ℕ} {q : Plan}
         {r : Option Plan} {many count : ℕ}
         → many ≡ (row_at x.forest.now f.source).rec.aux → count ≡ (row_at x.forest.now f.source).rec.aux
@@ -119,16 +130,8 @@ module _ (x : Source) (s : ℕ) (lt : s < x.graph.symbols) (f : Func) (last : �
     plans_lambda {ids} {pl} {p} {above} long {pl₁} {pl₂} {map} {q} {r} {many} {count} ea ec em h body =
         record {
           grown = λ gr sc env st maps.
-              let planned = body.grown gr sc (arg_env last (xs x.forest.now f) env) st (maps_in env maps) in
+              let planned = body.grown gr sc (arg_env last (xs x.forest.now f) env) st (maps_in long ea em env maps) in
               grows_as (grows_then h planned) (sym (lambda_rows count ec gr sc env st))
               (omega (arith, ap depth (lambda_is count ec gr sc env st), one_depth (lam x.forest.now f last) (inside count ec gr sc env st)));
           few = body.few;
         }
-      where
-        maps_in : (env : Env) → Maps ids env → Maps map (arg_env last (xs x.forest.now f) env)
-        maps_in env maps =
-            let fit = lambda_fits x s lt f e in
-            subst (λ (z : List ℕ). Maps z (arg_env last (xs x.forest.now f) env))
-            (sym (em ∙ rw ea))
-            (maps_args ids env f.first (aux x.forest.now f) last (ys x.forest.now f) (many_args x.forest.now f) maps
-            (λ some. omega (arith, fit.first some, long, x.graph.scoped.few, lt)))

@@ -9,9 +9,9 @@ use borrow.Author.Tests.{lt-ltb, le-ltb}
 use lib.ListN.{length, length-append}
 use Rattle.model.specs.Tree.{Row}
 use Rattle.regions.specs.Regions.{PLAN}
-use Rattle.plan.specs.Plan.{store_planned, plan_from, row_for, rows_for, Writable, planned_rows}
+use Rattle.plan.specs.Plan.{store_planned, plan_from, row_for, rows_for, symbol_of, symbols_in, Writable, planned_rows}
 use Rattle.plan.specs.declared.Planned.{Planned}
-use Rattle.plan.proofs.Laws.{stored_frame, plan_more, rows_append, writable_append}
+use Rattle.plan.proofs.Laws.{stored_frame, plan_more, rows_append, symbols_append, writable_append}
 use Rattle.planner.specs.declared.Plan.{Plan}
 use Rattle.planner.specs.Grew.{Grew, Over, Grows, with_row, one_more, RowPut}
 
@@ -51,6 +51,17 @@ module _ (bs pl : List ℕ) (p : Plan) where
 -- ---- what putting a row gives
 
 module _ (pl : List ℕ) (p : Plan) (row : Planned) (d : ℕ) where
+  row_defines : PLAN.size ≤ length pl → p.rows < 256 → (pl' : List ℕ) → pl' ≡ store_planned pl (3 * p.rows) row
+      → symbols_in (plan_from pl' 0 (p.rows + 1)) ≡ symbols_in (plan_from pl 0 p.rows) ++ symbol_of row
+  unfolding symbols_in
+  row_defines long room pl' e =
+      let zero : 0 + 3 * p.rows ≡ 3 * p.rows = omega arith in
+      let more : plan_from pl' 0 (p.rows + 1) ≡ plan_from pl 0 p.rows ++ (row ∷ []) =
+      rw (e, ← zero) (plan_more pl 0 p.rows row (omega arith)) in
+      rw more
+      (symbols_append (plan_from pl 0 p.rows) (row ∷ [])
+      ∙ ap (λ (ss : List ℕ). symbols_in (plan_from pl 0 p.rows) ++ ss) (append-nil (symbol_of row)))
+
   pub put_stored : PLAN.size ≤ length pl → p.rows < 256 → (pl' : List ℕ)
       → pl' ≡ store_planned pl (3 * p.rows) row → (deep : ℕ) → deep ≡ max p.deepest d
       → RowPut pl p row d pl' (Some (record { rows = p.rows + 1; deepest = deep }))
@@ -59,6 +70,7 @@ module _ (pl : List ℕ) (p : Plan) (row : Planned) (d : ℕ) where
     words = rw (lt-ltb p.rows 256 room, with_row) e;
     plan = rw (lt-ltb p.rows 256 room, one_more) (ap (λ (x : ℕ). Some (record { rows = p.rows + 1; deepest = x })) f);
     grew = λ bs w. record { is = grew_row bs pl p row d long w room pl' _ e refl f };
+    defining = row_defines long room pl' e;
   }
 
   pub put_full : 256 ≤ p.rows → RowPut pl p row d pl None
@@ -68,6 +80,7 @@ module _ (pl : List ℕ) (p : Plan) (row : Planned) (d : ℕ) where
         words = rw (le-ltb p.rows 256 l, with_row);
         plan = rw (le-ltb p.rows 256 l, one_more);
         grew = λ bs w. record { is = record { more = omega arith } };
+        defining = tt;
       }
 
 -- ---- rows, and then rows

@@ -10,3 +10,5 @@ pub mod Nodes
 pub mod Applying
 pub mod Binding
 pub mod Scoping
+pub mod Labels
+pub mod LabelScopes

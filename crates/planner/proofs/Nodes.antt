@@ -79,7 +79,7 @@ use_row : (bs : List ℕ) (i : ℕ) → rows (val_use_of i) ≡ row_for bs (ValU
 unfolding row_for
 use_row bs i = use_rows i
 
-given_some : (i : ℕ) → (i ≡ 0 → ⊥) → id_in i ≡ Some i
+pub given_some : (i : ℕ) → (i ≡ 0 → ⊥) → id_in i ≡ Some i
 given_some zero n = absurd (n refl)
 given_some (suc i) n = refl
 

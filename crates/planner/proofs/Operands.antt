@@ -15,13 +15,15 @@ use Rattle.model.specs.Tree.{Trees, cons}
 use Rattle.model.specs.Intern.{thunked, Env}
 use Rattle.model.specs.Gate.{Graph}
 use Rattle.model.specs.Materialize.{build_op, build_value}
+use Rattle.model.specs.Labels.{LTrees, lcons, l_build_op, l_build_value}
 use Rattle.laws.specs.Members.{Every, Under}
 use Rattle.laws.proofs.Apart.{false_true}
 use Rattle.laws.proofs.Building.{op_left, op_eager, op_thunk}
+use Rattle.labels.proofs.Steps.{l_op_left, l_op_eager, l_op_thunk}
 use Rattle.key.specs.declared.Operation.{Operation}
 use Rattle.shape.proofs.Thunks.{first_eager}
 use Rattle.key.specs.Key.{branches_of}
-use Rattle.planner.specs.Building.{left_at, first_scope, opened_at, operand_tree}
+use Rattle.planner.specs.Building.{left_at, first_scope, opened_at, operand_tree, l_operand_tree}
 
 -- ---- the scopes left
 
@@ -137,3 +139,20 @@ module _ (gr : Graph) (sc : ℕ) (env : Env) (last op : ℕ) (brs : List ℕ) (j
       go true e [] = op_left gr (build_value gr) sc env last op j k ks
       go true e (b ∷ l) = op_thunk gr (build_value gr) sc env last op j k ks b l e
       go false e l = op_eager gr (build_value gr) sc env last op j k ks l e
+
+  -- and with labels
+  abbrev l_after : List ℕ → LTrees
+  l_after left = l_build_op gr (l_build_value gr) sc env last op (suc j) ks left
+
+  pub l_operand_next : l_build_op gr (l_build_value gr) sc env last op j (k ∷ ks) (left_at op brs j)
+      ≡ lcons (l_operand_tree (opened_at op brs j) gr k sc env last) (l_after (left_at op brs (suc j)))
+  unfolding left_at opened_at
+  l_operand_next = go (thunked op j) refl (left_at op brs j)
+    where
+      go : (t : Bool) → thunked op j ≡ t → (l : List ℕ)
+          → l_build_op gr (l_build_value gr) sc env last op j (k ∷ ks) l
+          ≡ lcons (l_operand_tree (elim t [ true ↦ first_scope l | false ↦ None ]) gr k sc env last)
+          (l_after (elim t [ true ↦ drop 1 l | false ↦ l ]))
+      go true e [] = l_op_left gr (l_build_value gr) sc env last op j k ks
+      go true e (b ∷ l) = l_op_thunk gr (l_build_value gr) sc env last op j k ks b l e
+      go false e l = l_op_eager gr (l_build_value gr) sc env last op j k ks l e

@@ -37,9 +37,9 @@ use Rattle.planner.proofs.Applying.{deep_node}
 
 -- ---- one definition, and definitions side by side
 
-row_def : (bs : List ℕ) (last : ℕ) (t : Tree) → row_for bs (ValDef (last + 1)) ∷ rows t ≡ rows (val_def_of (suc last) t)
+row_def : (bs : List ℕ) (last s : ℕ) (t : Tree) → row_for bs (ValDef (last + 1) s) ∷ rows t ≡ rows (val_def_of (suc last) t)
 unfolding row_for
-row_def bs last t = rw (add-one last) (sym (def_rows (suc last) t))
+row_def bs last s t = rw (add-one last) (sym (def_rows (suc last) t))
 
 one_defined : (gr : model.Graph) (sc : ℕ) (env : Env) (s last : ℕ) → member gr sc env s ≡ true
     → define gr (build_value gr) sc (s ∷ []) env last ≡ record {
@@ -52,27 +52,27 @@ one_defined gr sc env s last is = define-member gr sc s [] env is (build_value g
 
 -- its row has no room
 pub define_over : {x : Source} {map : List ℕ} {p : Plan} {sc : ℕ} (s last : ℕ) {t : Bool}
-    → t ≡ true → Member x map sc s t → Over p (row_for x.forest.now (ValDef (last + 1)) ∷ [])
+    → t ≡ true → Member x map sc s t → Over p (row_for x.forest.now (ValDef (last + 1) s) ∷ [])
     → DefinesOver x map p sc (s ∷ []) last
 unfolding rows
 define_over {x} {map} {p} {sc} s last {t} is m h = record {
   over = λ gr env st maps.
       let v = build_value gr s sc env last in
-      rw (one_defined gr sc env s last (sym (m gr env st maps) ∙ is), ← row_def x.forest.now last v)
+      rw (one_defined gr sc env s last (sym (m gr env st maps) ∙ is), ← row_def x.forest.now last s v)
       (over_then (over_then h (rows v)) []);
 }
 
 -- its value has no room
 pub value_over : {x : Source} {map pl : List ℕ} {p : Plan} {sc : ℕ} (above s last : ℕ) {t : Bool} {pl₁ pl₂ : List ℕ}
     {q : Plan} → t ≡ true → Member x map sc s t
-    → Grew x.forest.now pl p (row_for x.forest.now (ValDef (last + 1)) ∷ []) (above + 1) pl₁ q
+    → Grew x.forest.now pl p (row_for x.forest.now (ValDef (last + 1) s) ∷ []) (above + 1) pl₁ q
     → Plans x map pl₁ q (above + 1) (λ gr sc env. build_value gr s sc env last) pl₂ None
     → DefinesOver x map p sc (s ∷ []) last
 unfolding rows
 value_over {x} {map} {pl} {p} {sc} above s last {t} {pl₁} {pl₂} {q} is m h v = record {
   over = λ gr env st maps.
       let inside = (v.grown gr sc env st maps).is in
-      rw (one_defined gr sc env s last (sym (m gr env st maps) ∙ is), ← row_def x.forest.now last (build_value gr s sc env last))
+      rw (one_defined gr sc env s last (sym (m gr env st maps) ∙ is), ← row_def x.forest.now last s (build_value gr s sc env last))
       (over_then (grew_over h inside) []);
 }
 
@@ -109,7 +109,7 @@ module _ {x : Source} {map pl : List ℕ} {p : Plan} {above sc : ℕ} where
 
     -- the value is built with the ids before its number is given
     pub defines_one : {t : Bool} {pl₁ pl₂ : List ℕ} {q r : Plan} → t ≡ true → Member x map sc s t → s < length map
-        → Grew x.forest.now pl p (row_for x.forest.now (ValDef (last + 1)) ∷ []) (above + 1) pl₁ q
+        → Grew x.forest.now pl p (row_for x.forest.now (ValDef (last + 1) s) ∷ []) (above + 1) pl₁ q
         → Plans x map pl₁ q (above + 1) (λ gr sc env. build_value gr s sc env last) pl₂ (Some r)
         → Defines x map pl p above sc (s ∷ []) last 1 pl₂ (set map s (last + 1)) r (last + 1)
     unfolding rows
@@ -120,7 +120,7 @@ module _ {x : Source} {map pl : List ℕ} {p : Plan} {above sc : ℕ} where
           rw (one_defined gr sc env s last (sym (m gr env st maps) ∙ is))
           (record {
             grown = grew_as (grew_then (grew_then h inside) (grew_none x.forest.now pl₂ r v.few))
-                (ap (λ (z : List Row). z ++ []) (row_def x.forest.now last v₁)) (omega (arith, def_depth (suc last) v₁));
+                (ap (λ (z : List Row). z ++ []) (row_def x.forest.now last s v₁)) (omega (arith, def_depth (suc last) v₁));
             maps = maps_more map env s last maps l;
             last_is = omega arith;
           });
@@ -211,21 +211,25 @@ module _ (x : Source) (map : List ℕ) (root sc last : ℕ) where
           (none_defined gr sc (schedule gr root sc) env last z)
 
   -- no symbol up to the result's is a member, and the schedule has no others
+  pub memberless : {any : Bool} → AnyMember x map sc root any → any ≡ false → (gr : model.Graph) (env : Env)
+      → GraphIn x gr → Maps map env → members_in gr sc env (schedule gr root sc) ≡ 0
+  memberless {any} m isnt gr env st maps =
+      none_under gr sc env (root + 1) (any_false gr sc env (root + 1) any isnt (m gr env st maps))
+      (schedule gr root sc) (λ s i. omega (arith, schedule_low gr (kids_low st) root sc s i))
+
   pub plans_memberless : {any : Bool} → AnyMember x map sc root any → any ≡ false
       → {pl : List ℕ} {p : Plan} {above : ℕ} {pl₁ : List ℕ} {r : Option Plan}
       → Plans x map pl p above (λ gr a env. build_value gr root a env last) pl₁ r
       → Plans x map pl p above (λ gr a env. process_scope gr (build_value gr) root sc env last) pl₁ r
-  plans_memberless {any} m isnt = plans_none λ gr env st maps.
-      none_under gr sc env (root + 1) (any_false gr sc env (root + 1) any isnt (m gr env st maps))
-      (schedule gr root sc) (λ s i. omega (arith, schedule_low gr (kids_low st) root sc s i))
+  plans_memberless m isnt = plans_none (memberless m isnt)
 
 module _ (x : Source) (map : List ℕ) (root sc last : ℕ) (list : List ℕ) (k : ℕ)
     (scheduled : (slots : List ℕ) → list ≡ schedule (held_in x.graph x.forest.now slots) root sc)
     (members : Members x map sc list k) where
-  order_is : (gr : model.Graph) → GraphIn x gr → list ≡ schedule gr root sc
+  pub order_is : (gr : model.Graph) → GraphIn x gr → list ≡ schedule gr root sc
   order_is gr st = scheduled gr.slots ∙ ap (λ (h : model.Graph). schedule h root sc) (sym (graph_is st))
 
-  count_is : (gr : model.Graph) (env : Env) → GraphIn x gr → Maps map env
+  pub count_is : (gr : model.Graph) (env : Env) → GraphIn x gr → Maps map env
       → members_in gr sc env (schedule gr root sc) ≡ k
   count_is gr env st maps = sym (members gr env st maps ∙ ap (members_in gr sc env) (order_is gr st))
 

@@ -9,6 +9,7 @@ use Rattle.model.specs.Intern.{Env, thunked}
 use Rattle.model.specs.Gate as model
 use Rattle.model.specs.Tree.{Tree}
 use Rattle.model.specs.Materialize.{id_given, build_value, process_scope}
+use Rattle.model.specs.Labels.{LTree, l_build_value, l_process_scope}
 use Rattle.laws.specs.Members.{Under}
 use Rattle.record.specs.Record.{row_at}
 use Rattle.key.specs.declared.Func.{Func}
@@ -122,3 +123,8 @@ opened_at op brs j = elim (thunked op j) [ true ↦ first_scope (left_at op brs 
 abbrev pub operand_tree : Option ℕ → model.Graph → ℕ → ℕ → Env → ℕ → Tree
 operand_tree None gr k sc env last = build_value gr k sc env last
 operand_tree (Some b) gr k sc env last = process_scope gr (build_value gr) k b env last
+
+-- and with labels
+abbrev pub l_operand_tree : Option ℕ → model.Graph → ℕ → ℕ → Env → ℕ → LTree
+l_operand_tree None gr k sc env last = l_build_value gr k sc env last
+l_operand_tree (Some b) gr k sc env last = l_process_scope gr (l_build_value gr) k b env last

@@ -1,23 +1,25 @@
--- What the functions that plan ask and answer. In order: where a tree is planned; a tree planned; the tree of a symbol
--- without an id; a scope's definitions; an operation's operands. x is what is planned from, pl the plan's words.
+-- What the functions that plan ask and answer. In order: where a tree is planned; a tree planned, and which symbols its
+-- rows define; the tree of a symbol without an id; a scope's definitions; an operation's operands. x is what is planned from,
+-- pl the plan's words.
 --
 -- Why ids and depths fit: along a path to lower symbols a scope gives at most 512 definitions their ids and a lambda at
 -- most 16 to arguments and body, and the depth grows by at most three a symbol; so `last + above` grows by less than
 -- 1,024 for each symbol that the path goes down (`room`).
 -- Assumes nothing.
-use Rattle.std.specs.Prelude.{ℕ, ◌+◌, ◌*◌, ◌<◌, ◌≤◌, ◌≡◌, List, Option, IfSome, drop, length}
+use Rattle.std.specs.Prelude.{ℕ, ◌+◌, ◌*◌, ◌<◌, ◌≤◌, ◌≡◌, List, ◌++◌, Option, IfSome, drop, length}
 use Rattle.model.specs.Tree.{Tree, Trees, rows_of}
 use Rattle.model.specs.Intern.{Env}
 use Rattle.model.specs.Gate.{sym_of}
 use Rattle.model.specs.Gate as model
 use Rattle.model.specs.Materialize.{Defined, define, build_op, build_node, build_value}
+use Rattle.model.specs.Labels.{LTree, LTrees, l_define, l_build_op, l_build_node, l_build_value, defined_in}
 use Rattle.regions.specs.Regions.{PLAN}
 use Rattle.key.specs.declared.Operation.{Operation}
 use Rattle.key.specs.Key.{branches_of}
 use Rattle.symbols.specs.Symbols.{kids_at}
 use Rattle.planner.specs.declared.source.Source.{Source}
 use Rattle.planner.specs.declared.Plan.{Plan}
-use Rattle.planner.specs.Grew.{Grew, Over, Grown, deep_in, GrownAll}
+use Rattle.planner.specs.Grew.{Grew, Over, defined_to, Defining, Grown, deep_in, GrownAll}
 use Rattle.planner.specs.Building.{Maps, left_at}
 use Rattle.planner.specs.Sources.{GraphIn}
 
@@ -39,10 +41,19 @@ pub record Plans (x : Source) (ids pl : List ℕ) (p : Plan) (above : ℕ)
       → Grown x.forest.now pl p above (tree gr sc env) pl' r
   pub few : IfSome r (λ q. q.rows ≤ 256)
 
+-- the symbols that a tree's rows define, for such a graph and such ids: those of the tree with labels
+pub record Labels (x : Source) (ids pl : List ℕ) (p : Plan) (symbols : model.Graph → ℕ → Env → List ℕ)
+    (pl' : List ℕ) (r : Option Plan) : Type 0 where
+  pub are : (gr : model.Graph) (sc : ℕ) (env : Env) → GraphIn x gr → Maps ids env
+      → Defining pl p (symbols gr sc env) pl' r
+
 -- ---- a symbol without an id
 
 abbrev pub fresh_tree : ℕ → ℕ → model.Graph → ℕ → Env → Tree
 fresh_tree s last gr sc env = build_node gr (build_value gr) (sym_of gr s) (sym_of gr s).node sc env last
+
+abbrev pub l_fresh_tree : ℕ → ℕ → model.Graph → ℕ → Env → LTree
+l_fresh_tree s last gr sc env = l_build_node gr (l_build_value gr) (sym_of gr s) (sym_of gr s).node sc env last
 
 -- ---- a scope's definitions
 
@@ -66,6 +77,10 @@ pub record DefinesOver (x : Source) (map : List ℕ) (p : Plan) (sc : ℕ) (orde
   pub over : (gr : model.Graph) (env : Env) → GraphIn x gr → Maps map env
       → Over p (rows_of (define gr (build_value gr) sc order env last).defs)
 
+-- the symbols of an order that get a definition, with those that their values define
+abbrev pub order_symbols : ℕ → List ℕ → ℕ → model.Graph → ℕ → Env → List ℕ
+order_symbols sc order last gr at env = defined_in (l_define gr (l_build_value gr) sc order env last).defs
+
 -- ---- an operation's operands
 
 -- those from operand j on
@@ -81,3 +96,14 @@ pub record Leads (x : Source) (ids pl : List ℕ) (p : Plan) (above s op : ℕ) 
       → (pl₂ : List ℕ) (r : Option Plan)
       → GrownAll x.forest.now pl₁ q above (operands_left x s op o last j gr sc env) pl₂ r
       → GrownAll x.forest.now pl p above (operands_left x s op o last 0 gr sc env) pl₂ r
+
+abbrev pub l_operands_left : Source → ℕ → ℕ → Operation → ℕ → ℕ → model.Graph → ℕ → Env → LTrees
+l_operands_left x s op o last j gr sc env =
+    l_build_op gr (l_build_value gr) sc env last op j (drop j (kids_at x.graph.words.now s)) (left_at op (branches_of o.branches) j)
+
+-- and their rows define those symbols that operands from j on do not
+pub record LeadsLabels (x : Source) (ids pl : List ℕ) (p : Plan) (s op : ℕ) (o : Operation) (last j : ℕ)
+    (pl₁ : List ℕ) (q : Plan) : Type 0 where
+  pub are : (gr : model.Graph) (sc : ℕ) (env : Env) → GraphIn x gr → Maps ids env
+      → defined_to pl₁ q ++ defined_in (l_operands_left x s op o last j gr sc env)
+      ≡ defined_to pl p ++ defined_in (l_operands_left x s op o last 0 gr sc env)

@@ -63,7 +63,7 @@ fn put_row(forest: &Forest, out: &mut Output, p: Planned)
         Planned::Copy(i) => writer::put_copy(forest, out, i),
         Planned::Field(f) => writer::put_field(out, f as u8),
         Planned::ValUse(id) => writer::put_val_use(out, id),
-        Planned::ValDef(id) => writer::put_val_def(out, id),
+        Planned::ValDef(id, _) => writer::put_val_def(out, id),
         Planned::Block(kids) => writer::put_block(out, kids as usize),
         Planned::Lambda(i, last) => put_lambda(forest, out, i, last),
     }
@@ -79,7 +79,7 @@ fn row_len(forest: &Forest, p: Planned) -> usize
         Planned::Copy(i) | Planned::Lambda(i, _) => forest.size(i as usize),
         Planned::Field(_) => 6,
         Planned::ValUse(_) => 9,
-        Planned::ValDef(_) => 10,
+        Planned::ValDef(_, _) => 10,
         Planned::Block(_) => 5,
     }
 }

@@ -41,7 +41,7 @@ digits_append (suc f) n xs ys =
     (digits_append f (n / 10) ((48 + n % 10) ∷ xs) ys)) (by_ten n)
 
 -- 10^f
-unfoldable ten : ℕ → ℕ
+unfoldable pub ten : ℕ → ℕ
 ten zero = 1
 ten (suc f) = 10 * ten f
 
@@ -73,6 +73,22 @@ digits-length (suc f) n rest =
 pub numeral-length : (n : ℕ) → length (numeral n) ≤ 20
 unfolding numeral
 numeral-length n = digits-length 20 n []
+
+digits-few : (k f n : ℕ) (rest : List ℕ) → n < ten (suc k) → length (digits f n rest) ≤ suc k + length rest
+unfolding digits ten
+digits-few k zero n rest h = omega arith
+digits-few zero (suc f) n rest h =
+    let l : n < 10 = omega arith in rw (one_digit f n rest l) (omega arith)
+digits-few (suc k) (suc f) n rest h =
+    ⊎_elim (λ (l : n < 10). rw (one_digit f n rest l) (omega arith))
+    (λ (l : 10 ≤ n). rw (more-digits f n rest l)
+    (omega (arith, digits-few k f (n / 10) ((48 + n % 10) ∷ rest) (omega arith))))
+    (by_ten n)
+
+-- a number below 10^(k + 1) has no more than k + 1
+pub numeral-few : (k n : ℕ) → n < ten (suc k) → length (numeral n) ≤ suc k
+unfolding numeral
+numeral-few k n h = omega (arith, digits-few k 20 n [] h)
 
 pub signed-length : (z : ℤ) → length (signed z) ≤ 21
 unfolding signed text

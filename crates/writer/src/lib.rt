@@ -2,7 +2,7 @@
 // that a plan makes. The rest of the output is as it was.
 #![tactic(auto)]
 
-ghost use Rattle.std.specs.Prelude.{[], ◌<◌};
+ghost use Rattle.std.specs.Prelude.{ℕ, [], ◌<◌};
 ghost use Rattle.model.specs.Tree.{row_bytes, row_len};
 ghost use Rattle.model.specs.Forest.{record_count};
 ghost use Rattle.plan.specs.declared.Planned.TheVariants.{Copy, Field, ValUse, ValDef, Block};
@@ -70,12 +70,12 @@ pub fn put_val_use(out: &mut Output, id: u32)
     out.put_32(id);
 }
 
-// A definition of this id, without type.
+// A definition of this id, without type, whatever its symbol.
 // Rules out: a use's shape; the byte of the absent type left out.
 #[tactic(auto, unfolding(crate::specs::Writer::fixed, model::specs::Bytes::put16, model::specs::Bytes::put32))]
 pub fn put_val_def(out: &mut Output, id: u32)
     requires { Room out.old 10 }
-    ensures { Put out.old (row_bytes (row_for [] (ValDef id))) out.new }
+    ensures { (symbol : ℕ) → Put out.old (row_bytes (row_for [] (ValDef id symbol))) out.new }
 {
     put_fixed(out, VAL_DEF, VAL_DEF_OP, 1, 0);
     out.put_32(id);

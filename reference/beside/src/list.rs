@@ -7,6 +7,7 @@ use cse_reference::generate::{Family, Kind};
 use cse_reference::hex;
 use cse_reference::lister::{listing, tells_marks, Listing};
 use cse_reference::oracle::NoAnswer;
+use cse_reference::rules::Rule;
 
 use crate::asked::Asked;
 use crate::compare::print_differences;
@@ -28,6 +29,10 @@ struct Tally {
     defining: u64,
     /// Those with a saving on each of [`SIDES`].
     saving: [u64; 3],
+    /// Those with a line of each of [`Rule::WORDS`].
+    ruled: [u64; 7],
+    /// Those with a symbol that has definitions in several blocks.
+    several: u64,
     /// Those that tell what they have to.
     telling: u64,
     /// Those that were not compared.
@@ -49,6 +54,10 @@ impl Tally {
         for (count, side) in self.saving.iter_mut().zip(SIDES) {
             *count += u64::from(listing.saves(side));
         }
+        for (count, lines) in self.ruled.iter_mut().zip(listing.rules.counts) {
+            *count += u64::from(lines > 0);
+        }
+        self.several += u64::from(listing.rules.several > 0);
     }
 
     fn join(&mut self, other: Tally) {
@@ -60,9 +69,27 @@ impl Tally {
         for (count, others) in self.saving.iter_mut().zip(other.saving) {
             *count += others;
         }
+        for (count, others) in self.ruled.iter_mut().zip(other.ruled) {
+            *count += others;
+        }
+        self.several += other.several;
         self.telling += other.telling;
         self.skipped += other.skipped;
         self.differences.extend(other.differences);
+    }
+
+    /// Those with a line of the rule that fewest have.
+    fn rarest(&self) -> u64 {
+        self.ruled.into_iter().min().unwrap_or(0)
+    }
+
+    /// Each rule with those that have a line of it.
+    fn rules(&self) -> String {
+        let each = Rule::WORDS.iter().zip(self.ruled);
+        let each: Vec<String> = each
+            .map(|(rule, count)| format!("{rule} {count}"))
+            .collect();
+        each.join(", ")
     }
 }
 
@@ -77,6 +104,8 @@ enum Told {
     /// definitions of their id: so a use charged to another definition, an argument's use that is charged, a sign left out
     /// or a definition passed over shows.
     Savings,
+    /// It has a line of a rule: here each rule is asked for, and so the rarest is counted.
+    Rules,
 }
 
 impl Told {
@@ -88,6 +117,9 @@ impl Told {
                 kind: Kind::Savings,
                 ..
             }) => (Told::Savings, "tell what is saved"),
+            Some(Family {
+                kind: Kind::Rules, ..
+            }) => (Told::Rules, "have the rarest rule"),
             _ => (Told::Counted, "tell what is counted"),
         }
     }
@@ -97,12 +129,14 @@ impl Told {
             Told::Counted => listing.telling,
             Told::Marks => tells_marks(forest, listing),
             Told::Savings => listing.tells_savings(),
+            // Counted for the run.
+            Told::Rules => false,
         }
     }
 }
 
 /// Forests of a family, or damaged ones where there is none. Whether no text differed, and as many as is asked for were
-/// compared and tell what is counted or, with marks, tell these apart; of savings what is saved.
+/// compared and tell what is counted or, with marks, tell these apart; of savings what is saved; of rules each rule.
 pub fn listed(family: Option<Family>, asked: Asked) -> bool {
     let Asked { least, telling, .. } = asked;
     let bytes = move |seed| match family {
@@ -114,12 +148,16 @@ pub fn listed(family: Option<Family>, asked: Asked) -> bool {
         compare(&bytes(seed), told, tally);
     });
     tally.join(other);
+    if let Told::Rules = told {
+        tally.telling = tally.rarest();
+    }
     let name = family.map_or("damaged".to_string(), Family::name);
     print_differences(&name, &tally.differences);
     let [below, zero, above] = tally.saving;
     println!(
         "{name}: {} texts compared, at least {least} asked for, {} passed over; {} refusals, {} with unreached symbols of environment trees, \
-         {} with unused definitions, {} with definitions' lines, {below} with a saving below zero, {zero} of zero, {above} above; \
+         {} with unused definitions, {} with definitions' lines, {below} with a saving below zero, {zero} of zero, {above} above, \
+         {} with a symbol's definitions in several blocks; lines by rule in: {}; \
          {} that {words}, at least {telling} asked for; {} differences",
         tally.compared,
         tally.skipped,
@@ -127,6 +165,8 @@ pub fn listed(family: Option<Family>, asked: Asked) -> bool {
         tally.unreached,
         tally.unused,
         tally.defining,
+        tally.several,
+        tally.rules(),
         tally.telling,
         tally.differences.len()
     );
@@ -152,4 +192,37 @@ fn compare(forest: &[u8], told: Told, tally: &mut Tally) {
     tally
         .differences
         .extend(difference("lister", forest, &expected.text));
+}
+
+#[cfg(test)]
+mod tests {
+    use super::*;
+    use cse_reference::notation::parse;
+    use cse_reference::trees::{alone, node, p};
+
+    /// A run of rules has to meet each of them, however often it meets others.
+    #[test]
+    fn the_rarest_rule_is_counted() {
+        let mut tally = Tally::default();
+        let mut note = |forest: &[u8]| {
+            tally.note(&listing(forest).unwrap());
+            tally.rarest()
+        };
+        for text in [
+            "L7.p(7,7)",
+            "p(h,h)",
+            "p(k,k)",
+            "p(z,z)",
+            "if(z,s2(z),p(s1(z),s1(z)))",
+        ] {
+            assert_eq!(note(&parse(text).unwrap().to_bytes()), 0, "{text}");
+        }
+        let global = node(2, 0xDD, 0, &[], vec![]);
+        assert_eq!(note(&alone(p(global.clone(), global)).to_bytes()), 1);
+        assert_eq!(
+            tally.rules(),
+            "argument 1, used at most once 6, context property 1, GLOBAL 1, scalar constant 1, hoisted in scope 2, \
+             no definition written 1"
+        );
+    }
 }

@@ -31,7 +31,8 @@ usage: beside compare KIND COUNT [SEED [LEAST [TELLING]]]
                                           what is counted: by the uses of all symbols they would have other symbols'
                                           lines; or, with marks, tell these apart: without they would have another text;
                                           or, of savings, tell what is saved: they have a saving above zero and one that
-                                          is not, and by the uses of ids alone they would have other definitions' lines
+                                          is not, and by the uses of ids alone they would have other definitions' lines;
+                                          or, of rules, have a line of each rule: TELLING of them of the rarest
        beside ends KIND COUNT [SEED [LEAST [TELLING]]]
                                           accepted forests of a kind, or refused ones where KIND is damaged, through the
                                           check: number, place and where subtrees end beside the reading; TELLING of them

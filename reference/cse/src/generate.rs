@@ -12,6 +12,7 @@ mod profile;
 pub mod records;
 mod rng;
 mod room;
+mod rules;
 mod savings;
 mod templates;
 
@@ -61,10 +62,12 @@ pub enum Kind {
     Simple,
     /// Definitions that save bytes, and some that do not: request A.1.
     Savings,
+    /// Each rule of request A.4, `no definition written` among them.
+    Rules,
 }
 
 impl Kind {
-    pub const ALL: [Kind; 17] = [
+    pub const ALL: [Kind; 18] = [
         Kind::Small,
         Kind::Medium,
         Kind::Large,
@@ -82,6 +85,7 @@ impl Kind {
         Kind::Flat,
         Kind::Simple,
         Kind::Savings,
+        Kind::Rules,
     ];
 
     pub fn name(self) -> &'static str {
@@ -103,6 +107,7 @@ impl Kind {
             Kind::Flat => "flat",
             Kind::Simple => "simple",
             Kind::Savings => "savings",
+            Kind::Rules => "rules",
         }
     }
 
@@ -184,6 +189,7 @@ pub fn accepted(seed: u64, kind: Kind) -> Forest {
         Kind::Symbols => counted::near_symbols(&mut rng),
         Kind::Flat => flat::forest(&mut rng),
         Kind::Savings => savings::forest(&mut rng),
+        Kind::Rules => rules::forest(&mut rng),
         Kind::Scopes if rng.chance(40) => limits::nested(&mut rng),
         _ => builder::forest(rng, kind),
     }

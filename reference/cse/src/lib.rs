@@ -1,6 +1,6 @@
 //! The original cse pass, unchanged, run on forests, and an independent reading of document 01 (the
 //! paper with the rules) for what the original does not do: checks, limits, unfolding, templates,
-//! values, where subtrees end, and what definitions save.
+//! values, where subtrees end, what definitions save, and the rule beside each symbol.
 
 pub mod check;
 pub mod convert;
@@ -16,6 +16,7 @@ pub mod lister;
 pub mod notation;
 pub mod oracle;
 pub mod rows;
+pub mod rules;
 pub mod savings;
 pub mod template;
 pub mod trees;

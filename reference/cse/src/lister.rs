@@ -1,5 +1,5 @@
-//! The lister of document 01, with requests A.2 and A.1: the original's symbols, a line each, and then a line for each
-//! definition of the tree that it writes.
+//! The lister of document 01, with requests A.2, A.1 and A.4: the original's symbols, a line each, then a line for each
+//! definition of the tree that it writes, and then one for the rule of each symbol that the root reaches.
 
 use std::cmp::Ordering;
 use std::collections::BTreeMap;
@@ -13,9 +13,11 @@ use crate::oracle::{
     answer_deep, by_original, interned, on_large_stack, without_marks, NoAnswer, Work, MAX_OUTPUT,
     MIN_WORK_WORDS,
 };
+use crate::rules::{rules, Rules};
 use crate::savings::{savings, Savings};
 
-/// The lister's text: a line a symbol and a line a definition, or what the main call refuses with. By the original, as far as it ends in time.
+/// The lister's text: the lines of symbols, of definitions and of rules, or what the main call refuses with. By the original, as
+/// far as it ends in time.
 pub fn lister(forest: &[u8]) -> Result<Vec<u8>, NoAnswer> {
     let listing = listing(forest)?;
     by_original(listing.work)?;
@@ -34,6 +36,8 @@ pub struct Listing {
     pub telling: bool,
     /// What the definitions of the written tree save.
     pub savings: Savings,
+    /// What is said of the symbols that the root reaches.
+    pub rules: Rules,
     /// What making the tree took, where one was made.
     pub work: Option<Work>,
 }
@@ -54,13 +58,15 @@ pub fn listing(forest: &[u8]) -> Result<Listing, NoAnswer> {
         let (interner, root) = interned(&forest);
         let symbols = symbol_lines(&interner, &interner.flat_usage_reachable(root));
         let savings = savings(&written.trees[0]);
+        let rules = rules(&interner, root, &written.trees[0]);
         Listing {
             unreached: unreached(&forest, &interner, root),
             unused: forest.trees.iter().any(defines_unused),
             telling: symbols != symbol_lines(&interner, &interner.flat_usage()),
             work: told.work,
-            text: symbols + &savings.lines(),
+            text: symbols + &savings.lines() + &rules.lines,
             savings,
+            rules,
         }
     }))
 }

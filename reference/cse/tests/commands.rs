@@ -73,7 +73,7 @@ fn list_and_notation() {
     let forests = prints(&["from-notation"], "p(z,z)\n3\n");
     assert_eq!(
         prints(&["list"], &forests),
-        "symbols 2\n0 O FE 0 2 y\n1 O 9A 0 0 n\n1 -31\nrefused 10 at 0\n"
+        "symbols 2\n0 O FE 0 2 y\n1 O 9A 0 0 n\n1 -31\n0 hoisted in scope 0\n1 used at most once\nrefused 10 at 0\n"
     );
     let text = "n(z) | if(z, n(z), n(z))\n";
     let forest = prints(&["from-notation"], text);
@@ -328,7 +328,7 @@ fn wrong_command_lines() {
         ),
         (
             &["generate", "marked", "1"],
-            "savings, and these with marked- before them",
+            "rules, and these with marked- before them",
         ),
         (&["generate", "small", "many"], "COUNT is to be a number"),
         (&["damage"], "damage: wants COUNT"),

@@ -236,7 +236,7 @@ fn lists(forest: &Forest, text: &str) {
 fn the_lister() {
     lists(
         &alone(p(z(), z())),
-        "symbols 2\n0 O FE 0 2 y\n1 O 9A 0 0 n\n1 -31\n",
+        "symbols 2\n0 O FE 0 2 y\n1 O 9A 0 0 n\n1 -31\n0 hoisted in scope 0\n1 used at most once\n",
     );
     lists(&alone(val_use(3)), "refused 10 at 0\n");
 }
@@ -246,17 +246,19 @@ fn the_lister_shows_no_marks() {
     // What the gate says and how often a symbol is used still hang on them.
     let pair = |left, right| alone(p(marked(x(), left), marked(x(), right)));
     // The tree has {1=x; p(1,1)}: 2 × 11 - 11 - 14 - 2 × 13.
-    let shared = "symbols 2\n0 C 00 0 2 y\n1 O 9A 0 0 n\n1 -29\n";
+    let shared =
+        "symbols 2\n0 C 00 0 2 y\n1 O 9A 0 0 n\n1 -29\n0 hoisted in scope 0\n1 used at most once\n";
     lists(&pair(0, 0), shared);
     lists(&pair(35, 35), shared);
-    let apart = "symbols 3\n0 C 00 0 1 n\n1 C 00 0 1 n\n2 O 9A 0 0 n\n";
+    let apart = "symbols 3\n0 C 00 0 1 n\n1 C 00 0 1 n\n2 O 9A 0 0 n\n\
+         0 used at most once\n1 used at most once\n2 used at most once\n";
     lists(&pair(1, 2), apart);
     // Class 5 with mark 1 is a scalar, as class 5 is; so is class 0 with mark 1, which is aux 7.
     for aux in [5, 12, 7] {
         let scalar = node(0, 0x00, aux, &[7, 1], vec![]);
         lists(
             &alone(p(scalar.clone(), scalar)),
-            "symbols 2\n0 C 00 0 2 n\n1 O 9A 0 0 n\n",
+            "symbols 2\n0 C 00 0 2 n\n1 O 9A 0 0 n\n0 scalar constant\n1 used at most once\n",
         );
     }
 }
@@ -267,7 +269,9 @@ fn the_lister_knows_every_tag() {
     let body = p(p(k(), unparsed), p(val_use(7), val_use(7)));
     lists(
         &alone(lambda(&[7], body)),
-        "symbols 7\n0 A 00 0 2 y\n1 C 00 0 1 n\n2 U 00 0 1 n\n3 O 9A 0 1 n\n4 O 9A 1 1 n\n5 O 9A 1 1 n\n6 O D9 0 0 n\n",
+        "symbols 7\n0 A 00 0 2 y\n1 C 00 0 1 n\n2 U 00 0 1 n\n3 O 9A 0 1 n\n4 O 9A 1 1 n\n5 O 9A 1 1 n\n6 O D9 0 0 n\n\
+         0 argument\n1 used at most once\n2 used at most once\n3 used at most once\n4 used at most once\n\
+         5 used at most once\n6 used at most once\n",
     );
 }
 
@@ -276,12 +280,12 @@ fn the_lister_counts_from_the_root() {
     // The second projection is not reached, and so no use of `z`.
     lists(
         &alone(s1(z())),
-        "symbols 3\n0 O FE 0 1 n\n1 O 8C 0 0 n\n2 O 8C 0 0 n\n",
+        "symbols 3\n0 O FE 0 1 n\n1 O 8C 0 0 n\n2 O 8C 0 0 n\n0 used at most once\n1 used at most once\n",
     );
     // Nothing uses the definition, whose value uses `z`.
     lists(
         &alone(block(vec![(1, p(z(), z()))], n(z()))),
-        "symbols 3\n0 O FE 0 1 n\n1 O 9A 0 0 n\n2 O F0 0 0 n\n",
+        "symbols 3\n0 O FE 0 1 n\n1 O 9A 0 0 n\n2 O F0 0 0 n\n0 used at most once\n2 used at most once\n",
     );
     // An environment tree uses `z` twice; the root is found in it, or uses `z` once more.
     let environment = |root| Forest {
@@ -289,15 +293,15 @@ fn the_lister_counts_from_the_root() {
     };
     lists(
         &environment(p(z(), z())),
-        "symbols 3\n0 O FE 0 2 y\n1 O 9A 0 0 n\n2 O F0 0 0 n\n1 -31\n",
+        "symbols 3\n0 O FE 0 2 y\n1 O 9A 0 0 n\n2 O F0 0 0 n\n1 -31\n0 hoisted in scope 0\n1 used at most once\n",
     );
     lists(
         &environment(z()),
-        "symbols 3\n0 O FE 0 0 n\n1 O 9A 0 0 n\n2 O F0 0 0 n\n",
+        "symbols 3\n0 O FE 0 0 n\n1 O 9A 0 0 n\n2 O F0 0 0 n\n0 used at most once\n",
     );
     lists(
         &environment(n(z())),
-        "symbols 4\n0 O FE 0 1 n\n1 O 9A 0 0 n\n2 O F0 0 0 n\n3 O F0 0 0 n\n",
+        "symbols 4\n0 O FE 0 1 n\n1 O 9A 0 0 n\n2 O F0 0 0 n\n3 O F0 0 0 n\n0 used at most once\n3 used at most once\n",
     );
 }
 
@@ -309,7 +313,9 @@ fn the_lister_counts_the_scopes_of_a_second_reading() {
         &alone(s1(tuple(vec![branches]))),
         "symbols 14\n0 O A3 0 1 n\n1 O FE 1 0 n\n2 O F0 1 0 n\n3 O FE 2 0 n\n4 O F0 2 0 n\n\
          5 O 95 0 0 n\n6 O 86 0 0 n\n7 O FE 3 1 n\n8 O F0 3 1 n\n9 O FE 4 1 n\n10 O F0 4 1 n\n\
-         11 O 95 0 1 n\n12 O 86 0 1 n\n13 O 8C 0 0 n\n",
+         11 O 95 0 1 n\n12 O 86 0 1 n\n13 O 8C 0 0 n\n\
+         0 used at most once\n7 used at most once\n8 used at most once\n9 used at most once\n10 used at most once\n\
+         11 used at most once\n12 used at most once\n13 used at most once\n",
     );
 }
 
@@ -320,6 +326,9 @@ fn the_lister_is_lent_65_535_bytes() {
         let constant = node(0, 0x00, 3, &vec![1; length], vec![]);
         alone(block(vec![(1, constant)], p(val_use(1), val_use(1))))
     };
-    lists(&large(30_000), "symbols 2\n0 C 00 0 2 n\n1 O 9A 0 0 n\n");
+    lists(
+        &large(30_000),
+        "symbols 2\n0 C 00 0 2 n\n1 O 9A 0 0 n\n0 scalar constant\n1 used at most once\n",
+    );
     lists(&large(33_000), "refused 13 at 0\n");
 }

@@ -1,12 +1,19 @@
 -- `cse::planned` meets its contract. Assumes nothing.
 use native.Mathlib.Omega.{arith}
 use Prim.Native.Nat.{◌≤◌}
+use mathlib.Core.Path.{◌≡◌, refl}
+use Rattle.std.specs.Prelude.{Option, None, Some, IfSome}
 use lib.ListN.{length}
 use Rattle.regions.specs.Regions.{WORDS}
 use Rattle.codec.proofs.Accepting.{passes_accepts}
+use Rattle.planner.specs.declared.Plan.{Plan}
 use Rattle.cse.proofs.Buildable.{arena_countable, root_low, buildable}
 use Rattle.cse.proofs.Planning.{uses_counted, planned_tree, held}
 use Rattle.cse.proofs.planned.Goals as goal
+
+some_held : (r : Option Plan) {A : Type 0} → ((p : Plan) → r ≡ Some p → A) → IfSome r (λ p. A)
+some_held None h = tt
+some_held (Some p) h = h p refl
 
 pub reach_and_count-requires : goal.reach_and_count-requires
 reach_and_count-requires c =
@@ -46,7 +53,6 @@ returns c =
     omega (arith, q.rep.words, c.reach_and_count.auto.work, done.auto.work) in record {
       planned =
           planned_tree bs ws st q.rep c.args.root counted reached done.new.work done.result long done.ensures;
-      held =
-          held bs ws st q.rep c.args.root counted reached done.new.work done.result long done.ensures
-          taken q.root_made;
+      held = some_held done.result
+          (held bs ws st q.rep c.args.root counted reached done.new.work done.result long done.ensures taken q.root_made);
     }

@@ -1,7 +1,7 @@
 -- `lines::put_line` meets its contract. Assumes nothing.
 use native.Mathlib.Omega.{arith}
-use Rattle.lines.proofs.Line.{number_ends, columns_ends, line_parts, stored_node, stored_opcode, stored_scope}
-use Rattle.lines.proofs.Line.{stored_from}
+use Rattle.rules.proofs.Said.{stored_node, stored_scope}
+use Rattle.lines.proofs.Line.{number_ends, columns_ends, line_parts, stored_opcode, stored_from}
 use Rattle.lines.proofs.put_line.Goals as goal
 
 pub put_columns-requires : goal.put_columns-requires

@@ -40,4 +40,5 @@ returns c =
     let pl = plan.result.0.now in
     let others = plan.result.1.now in
     materialized c.requires.buildable _ pl others (cut _ pl others made.ensures.value plan.ensures.value)
-    made.ensures.front_len plan.ensures.front_len _ c.plan_root.new.plan c.plan_root.auto.plan c.plan_root.ensures
+    made.ensures.front_len plan.ensures.front_len _ c.plan_root.new.plan c.plan_root.auto.plan c.plan_root.ensures.plans
+    c.plan_root.ensures.labels

@@ -94,7 +94,7 @@ pub laid_trees : (n : ℕ) (rs : List Row) → tree_count (forest_of n rs) ≡ n
 unfolding tree_count
 laid_trees n rs = ap u16 (laid n rs) ∙ read_16 n (put16 (length rs) ++ after_header rs)
 
-laid_count : (n : ℕ) (rs : List Row) → record_count (forest_of n rs) ≡ length rs
+pub laid_count : (n : ℕ) (rs : List Row) → record_count (forest_of n rs) ≡ length rs
 unfolding record_count put16
 laid_count n rs = ap (λ (l : List ℕ). u16 (drop 2 l)) (laid n rs) ∙ read_16 (length rs) (after_header rs)
 

@@ -95,7 +95,7 @@ def_value i v ids c = checked-head v nil false ids (checked_kids (top (val_def_o
 
 -- ---- a record that is no use, definition, block or lambda
 
-plain-not : (s c : ℕ) → is_plain (kind c) ≡ false → is_plain (kind s) ≡ true → eqb s c ≡ false
+pub plain-not : (s c : ℕ) → is_plain (kind c) ≡ false → is_plain (kind s) ≡ true → eqb s c ≡ false
 plain-not s c f p = go (eqb s c) refl
   where
     go : (b : Bool) → eqb s c ≡ b → b ≡ false

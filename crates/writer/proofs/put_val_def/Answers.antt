@@ -8,7 +8,7 @@ use Rattle.writer.proofs.put_val_def.Goals as goal
 
 pub returns : goal.returns
 unfolding row_for row_bytes fixed put16 put32
-returns c =
+returns c symbol =
     let x = c.put_fixed.ensures in
     let y = c.put_32.ensures in
     let z = c.put_byte.ensures in

@@ -218,7 +218,8 @@ impl Profile {
             | Kind::Readings
             | Kind::Symbols
             | Kind::Flat
-            | Kind::Savings => mixed,
+            | Kind::Savings
+            | Kind::Rules => mixed,
         }
     }
 

@@ -2,6 +2,7 @@
 
 mod forms;
 mod marks;
+mod rules;
 mod savings;
 mod simple;
 mod templates;
