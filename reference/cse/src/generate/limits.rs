@@ -26,6 +26,14 @@ pub(super) fn tuple(children: Vec<Tree>) -> Tree {
     plain(TUPLE, children)
 }
 
+/// A tree alone, or several in a tuple.
+pub(super) fn one_of(mut trees: Vec<Tree>) -> Tree {
+    match trees.len() {
+        1 => trees.swap_remove(0),
+        _ => tuple(trees),
+    }
+}
+
 /// A constant that is written once however often it is used, different for each number.
 pub(super) fn numbered(number: usize) -> Tree {
     constant(6, vec![7, number as u8, (number >> 8) as u8])

@@ -1,4 +1,6 @@
-//! The room that a subtree has.
+//! The room that a subtree has, and parts that have room together.
+
+use crate::forest::Tree;
 
 /// How much a subtree may take up: at least one record and one level.
 #[derive(Clone, Copy)]
@@ -29,4 +31,19 @@ impl Room {
     pub(super) fn records(self, records: usize) -> Room {
         Room { records, ..self }
     }
+}
+
+/// Parts, one after the other, until they have as many records as are wanted; none that would bring them over `most`.
+pub(super) fn parts(wanted: usize, most: usize, mut make: impl FnMut() -> Tree) -> Vec<Tree> {
+    let mut parts = Vec::new();
+    let mut records = 0;
+    while records < wanted {
+        let part = make();
+        if records + part.size() > most {
+            break;
+        }
+        records += part.size();
+        parts.push(part);
+    }
+    parts
 }

@@ -5,6 +5,7 @@
 use super::flat::thunk;
 use super::limits::*;
 use super::records::*;
+use super::room::parts;
 use super::Rng;
 use crate::forest::{Forest, Tree};
 
@@ -38,16 +39,7 @@ pub(super) fn forest(rng: &mut Rng) -> Forest {
         id: 0,
         arguments: Vec::new(),
     };
-    let mut parts = Vec::new();
-    let mut records = 0;
-    while records < wanted {
-        let part = maker.part(INSIDE);
-        if records + part.size() > MOST {
-            break;
-        }
-        records += part.size();
-        parts.push(part);
-    }
+    let mut parts = parts(wanted, MOST, || maker.part(INSIDE));
     let mut trees = Vec::new();
     if environment && parts.len() > 1 {
         trees.extend(parts.pop());
@@ -59,14 +51,6 @@ pub(super) fn forest(rng: &mut Rng) -> Forest {
     rng.shuffle(&mut parts);
     trees.push(one_of(parts));
     Forest { trees }
-}
-
-/// A tree alone, or several in a tuple.
-fn one_of(mut trees: Vec<Tree>) -> Tree {
-    match trees.len() {
-        1 => trees.swap_remove(0),
-        _ => tuple(trees),
-    }
 }
 
 impl Maker<'_> {

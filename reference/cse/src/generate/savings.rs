@@ -5,6 +5,7 @@
 use super::flat::thunk;
 use super::limits::*;
 use super::records::*;
+use super::room::parts;
 use super::Rng;
 use crate::forest::{Forest, Tree};
 
@@ -40,24 +41,12 @@ pub(super) fn forest(rng: &mut Rng) -> Forest {
         arguments: Vec::new(),
         left: LITERALS,
     };
-    let mut parts = Vec::new();
-    let mut records = 0;
-    while records < wanted {
-        let part = maker.part(INSIDE);
-        if records + part.size() > MOST {
-            break;
-        }
-        records += part.size();
-        parts.push(part);
-    }
+    let mut parts = parts(wanted, MOST, || maker.part(INSIDE));
     let mut trees = Vec::new();
     if environment && parts.len() > 1 {
         trees.extend(parts.pop());
     }
-    trees.push(match parts.len() {
-        1 => parts.swap_remove(0),
-        _ => tuple(parts),
-    });
+    trees.push(one_of(parts));
     Forest { trees }
 }
 
