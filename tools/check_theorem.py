@@ -13,8 +13,9 @@ that differ, but at a fact that no longer holds. For each edit, in a temporary c
   is false there, however it were proved. (The same forests, under the definitions as they are, are written, accepted and unfold
   equally, or get the number that they should: the first thing that is checked.)
 - crate theory is refused. The first refused declaration is printed, with the beginning of what the checker says; it has to be
-  the one below. (Folder Bounds, and the laws of building that only code cites, are passed over: no theorem needs them; so are the
-  folders of the two theorems that have one of their own, Templates and Failing, unless the edit is for that theorem.)
+  the one below. (Folder Bounds, the laws of building that only code cites, and what is said of labels, whose definitions repeat
+  the edited words, are passed over: no theorem needs them; so are the folders of the two theorems that have one of their own,
+  Templates and Failing, unless the edit is for that theorem.)
 
 edit       the fact that fails, and why it is the theorem's: the written tree
 hoist      member_is: a definition's symbol is of the scope that is written. Only then are the arguments that it depends on in
