@@ -3,16 +3,20 @@
 -- Assumes nothing.
 use Prim.Native.Nat.{ℕ, zero, suc, ◌+◌, ◌-◌, ◌*◌, ◌<◌, ◌≤◌}
 use mathlib.Core.Path.{◌≡◌, refl, sym, ap, ap₂, ◌∙◌, subst}
+use mathlib.Core.Bool.{true}
 use mathlib.Core.List.{List, [], ◌∷◌, ◌++◌}
 use native.Mathlib.Omega.{arith}
 use lib.ListN.{length, get_or, get_or-append, length-append}
 use lib.Seq.{get_or-append-add}
 use Rattle.laws.specs.Frame.{Agree, Frame}
 use Rattle.regions.specs.Regions.{SYMBOLS, SLOTS, SCOPES, PLAN}
+use Rattle.model.specs.Schedule.{is_arg}
+use Rattle.key.specs.declared.Func.{Func}
+use Rattle.key.specs.declared.Node.TheVariants.{Lambda}
 use Rattle.key.specs.declared.Symbol.{Symbol}
 use Rattle.key.specs.Key.{symbol_at}
 use Rattle.key.proofs.Laws.{symbol_agree}
-use Rattle.symbols.specs.Symbols.{syms_of}
+use Rattle.symbols.specs.Symbols.{model_node, syms_of}
 use Rattle.symbols.specs.Sourced.{Sourced}
 use Rattle.symbols.proofs.Laws.{syms_agree, sounds_agree}
 use Rattle.scopes.specs.Scopes.{scopes_of}
@@ -22,7 +26,7 @@ use Rattle.free_lists.specs.FreeLists.{Lists}
 use Rattle.free_lists.proofs.Laws.{lists_agree}
 use Rattle.plan.specs.declared.Planned.{Planned}
 use Rattle.plan.specs.Plan.{planned_at, plan_from}
-use Rattle.planner.specs.Building.{Opens, NoUse, Buildable}
+use Rattle.planner.specs.Building.{Opens, NoUse, ArgOf, Buildable}
 
 -- ---- the parts, word by word
 
@@ -119,7 +123,22 @@ module _ {bs ws : List ℕ} {n m : ℕ} (b : Buildable bs ws n m) (made : List �
     sourced = λ s lt. kept (λ y. Sourced bs y.node y.count) s lt (b.sourced s lt);
     opens = λ s lt. kept (λ y. Opens bs m s y.node) s lt (b.opens s lt);
     no_use = λ s lt. kept (λ y. NoUse bs y.node) s lt (b.no_use s lt);
+    args_are = λ s a f lt e h.
+        let d = node_was s f lt e in
+        kept (λ y. is_arg (model_node bs y.node) ≡ true) a (arg_low s a f lt d h) (b.args_are s a f lt d h);
+    apart = λ s t a f g lt below e d.
+        b.apart s t a f g lt below (node_was s f lt e) (node_was t g (omega (arith, lt, below)) d);
   }
     where
       kept : (P : Symbol → Type 0) (s : ℕ) → s < n → P (symbol_at ws s) → P (symbol_at made s)
       kept P s lt = subst P (sym (symbol_same s lt))
+
+      node_was : (s : ℕ) (f : Func) → s < n → (symbol_at made s).node ≡ Lambda f → (symbol_at ws s).node ≡ Lambda f
+      node_was s f lt e = rw (symbol_same s lt) at e
+
+      -- a lambda's arguments are lower symbols
+      arg_low : (s a : ℕ) (f : Func) → s < n → (symbol_at ws s).node ≡ Lambda f → ArgOf bs f a → a < n
+      arg_low s a f lt e h =
+          let o = subst (Opens bs m s) e (b.opens s lt) in
+          let first = o.first (omega (arith, h.0, h.1)) in
+          omega (arith, h.1, first, lt)

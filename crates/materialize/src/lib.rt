@@ -4,10 +4,11 @@
 // Interning makes no symbol for a use, so no definition's value is one, and the case has no code.
 // Where the plan has no room for a row, planning ends. Each function promises two things: which rows are planned, and of which
 // symbols their definitions are, as labels say.
-// What nests: `build`, `fresh`, `operands`, `operand` once a symbol, with no array. `lambda`, and `thunk` where it
-// gives ids, open a copy of the ids (2 KB), `define` an order (1 KB); these nest once a scope. `last`, `above` and `p`
-// stay three parameters, and `Site` a clause over them: what comes back is the plan, or the plan and `last`, and in six
-// of fifteen calls a struct of the three would be taken apart and made anew.
+// There is one map of ids, lent to all. What a scope adds is taken back when it ends, whether or not there was room: each
+// function but `definitions` and `definition` leaves the map as it was (`kept`), as if its scopes had been given copies.
+// What nests: `build`, `fresh`, `operands`, `operand`, `lambda` once a symbol, with no array; `define`, with an order
+// (1 KB), once a scope. `last`, `above` and `p` stay three parameters, and `Site` a clause over them: what comes back is the
+// plan, or the plan and `last`, and in six of fourteen calls a struct of the three would be taken apart and made anew.
 #![tactic(auto)]
 
 ghost use Rattle.std.specs.Prelude.{◌≡◌, ◌∷◌, [], ℕ, ◌+◌, ◌<◌, ◌≤◌, length, get_or, Some, IfSome, MatchOption};
@@ -17,7 +18,7 @@ ghost use Rattle.key.specs.declared.Node.TheVariants.{Lambda, Op};
 ghost use Rattle.key.specs.Key.{symbol_at};
 ghost use Rattle.regions.specs.Regions.{PLAN, WORDS};
 ghost use Rattle.planner.specs.Building.{Buildable, operand_tree, l_operand_tree};
-ghost use Rattle.planner.specs.Planning.{fresh_tree, l_fresh_tree, order_symbols, Site, Plans, Labels, Defines, DefinesOver};
+ghost use Rattle.planner.specs.Planning.{fresh_tree, l_fresh_tree, order_symbols, Site, UpTo, Ids, Added, Plans, Labels, Defines, DefinesOver};
 ghost use Rattle.planner.specs.Grew.{Defining, Grown};
 ghost use Rattle.materialize.specs.Materialize.{CountedIn, Counted, no_rows, root_tree, root_symbols, Materialized};
 
@@ -42,16 +43,18 @@ fn build(
     source: &Source,
     plan: &mut [u32],
     s: usize,
-    ids: &[u32; 512],
+    ids: &mut [u32; 512],
     last: u32,
     above: usize,
     p: Plan,
 ) -> Option<Plan>
     requires site { Site source.now.graph.symbols s 0 last above p plan.old }
-    ensures plans { Plans source.now ids.now plan.old p above
+    requires ids { Ids source.now ids.old s last }
+    ensures plans { Plans source.now ids.old plan.old p above
         (λ gr sc env. build_value gr s sc env last) plan.new result }
-    ensures labels { Labels source.now ids.now plan.old p
+    ensures labels { Labels source.now ids.old plan.old p
         (λ gr sc env. defined_of (l_build_value gr s sc env last)) plan.new result }
+    ensures kept { ids.new ≡ ids.old }
 {
     let id = ids[s];
     if id != 0 {
@@ -66,16 +69,18 @@ fn fresh(
     source: &Source,
     plan: &mut [u32],
     s: usize,
-    ids: &[u32; 512],
+    ids: &mut [u32; 512],
     last: u32,
     above: usize,
     p: Plan,
 ) -> Option<Plan>
     requires site { Site source.now.graph.symbols s 0 last above p plan.old }
-    ensures plans { Plans source.now ids.now plan.old p above
+    requires ids { Ids source.now ids.old s last }
+    ensures plans { Plans source.now ids.old plan.old p above
         (fresh_tree s last) plan.new result }
-    ensures labels { Labels source.now ids.now plan.old p
+    ensures labels { Labels source.now ids.old plan.old p
         (λ gr sc env. defined_of (l_fresh_tree s last gr sc env)) plan.new result }
+    ensures kept { ids.new ≡ ids.old }
 {
     match key::load(source.graph.words, s).node {
         Node::Const(l) | Node::Unparsed(l) => {
@@ -96,17 +101,19 @@ fn operands(
     plan: &mut [u32],
     s: usize,
     o: Operation,
-    ids: &[u32; 512],
+    ids: &mut [u32; 512],
     last: u32,
     above: usize,
     p: Plan,
 ) -> Option<Plan>
     requires site { Site source.now.graph.symbols s 0 last above p plan.old }
     requires s_value { (symbol_at source.now.graph.words.now s).node ≡ Op o }
-    ensures plans { Plans source.now ids.now plan.old p above
+    requires ids { Ids source.now ids.old s last }
+    ensures plans { Plans source.now ids.old plan.old p above
         (fresh_tree s last) plan.new result }
-    ensures labels { Labels source.now ids.now plan.old p
+    ensures labels { Labels source.now ids.old plan.old p
         (λ gr sc env. defined_of (l_fresh_tree s last gr sc env)) plan.new result }
+    ensures kept { ids.new ≡ ids.old }
 {
     let opcode = source.forest.opcode(o.source as usize);
     let kids = graph::children(source.graph.words, key::load(source.graph.words, s));
@@ -125,127 +132,109 @@ fn operand(
     plan: &mut [u32],
     s: usize,
     scope: Option<u32>,
-    ids: &[u32; 512],
+    ids: &mut [u32; 512],
     last: u32,
     above: usize,
     p: Plan,
 ) -> Option<Plan>
     requires site { Site source.now.graph.symbols s 600 last above p plan.old }
     requires scope_low { IfSome scope (λ b. b < source.now.graph.scopes) }
-    ensures plans { Plans source.now ids.now plan.old p above
+    requires ids { Ids source.now ids.old s last }
+    ensures plans { Plans source.now ids.old plan.old p above
         (λ gr sc env. operand_tree scope gr s sc env last) plan.new result }
-    ensures labels { Labels source.now ids.now plan.old p
+    ensures labels { Labels source.now ids.old plan.old p
         (λ gr sc env. defined_of (l_operand_tree scope gr s sc env last)) plan.new result }
+    ensures kept { ids.new ≡ ids.old }
 {
     match scope {
         None => build(source, plan, s, ids, last, above, p),
-        Some(sc) => thunk(source, plan, s, sc as usize, ids, last, above, p),
+        Some(sc) => define(source, plan, s, sc as usize, ids, last, above, p),
     }
 }
 
 // ---- scopes
 
-// The scope of a thunk. If it gives ids, it has a copy of them, so those that it gives are not known outside.
-#[cycle(building)]
-fn thunk(
-    source: &Source,
-    plan: &mut [u32],
-    root: usize,
-    sc: usize,
-    ids: &[u32; 512],
-    last: u32,
-    above: usize,
-    p: Plan,
-) -> Option<Plan>
-    requires site { Site source.now.graph.symbols root 600 last above p plan.old }
-    requires sc_lt_scopes { sc < source.now.graph.scopes }
-    ensures plans { Plans source.now ids.now plan.old p above
-        (λ gr at env. process_scope gr (build_value gr) root sc env last) plan.new result }
-    ensures labels { Labels source.now ids.now plan.old p
-        (λ gr at env. defined_of (l_process_scope gr (l_build_value gr) root sc env last)) plan.new result }
-{
-    if !source.any_member(root, sc, ids) {
-        return build(source, plan, root, ids, last, above, p);
-    }
-    let mut map = *ids;
-    define(source, plan, root, sc, &mut map, last, above, p)
-}
-
-// Lambda s. Its arguments get the ids after `last`; the first definition in its body gets the second after them.
-// Rules out: the first definition numbered right after the arguments.
+// Lambda s. Its arguments get the ids after `last`, until its body is built; the first definition in its body gets the
+// second after them. Rules out: the first definition numbered right after the arguments; an argument's id left in the map.
 #[cycle(building)]
 fn lambda(
     source: &Source,
     plan: &mut [u32],
     s: usize,
     f: Func,
-    ids: &[u32; 512],
+    ids: &mut [u32; 512],
     last: u32,
     above: usize,
     p: Plan,
 ) -> Option<Plan>
     requires site { Site source.now.graph.symbols s 0 last above p plan.old }
     requires s_value { (symbol_at source.now.graph.words.now s).node ≡ Lambda f }
-    ensures plans { Plans source.now ids.now plan.old p above
+    requires ids { Ids source.now ids.old s last }
+    ensures plans { Plans source.now ids.old plan.old p above
         (fresh_tree s last) plan.new result }
-    ensures labels { Labels source.now ids.now plan.old p
+    ensures labels { Labels source.now ids.old plan.old p
         (λ gr sc env. defined_of (l_fresh_tree s last gr sc env)) plan.new result }
+    ensures kept { ids.new ≡ ids.old }
 {
     let count = source.forest.aux(f.source as usize);
     let root = graph::children(source.graph.words, key::load(source.graph.words, s))[0] as usize;
     let q = planner::put(plan, p, above, Planned::Lambda(f.source, last))?;
-    let mut map = *ids;
-    planner::number(&mut map, f.first as usize, usize::from(count), last);
+    let first = f.first as usize;
+    let many = usize::from(count);
+    planner::number(ids, first, many, last);
     let next = last + u32::from(count) + 1;
-    define(
-        source,
-        plan,
-        root,
-        f.body as usize,
-        &mut map,
-        next,
-        above + 1,
-        q,
-    )
+    let r = define(source, plan, root, f.body as usize, ids, next, above + 1, q);
+    planner::take_back_from(ids, first, many);
+    r
 }
 
-// A scope: its schedule, then its definitions and its result. Where no symbol gets a definition, its result alone.
-// Rules out: a block around a result without definitions; one definition left out of its block.
+// A scope: its schedule, then its definitions and its result; at its end their ids are taken back. Where no symbol gets a
+// definition, its result alone. Rules out: a block around a result without definitions; one definition left out of its
+// block; an id of the scope around taken back too.
 #[cycle(building)]
 fn define(
     source: &Source,
     plan: &mut [u32],
     root: usize,
     sc: usize,
-    map: &mut [u32; 512],
+    ids: &mut [u32; 512],
     last: u32,
     above: usize,
     p: Plan,
 ) -> Option<Plan>
     requires site { Site source.now.graph.symbols root 600 last above p plan.old }
     requires sc_lt_scopes { sc < source.now.graph.scopes }
-    ensures plans { Plans source.now map.old plan.old p above
+    requires ids { Ids source.now ids.old root last }
+    ensures plans { Plans source.now ids.old plan.old p above
         (λ gr at env. process_scope gr (build_value gr) root sc env last) plan.new result }
-    ensures labels { Labels source.now map.old plan.old p
+    ensures labels { Labels source.now ids.old plan.old p
         (λ gr at env. defined_of (l_process_scope gr (l_build_value gr) root sc env last)) plan.new result }
+    ensures kept { ids.new ≡ ids.old }
 {
-    if !source.any_member(root, sc, map) {
-        return build(source, plan, root, map, last, above, p);
+    if !source.any_member(root, sc, ids) {
+        return build(source, plan, root, ids, last, above, p);
     }
     let mut order = ArrayVec::new();
     schedule::schedule(source.forest, &source.graph, root, sc, &mut order);
     let order = order.as_slice();
-    let k = source.members(order, sc, map);
+    let k = source.members(order, sc, ids);
     // a member need not stand in the order
     if k == 0 {
-        return build(source, plan, root, map, last, above, p);
+        return build(source, plan, root, ids, last, above, p);
     }
     let q = planner::put(plan, p, above, Planned::Block(k + 1))?;
-    let d = definitions(source, plan, root, sc, order, map, last, above + 1, q)?;
-    build(source, plan, root, map, d.last, above + 1, d.plan)
+    // no `?`: where there is no room, ids are taken back too
+    let r = match definitions(source, plan, root, sc, order, ids, last, above + 1, q) {
+        Some(d) => build(source, plan, root, ids, d.last, above + 1, d.plan),
+        None => None,
+    };
+    planner::take_back(ids, order, last);
+    r
 }
 
-// The definitions of the symbols of an order, none of which is higher than `root`.
+// The definitions of the symbols of an order, none of which is higher than `root`. Where there is no room for one, the ids
+// given before it stay in the map: `define` takes them back. Rules out: an id of a symbol outside the order changed; a last
+// id below one in the map.
 #[cycle(building)]
 fn definitions(
     source: &Source,
@@ -253,7 +242,7 @@ fn definitions(
     root: usize,
     sc: usize,
     order: &[u16],
-    map: &mut [u32; 512],
+    ids: &mut [u32; 512],
     last: u32,
     above: usize,
     p: Plan,
@@ -261,16 +250,19 @@ fn definitions(
     requires site { Site source.now.graph.symbols root 590 last above p plan.old }
     requires order_bound { length order.now ≤ 512 }
     requires by_index { (k : ℕ) → k < length order.now → get_or order.now k 0 ≤ root }
+    requires ids { Ids source.now ids.old root last }
     ensures plans { MatchOption result
-        (DefinesOver source.now map.old p sc order.now last)
-        (λ d. Defines source.now map.old plan.old p above sc order.now last
-        (length order.now) plan.new map.new d.plan d.last) }
-    ensures labels { IfSome result (λ d. Labels source.now map.old plan.old p
+        (DefinesOver source.now ids.old p sc order.now last)
+        (λ d. Defines source.now ids.old plan.old p above sc order.now last
+        (length order.now) plan.new ids.new d.plan d.last) }
+    ensures labels { IfSome result (λ d. Labels source.now ids.old plan.old p
         (order_symbols sc order.now last) plan.new (Some d.plan)) }
+    ensures added { Added source.now ids.old order.now last ids.new }
+    ensures rise { IfSome result (λ d. (last ≤ d.last) × UpTo ids.new d.last) }
 {
     let mut d = Defined { plan: p, last };
     for &s in order {
-        d = definition(source, plan, usize::from(s), sc, map, d.last, above, d.plan)?;
+        d = definition(source, plan, usize::from(s), sc, ids, d.last, above, d.plan)?;
     }
     Some(d)
 }
@@ -283,24 +275,27 @@ fn definition(
     plan: &mut [u32],
     s: usize,
     sc: usize,
-    map: &mut [u32; 512],
+    ids: &mut [u32; 512],
     last: u32,
     above: usize,
     p: Plan,
 ) -> Option<Defined>
     requires site { Site source.now.graph.symbols s 10 last above p plan.old }
+    requires ids { Ids source.now ids.old s last }
     ensures plans { MatchOption result
-        (DefinesOver source.now map.old p sc (s ∷ []) last)
-        (λ d. Defines source.now map.old plan.old p above sc (s ∷ []) last 1
-        plan.new map.new d.plan d.last) }
-    ensures labels { IfSome result (λ d. Labels source.now map.old plan.old p
+        (DefinesOver source.now ids.old p sc (s ∷ []) last)
+        (λ d. Defines source.now ids.old plan.old p above sc (s ∷ []) last 1
+        plan.new ids.new d.plan d.last) }
+    ensures labels { IfSome result (λ d. Labels source.now ids.old plan.old p
         (order_symbols sc (s ∷ []) last) plan.new (Some d.plan)) }
+    ensures added { Added source.now ids.old (s ∷ []) last ids.new }
+    ensures rise { IfSome result (λ d. (last ≤ d.last) × UpTo ids.new d.last) }
 {
-    if source.member(s, sc, map) {
+    if source.member(s, sc, ids) {
         let id = last + 1;
         let q = planner::put(plan, p, above, Planned::ValDef(id, s as u32))?;
-        let r = build(source, plan, s, map, last, above + 1, q)?;
-        map[s] = id;
+        let r = build(source, plan, s, ids, last, above + 1, q)?;
+        ids[s] = id;
         return Some(Defined { plan: r, last: id });
     }
     Some(Defined { plan: p, last })
@@ -326,12 +321,12 @@ fn plan_root<'a>(
     ensures labels { Defining plan.old no_rows (root_symbols forest.now words.now symbols scopes root) plan.new result }
 {
     let source = Source::new(forest, words, symbols, scopes, uses);
-    let mut map = [0; 512];
+    let mut ids = [0; 512];
     let p = Plan {
         rows: 0,
         deepest: 0,
     };
-    define(&source, plan, root, 0, &mut map, 0, 0, p)
+    define(&source, plan, root, 0, &mut ids, 0, 0, p)
 }
 
 // Plans the written tree of a root's symbol, in region PLAN; how many rows, and how deep, or none if it has more than

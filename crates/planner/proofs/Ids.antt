@@ -31,7 +31,7 @@ number_more map₀ map first last j id e f =
 
 -- ---- no ids
 
-replicate-zero : (n s : ℕ) → ◌≡◌ {A = ℕ} (get_or (replicate n 0) s 0) 0
+pub replicate-zero : (n s : ℕ) → ◌≡◌ {A = ℕ} (get_or (replicate n 0) s 0) 0
 replicate-zero zero zero = refl
 replicate-zero zero (suc s) = refl
 replicate-zero (suc n) zero = refl

@@ -3,6 +3,8 @@ pub mod Growing
 pub mod Operands
 pub mod Membership
 pub mod Ids
+pub mod Taken
+pub mod Lasting
 pub mod Graphs
 pub mod Loaded
 pub mod Sites

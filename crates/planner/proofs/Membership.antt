@@ -31,10 +31,17 @@ use Rattle.symbols.proofs.Laws.{sym_at_lem}
 use Rattle.gate.proofs.Gate.{hoist_few}
 use Rattle.graph.specs.Tests.{Tests, held_in}
 use Rattle.planner.specs.declared.source.Source.{Source}
-use Rattle.planner.specs.Building.{Maps, id_in}
+use Rattle.planner.specs.Building.{an_arg, Maps, id_in}
 use Rattle.planner.specs.Sources.{GraphIn}
 
 -- ---- the graph that a source has
+
+-- that symbol s is an argument, as the code has tested it
+pub arg_told : (x : Source) (s : ℕ) → s < x.graph.symbols → {r : Bool} → Tests x.graph (λ h. is_arg (sym_of h s).node) r
+    → r ≡ an_arg x.forest.now x.graph.words.now s
+unfolding words.sym_of
+arg_told x s lt t =
+    t x.forest.now [] ∙ ap (λ (y : Sym). is_arg y.node) (sym_at_lem x.forest.now x.graph.words.now x.graph.symbols s lt)
 
 module _ {x : Source} {gr : Graph} (st : GraphIn x gr) where
   pub graph_is : gr ≡ held_in x.graph x.forest.now gr.slots

@@ -1,12 +1,14 @@
 -- What is asked of the words, and how they stand for what is built. In order: symbols that a tree can be built from;
--- the ids of symbols; an operation's row and the scopes of its thunks. bs are the forest's bytes, ws the words.
+-- the ids of symbols, and ids taken back; an operation's row and the scopes of its thunks. bs are the forest's bytes, ws
+-- the words.
 -- Assumes nothing.
-use Rattle.std.specs.Prelude.{ℕ, zero, suc, ◌+◌, ◌<◌, ◌≤◌, ◌≡◌, true, false, List, [], ◌∷◌, get_or, drop, Option, None, Some}
+use Rattle.std.specs.Prelude.{ℕ, zero, suc, ◌+◌, ◌<◌, ◌≤◌, ◌≡◌, Bool, true, false, List, [], ◌∷◌, ltb, get_or, set, drop, Option, None, Some}
 use Rattle.std.proofs.Props.{props}
 use Rattle.model.specs.Opcodes.{ValUse}
 use Rattle.model.specs.Shape.{a_id, a_opt, ◌then◌, times, whole}
 use Rattle.model.specs.Intern.{Env, thunked}
 use Rattle.model.specs.Gate as model
+use Rattle.model.specs.Schedule.{is_arg}
 use Rattle.model.specs.Tree.{Tree}
 use Rattle.model.specs.Materialize.{id_given, build_value, process_scope}
 use Rattle.model.specs.Labels.{LTree, l_build_value, l_process_scope}
@@ -17,7 +19,7 @@ use Rattle.key.specs.declared.Operation.{Operation}
 use Rattle.key.specs.declared.Node.{Node}
 use Rattle.key.specs.declared.Node.TheVariants.{Const, Unparsed, Arg, Lambda, Op}
 use Rattle.key.specs.Key.{branches_of, symbol_at}
-use Rattle.symbols.specs.Symbols.{rec_of}
+use Rattle.symbols.specs.Symbols.{rec_of, model_node}
 use Rattle.symbols.specs.Sourced.{OpSourced, Sourced, AllSourced}
 use Rattle.graph.specs.Graph.{Arena, graph_of}
 use Rattle.free_lists.specs.FreeLists.{Lists}
@@ -49,12 +51,24 @@ NoUse bs (Arg l) = Unit {0}
 NoUse bs (Lambda f) = (rec_of bs (Lambda f)).shape ≡ ValUse → ⊥
 NoUse bs (Op o) = (rec_of bs (Op o)).shape ≡ ValUse → ⊥
 
+-- whether symbol s was made as a lambda's argument
+abbrev pub an_arg : List ℕ → List ℕ → ℕ → Bool
+an_arg bs ws s = is_arg (model_node bs (symbol_at ws s).node)
+
+-- symbol a is one of lambda f's arguments
+abbrev pub ArgOf : List ℕ → Func → ℕ → Type 0
+ArgOf bs f a = (f.first ≤ a) × (a < f.first + (row_at bs f.source).rec.aux)
+
 pub record Buildable (bs ws : List ℕ) (n m : ℕ) : Type 0 where
   pub arena : Arena bs ws n m
   pub lists : Lists (graph_of bs ws n m []) ws n
   pub sourced : AllSourced bs ws n
   pub opens : (s : ℕ) → s < n → Opens bs m s (symbol_at ws s).node
   pub no_use : (s : ℕ) → s < n → NoUse bs (symbol_at ws s).node
+  -- a lambda's arguments are argument symbols, and those of no other lambda
+  pub args_are : (s a : ℕ) (f : Func) → s < n → (symbol_at ws s).node ≡ Lambda f → ArgOf bs f a → an_arg bs ws a ≡ true
+  pub apart : (s t a : ℕ) (f g : Func) → s < n → t < s → (symbol_at ws s).node ≡ Lambda f
+      → (symbol_at ws t).node ≡ Lambda g → ArgOf bs f a → ArgOf bs g a → ⊥
 
 -- that is one fact, however it is proved
 
@@ -96,6 +110,12 @@ id_in (suc i) = Some (suc i)
 -- the words have the ids of env, 0 for none
 pub record Maps (ids : List ℕ) (env : Env) : Type 0 where
   pub is : (s : ℕ) → s < 512 → id_given env s ≡ id_in (get_or ids s 0)
+
+-- the ids after `last` taken back from symbols of an order
+unfoldable pub taken_back : List ℕ → List ℕ → ℕ → List ℕ
+taken_back ids [] last = ids
+taken_back ids (s ∷ order) last =
+    taken_back (elim (ltb last (get_or ids s 0)) [ true ↦ set ids s 0 | false ↦ ids ]) order last
 
 -- ---- operations
 

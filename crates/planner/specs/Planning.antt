@@ -1,27 +1,30 @@
--- What the functions that plan ask and answer. In order: where a tree is planned; a tree planned, and which symbols its
--- rows define; the tree of a symbol without an id; a scope's definitions; an operation's operands. x is what is planned from,
--- pl the plan's words.
+-- What the functions that plan ask and answer. In order: where a tree is planned; ids given, for as long as a scope
+-- lasts; a tree planned, and which symbols its rows define; the tree of a symbol without an id; a scope's definitions; an
+-- operation's operands. x is what is planned from, pl the plan's words.
 --
 -- Why ids and depths fit: along a path to lower symbols a scope gives at most 512 definitions their ids and a lambda at
 -- most 16 to arguments and body, and the depth grows by at most three a symbol; so `last + above` grows by less than
 -- 1,024 for each symbol that the path goes down (`room`).
 -- Assumes nothing.
-use Rattle.std.specs.Prelude.{ℕ, ◌+◌, ◌*◌, ◌<◌, ◌≤◌, ◌≡◌, List, ◌++◌, Option, IfSome, drop, length}
+use Rattle.std.specs.Prelude.{ℕ, ◌+◌, ◌*◌, ◌<◌, ◌≤◌, ◌≡◌, ◌⊎◌, List, ◌++◌, Option, IfSome, drop, length, get_or}
 use Rattle.model.specs.Tree.{Tree, Trees, rows_of}
 use Rattle.model.specs.Intern.{Env}
 use Rattle.model.specs.Gate.{sym_of}
 use Rattle.model.specs.Gate as model
 use Rattle.model.specs.Materialize.{Defined, define, build_op, build_node, build_value}
 use Rattle.model.specs.Labels.{LTree, LTrees, l_define, l_build_op, l_build_node, l_build_value, defined_in}
+use Rattle.laws.specs.Members.{In}
 use Rattle.regions.specs.Regions.{PLAN}
+use Rattle.key.specs.declared.Func.{Func}
 use Rattle.key.specs.declared.Operation.{Operation}
-use Rattle.key.specs.Key.{branches_of}
+use Rattle.key.specs.declared.Node.TheVariants.{Lambda}
+use Rattle.key.specs.Key.{branches_of, symbol_at}
 use Rattle.symbols.specs.Symbols.{kids_at}
 use Rattle.planner.specs.declared.source.Source.{Source}
 use Rattle.planner.specs.declared.Plan.{Plan}
 use Rattle.planner.specs.Grew.{Grew, Over, defined_to, Defining, Grown, deep_in, GrownAll}
-use Rattle.planner.specs.Building.{Maps, left_at}
-use Rattle.planner.specs.Sources.{GraphIn}
+use Rattle.planner.specs.Building.{ArgOf, Maps, left_at}
+use Rattle.planner.specs.Sources.{GraphIn, New}
 
 -- ---- where a tree is planned
 
@@ -31,6 +34,28 @@ pub record Site (n s slack last above : ℕ) (p : Plan) (pl : List ℕ) : Type 0
   pub room : last + above + 1024 * s + slack ≤ 524288
   pub count : p.rows ≤ 256
   pub words : PLAN.size ≤ length pl
+
+-- ---- ids given, for as long as a scope lasts
+
+-- no id is after the last
+abbrev pub UpTo : List ℕ → ℕ → Type 0
+UpTo ids last = (t : ℕ) → get_or ids t 0 ≤ last
+
+-- what holds of them while symbol s is built: besides, arguments of lambdas up to s are not in force, so they have none
+pub record Ids (x : Source) (ids : List ℕ) (s last : ℕ) : Type 0 where
+  pub up_to : UpTo ids last
+  pub outer : (t a : ℕ) (f : Func) → t ≤ s → (symbol_at x.graph.words.now t).node ≡ Lambda f → ArgOf x.forest.now f a
+      → get_or ids a 0 ≡ 0
+
+-- symbol t, of an order, had no id and has one after `last`
+pub record AddedAt (x : Source) (ids order : List ℕ) (last : ℕ) (ids' : List ℕ) (t : ℕ) : Type 0 where
+  pub among : In t order
+  pub new : New x ids t
+  pub after : last < get_or ids' t 0
+
+-- no id changed but those that symbols of an order got
+abbrev pub Added : Source → List ℕ → List ℕ → ℕ → List ℕ → Type 0
+Added x ids order last ids' = (t : ℕ) → (get_or ids' t 0 ≡ get_or ids t 0) ⊎ AddedAt x ids order last ids' t
 
 -- ---- a tree planned
 

@@ -1,17 +1,17 @@
-// What planning a tree is made of. In order: the plan so far, and one row more; ids given; where an operand is built;
-// what is planned from (source.rt), and the symbols that get a definition in a scope.
+// What planning a tree is made of. In order: the plan so far, and one row more; ids given, and taken back; where an
+// operand is built; what is planned from (source.rt), and the symbols that get a definition in a scope.
 #![tactic(auto)]
 
 mod source;
 
-ghost use Rattle.std.specs.Prelude.{◌≡◌, ℕ, ◌+◌, ◌<◌, ◌≤◌, length, get_or};
+ghost use Rattle.std.specs.Prelude.{◌≡◌, ℕ, ◌+◌, ◌<◌, ◌≤◌, true, length, get_or, replicate};
 ghost use Rattle.std.proofs.lemmas.List.Edits.{sets};
 ghost use Rattle.laws.specs.Range.{range};
 ghost use Rattle.regions.specs.Regions.{PLAN};
 ghost use Rattle.key.specs.Key.{branches_of};
 ghost use Rattle.planner.specs.Grew.{RowPut};
-ghost use Rattle.planner.specs.Building.{Buildable, row_of, opened_at};
-ghost use Rattle.planner.specs.Sources.{Member, Members, AnyMember};
+ghost use Rattle.planner.specs.Building.{Buildable, taken_back, row_of, opened_at};
+ghost use Rattle.planner.specs.Sources.{New, Member, Members, AnyMember};
 
 use graph::Graph;
 use key::{Branches, Operation};
@@ -60,8 +60,9 @@ pub fn row_of(o: Operation) -> Planned
     }
 }
 
-// ---- the ids of symbols: word s is the id of symbol s, 0 if it has none. Memory is fixed: `Option<u32>` would double
-// these 2 KB, of which up to 257 are nested on a stack of 2 MiB
+// ---- the ids of symbols: word s is the id of symbol s, 0 if it has none (`Option<u32>` would double these 2 KB). One map
+// for the whole tree: what is given in a scope is taken back at its end. Ids rise, so these are the ids after the last one
+// at its start
 
 // The symbols from `first` on get the ids after `last`. Rules out: `last` itself; the same id for two.
 pub fn number(ids: &mut [u32], first: usize, count: usize, last: u32)
@@ -71,6 +72,31 @@ pub fn number(ids: &mut [u32], first: usize, count: usize, last: u32)
     // by index: with no argument to number, `first` may lie past the ids
     for j in 0..count {
         ids[first + j] = last + 1 + j as u32;
+    }
+}
+
+// The ids of the symbols from `first` on are taken back. Rules out: that of the symbol after them taken back too; that of
+// the first of them left.
+pub fn take_back_from(ids: &mut [u32], first: usize, count: usize)
+    requires { 0 < count → first + count ≤ length ids.old }
+    ensures { ids.new ≡ sets ids.old first (replicate count 0) }
+{
+    // by index, as they are given
+    for j in 0..count {
+        ids[first + j] = 0;
+    }
+}
+
+// The ids after `last` of an order's symbols are taken back. Rules out: an id up to `last` taken back; one after it left.
+pub fn take_back(ids: &mut [u32; 512], order: &[u16], last: u32)
+    requires { (k : ℕ) → k < length order.now → get_or order.now k 0 < 512 }
+    ensures { ids.new ≡ taken_back ids.old order.now last }
+{
+    for &s in order {
+        let s = usize::from(s);
+        if last < ids[s] {
+            ids[s] = 0;
+        }
     }
 }
 
@@ -123,10 +149,11 @@ impl<'a> Source<'a> {
     }
 
     // Whether symbol s gets a definition in scope `sc`.
-    // Rules out: one of another scope; a context property, however often it is used.
+    // Rules out: one of another scope; a context property, however often it is used; a lambda's argument.
     pub fn member(&self, s: usize, sc: usize, ids: &[u32; 512]) -> bool
         requires s_lt_symbols { s < self.now.graph.symbols }
-        ensures { Member self.now ids.now sc s result }
+        ensures is { Member self.now ids.now sc s result }
+        ensures new { result ≡ true → New self.now ids.now s }
     {
         let uses = self.uses[s];
         // asked first, since most symbols are used once

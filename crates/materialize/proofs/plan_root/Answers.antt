@@ -1,6 +1,10 @@
 -- `materialize::plan_root` meets its contract. Assumes nothing.
+use Rattle.planner.proofs.Lasting.{ids_none}
 use Rattle.materialize.proofs.Root.{root_planned, root_labels}
 use Rattle.materialize.proofs.plan_root.Goals as goal
+
+pub define-requires-clause-ids : goal.define-requires-clause-ids
+define-requires-clause-ids c = ids_none _ _
 
 pub returns : goal.returns
 returns c =

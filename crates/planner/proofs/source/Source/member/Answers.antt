@@ -3,15 +3,16 @@
 use Prim.Native.Nat.{◌<◌}
 use mathlib.Core.Path.{sym, ◌∙◌}
 use native.Mathlib.Omega.{arith}
-use borrow.Author.Tests.{le-ltb}
+use borrow.Author.Tests.{eqb-true, le-ltb}
 use Rattle.std.proofs.lemmas.Bool.{not-true, not-false}
+use Rattle.laws.proofs.Members.{clash}
 use Rattle.planner.proofs.Membership.{member_rare, member-given, member_elsewhere, member_arg, member_hoisted}
-use Rattle.planner.proofs.Membership.{rare_is, in_scope, arg_is, hoist_is}
+use Rattle.planner.proofs.Membership.{arg_told, rare_is, in_scope, arg_is, hoist_is}
 use Rattle.planner.proofs.source.Source.member.Goals as goal
 use Rattle.planner.proofs.source.Source.member.Goals.{then-uses-gt1, else-uses-gt1, then-ids-s-eq0, else-ids-s-eq0, then-load-sc, else-load-sc}
 
-pub returns-then-not-is_arg : goal.returns-then-not-is_arg
-returns-then-not-is_arg c = λ gr env st maps.
+pub returns-then-not-is_arg-clause-is : goal.returns-then-not-is_arg-clause-is
+returns-then-not-is_arg-clause-is c = λ gr env st maps.
     let few : c.args.s < 512 = omega (arith, c.args.self.now.graph.scoped.few) in
     let lt = c.requires.s_lt_symbols in
     let yes = c.if-not-is_arg.true in
@@ -39,8 +40,31 @@ returns-then-not-is_arg c = λ gr env st maps.
       | else-load-sc w ↦ let a = w.value-is in let b = w.if-load-sc.false in cc
     ]
 
-pub returns-else-not-is_arg : goal.returns-else-not-is_arg
-returns-else-not-is_arg c = λ gr env st maps.
+-- where the last test is asked, those before it were passed
+pub returns-then-not-is_arg-clause-new : goal.returns-then-not-is_arg-clause-new
+returns-then-not-is_arg-clause-new c = λ is.
+    let yes = c.if-not-is_arg.true in
+    elim c.if-load-sc.branch [
+      | then-load-sc w ↦
+          let a = w.value-is in
+          let b = w.if-load-sc.true in
+          elim c.if-ids-s-eq0.branch [
+            | then-ids-s-eq0 v ↦
+                let e = v.if-ids-s-eq0.true in
+                elim c.if-uses-gt1.branch [
+                  | then-uses-gt1 u ↦ record {
+                    none = eqb-true _ 0 (sym u.value-is ∙ e);
+                    no_arg = sym (arg_told c.args.self.now _ c.requires.s_lt_symbols w.is_arg.ensures) ∙ not-true _ (cc);
+                  }
+                  | else-uses-gt1 u ↦ absurd (clash _ e (u.value-is ∙ le-ltb _ _ u.if-uses-gt1.false))
+                ]
+            | else-ids-s-eq0 v ↦ let d = v.value-is in let e = v.if-ids-s-eq0.false in cc
+          ]
+      | else-load-sc w ↦ let a = w.value-is in let b = w.if-load-sc.false in cc
+    ]
+
+pub returns-else-not-is_arg-clause-is : goal.returns-else-not-is_arg-clause-is
+returns-else-not-is_arg-clause-is c = λ gr env st maps.
     let few : c.args.s < 512 = omega (arith, c.args.self.now.graph.scoped.few) in
     let lt = c.requires.s_lt_symbols in
     let no = c.if-not-is_arg.false in
@@ -63,3 +87,6 @@ returns-else-not-is_arg c = λ gr env st maps.
                 ]
           ]
     ])
+
+pub returns-else-not-is_arg-clause-new : goal.returns-else-not-is_arg-clause-new
+returns-else-not-is_arg-clause-new c = λ is. let no = c.if-not-is_arg.false in cc

@@ -15,13 +15,13 @@ loop-s-preserved c =
       | then-member w ↦ (
         omega (arith, w.k-is),
         λ gr env st maps.
-            w.k-is ∙ members_found gr _ env _ _ _ _ _ c.loop-s-test.true c.from.ensures (c.member.ensures gr env st maps)
+            w.k-is ∙ members_found gr _ env _ _ _ _ _ c.loop-s-test.true c.from.ensures (c.member.ensures.is gr env st maps)
             (c.loop-s.invariant.1 gr env st maps) w.if-member.true,
       )
       | else-member w ↦ (
         omega (arith, w.k-is),
         λ gr env st maps.
-            w.k-is ∙ members_passed gr _ env _ _ _ _ _ c.loop-s-test.true c.from.ensures (c.member.ensures gr env st maps)
+            w.k-is ∙ members_passed gr _ env _ _ _ _ _ c.loop-s-test.true c.from.ensures (c.member.ensures.is gr env st maps)
             (c.loop-s.invariant.1 gr env st maps) w.if-member.false,
       )
     ]
