@@ -20,7 +20,7 @@ import tempfile
 
 REFERENCE = os.path.join(os.path.dirname(os.path.dirname(os.path.abspath(__file__))), "reference")
 BESIDE = "target/release/beside"
-CLASSES = ["small", "medium", "large", "deep", "readings"]
+CLASSES = ["small", "medium", "large", "deep", "readings", "many-scopes"]
 # The program's path and its environment are fixed, since their length moves the stack and the heap. Without ERMS the C library stores
 # vectors: callgrind takes `rep stosb` for an instruction a byte.
 ENVIRONMENT = {"PATH": os.defpath, "GLIBC_TUNABLES": "glibc.cpu.hwcaps=-ERMS"}

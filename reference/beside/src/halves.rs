@@ -4,8 +4,9 @@ use std::thread;
 
 use crate::asked::Asked;
 
-/// The stack of a Rust thread by default; every call has to pass in it.
-const STACK: usize = 2 << 20;
+/// The stack that the main call is said to fit in (docs/ARCHITECTURE.md, "The stack"), half of a Rust thread's; every call
+/// of both sides has to pass in it.
+const STACK: usize = 1 << 20;
 
 /// All seeds of a run, every other one in each of two threads with a small stack; what each of the two holds at the end.
 pub fn in_two<T: Default + Send>(asked: Asked, each: impl Fn(u64, &mut T) + Sync) -> [T; 2] {

@@ -51,12 +51,13 @@ const GROWING: [Growing; 7] = [
     ),
 ];
 
-const CLASSES: [Kind; 5] = [
+const CLASSES: [Kind; 6] = [
     Kind::Small,
     Kind::Medium,
     Kind::Large,
     Kind::Deep,
     Kind::Readings,
+    Kind::ManyScopes,
 ];
 
 /// How often each forest is sent through each side; the quickest counts.

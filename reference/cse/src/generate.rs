@@ -6,6 +6,7 @@ mod counted;
 mod flat;
 mod limits;
 mod literals;
+mod many_scopes;
 mod marks;
 mod plants;
 mod profile;
@@ -64,10 +65,13 @@ pub enum Kind {
     Savings,
     /// Each rule of request A.4, `no definition written` among them.
     Rules,
+    /// Written trees of up to 256 records, full of scopes: lambdas with next to nothing in them, most of them written anew at
+    /// each use, and thunks that each have a definition.
+    ManyScopes,
 }
 
 impl Kind {
-    pub const ALL: [Kind; 18] = [
+    pub const ALL: [Kind; 19] = [
         Kind::Small,
         Kind::Medium,
         Kind::Large,
@@ -86,6 +90,7 @@ impl Kind {
         Kind::Simple,
         Kind::Savings,
         Kind::Rules,
+        Kind::ManyScopes,
     ];
 
     pub fn name(self) -> &'static str {
@@ -108,6 +113,7 @@ impl Kind {
             Kind::Simple => "simple",
             Kind::Savings => "savings",
             Kind::Rules => "rules",
+            Kind::ManyScopes => "many-scopes",
         }
     }
 
@@ -190,6 +196,7 @@ pub fn accepted(seed: u64, kind: Kind) -> Forest {
         Kind::Flat => flat::forest(&mut rng),
         Kind::Savings => savings::forest(&mut rng),
         Kind::Rules => rules::forest(&mut rng),
+        Kind::ManyScopes => many_scopes::forest(&mut rng),
         Kind::Scopes if rng.chance(40) => limits::nested(&mut rng),
         _ => builder::forest(rng, kind),
     }

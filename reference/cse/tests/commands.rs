@@ -328,7 +328,7 @@ fn wrong_command_lines() {
         ),
         (
             &["generate", "marked", "1"],
-            "rules, and these with marked- before them",
+            "many-scopes, and these with marked- before them",
         ),
         (&["generate", "small", "many"], "COUNT is to be a number"),
         (&["damage"], "damage: wants COUNT"),

@@ -219,7 +219,8 @@ impl Profile {
             | Kind::Symbols
             | Kind::Flat
             | Kind::Savings
-            | Kind::Rules => mixed,
+            | Kind::Rules
+            | Kind::ManyScopes => mixed,
         }
     }
 

@@ -1,6 +1,7 @@
 //! Generated forests are accepted, reach what their kinds aim at, and damaged ones are told apart.
 
 mod forms;
+mod many_scopes;
 mod marks;
 mod rules;
 mod savings;
