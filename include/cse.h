@@ -17,9 +17,9 @@ extern "C" {
  * The three memories must not overlap one another or the numbers; a length of 0 still wants a pointer that is not null
  * and is aligned. Lengths count bytes, bytes and 32-bit words. The pointers to the five numbers are distinct, aligned and
  * not null. The call keeps no pointer.
- * It takes up to 1.6 MB of stack, so 2 MiB are enough. That is measured on the compiled library and not proved
- * (docs/ARCHITECTURE.md, "The stack"). No accepted forest that was tried takes over a millisecond, branches nested as deep
- * as the limits allow among them; that is measured too, and not proved (docs/PERFORMANCE.md, "How time grows"). */
+ * It takes under 1 MiB of stack. That is measured on the compiled library and not proved
+ * (docs/ARCHITECTURE.md, "The stack"). Of the accepted forests that were tried a few take up to 3 ms, the others
+ * under a millisecond; that is measured too, and not proved (docs/PERFORMANCE.md, "How time grows"). */
 void cse_call(
     const uint8_t *forest, size_t forest_length,
     uint8_t *out, size_t out_length,
