@@ -6,7 +6,7 @@ ghost use Rattle.codec.specs.Accepted.{Passes};
 
 use walk::Formed;
 
-// A forest that passes checks 2 to 10, and where its subtrees end.
+// A forest that passes checks 2 to 10 and 16, and where its subtrees end.
 #[derive(Drop)]
 pub struct Accepted<'a> {
     pub formed: Formed<'a>,

@@ -1,6 +1,6 @@
-// Checks 2 to 6 of a forest, and checks 2 to 10 in order, with where each subtree ends. A check gives the place where it
-// fails: a record, or their count, so at most 256.
-// In order: 2; 3; 4; 5; 6; all of them.
+// Checks 2 to 6 and 16 of a forest, and all of its checks in order, with where each subtree ends. A check gives the place
+// where it fails: a record, or their count, so at most 256.
+// In order: 2; 3; 4; 5; 6; 16; all of them.
 #![tactic(auto)]
 
 mod accepted;
@@ -122,6 +122,30 @@ fn check6(forest: &Forest) -> Option<usize>
     if left == 0 { None } else { Some(n) }
 }
 
+// Check 16: one opcode, one shape. As long as none had two, the table has the shape of each opcode that was met; 00 is not
+// tested.
+// Rules out: the earlier of the two records; nothing where the two stand in different trees.
+#[tactic(auto, using(crate::proofs::OneShape::meeting))]
+fn check16(forest: &Forest) -> Option<usize>
+    ensures value { result ≡ model.check16 forest.now }
+    ensures low { IfSome result (λ p. p ≤ 256) }
+{
+    let mut shapes = [None; 256];
+    for i in 0..forest.record_count() {
+        let shape = forest.shape(i);
+        let opcode = forest.opcode(i);
+        match shapes[opcode as usize] {
+            Some(met) => {
+                if opcode != 0 && met != shape {
+                    return Some(i);
+                }
+            }
+            None => shapes[opcode as usize] = Some(shape),
+        }
+    }
+    None
+}
+
 // Checks 2 to 6, in order, of these bytes: the forest, well-formed, or the first check that fails.
 #[tactic(auto, using(crate::proofs::Accepting::answers), unfolding(model::specs::Accept::accept, model::specs::Accept::checks, model::specs::Answer::checked, model::specs::Answer::unless))]
 fn layout(bytes: &[u8]) -> Result<Formed, Refusal>
@@ -136,8 +160,9 @@ fn layout(bytes: &[u8]) -> Result<Formed, Refusal>
     Ok(Formed { laid })
 }
 
-// The first of checks 7 to 10 that fails, of a forest that passes checks 2 to 6: one walk for each, in order.
-// Rules out: 9 where 8 fails in a later record; a place of another check.
+// The first of checks 7, 16 and 8 to 10 that fails, of a forest that passes checks 2 to 6: one walk or search for each, in
+// order.
+// Rules out: 9 where 8 fails in a later record; 16 where 7 fails in a later record; a place of another check.
 #[tactic(auto, using(crate::proofs::Accepting::answers), unfolding(model::specs::Accept::accept, model::specs::Accept::checks, model::specs::Answer::checked, model::specs::Answer::unless))]
 fn fault(forest: &Formed, work: &mut [u32], ends: &mut [u16; 256]) -> Result<(), Refusal>
     requires agree { model.check5 forest.now.laid ≡ None }
@@ -145,6 +170,7 @@ fn fault(forest: &Formed, work: &mut [u32], ends: &mut [u16; 256]) -> Result<(),
     ensures { Answered forest.now.laid work.old work.new ends.old ends.new result }
 {
     Refusal::at(Check::Depth, walk::trees(forest, work, ends, Test::Depth))?;
+    Refusal::at(Check::OneShape, check16(&forest.laid))?;
     Refusal::at(
         Check::Definitions,
         walk::trees(forest, work, ends, Test::Definitions),
@@ -156,9 +182,9 @@ fn fault(forest: &Formed, work: &mut [u32], ends: &mut [u16; 256]) -> Result<(),
     Refusal::at(Check::Uses, walk::trees(forest, work, ends, Test::Uses))
 }
 
-// Checks 7 to 10, in order, of a forest that passes checks 2 to 6. One walk tests all four, and where it finds nothing
-// no other is needed. Where none fails, the entries of all records say where their subtrees end.
-// Rules out: nothing where 10 alone fails; 10 where it fails in a record before one that fails 7.
+// Checks 7, 16 and 8 to 10, in order, of a forest that passes checks 2 to 6. One walk tests all but 16, and where it finds
+// nothing no other is needed. Where none fails, the entries of all records say where their subtrees end.
+// Rules out: nothing where 10 or 16 alone fails; 10 where it fails in a record before one that fails 7.
 #[tactic(auto, using(crate::proofs::Accepting::answers))]
 fn bindings(forest: &Formed, work: &mut [u32], ends: &mut [u16; 256]) -> Result<(), Refusal>
     requires agree { model.check5 forest.now.laid ≡ None }
@@ -167,14 +193,14 @@ fn bindings(forest: &Formed, work: &mut [u32], ends: &mut [u16; 256]) -> Result<
 {
     match walk::trees(forest, work, ends, Test::Any) {
         Some(_) => fault(forest, work, ends),
-        None => Ok(()),
+        None => Refusal::at(Check::OneShape, check16(&forest.laid)),
     }
 }
 
-// Checks 2 to 10 of these bytes, "in that order, each over the whole forest before the next": the forest, which passes
-// them all, or the first that fails with its place. Whatever `ends` held, it says for each record of an accepted forest
-// where its subtree ends; its other entries are 0, and all are after a refusal. After a refusal by 2 to 6 no word has
-// changed; else the words of IDS held the ids in force and may hold anything, and the others are as they were.
+// Checks 2 to 7, 16 and 8 to 10 of these bytes, "in that order, each over the whole forest before the next": the forest,
+// which passes them all, or the first that fails with its place. Whatever `ends` held, it says for each record of an
+// accepted forest where its subtree ends; its other entries are 0, and all are after a refusal. After a refusal by 2 to 6 no
+// word has changed; else the words of IDS held the ids in force and may hold anything, and the others are as they were.
 // Rules out: 9 where 8 fails in a later record; a forest where a definition's value uses it; another forest; an end that
 // a refused forest's walk has noted; an entry past the last record left as it was.
 #[tactic(auto, using(crate::proofs::Accepting::answers))]

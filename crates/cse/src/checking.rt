@@ -1,4 +1,4 @@
-// The check by itself, of any forest: checks 1 to 10, and where each subtree ends.
+// The check by itself, of any forest: checks 1 to 10 and 16, and where each subtree ends.
 // In order: the check; the check as other programs make it.
 ghost use Rattle.std.specs.Prelude.{◌≡◌, length};
 ghost use Rattle.model.specs.Call.{work_after};
@@ -8,7 +8,7 @@ ghost use Rattle.cse.specs.Check.{told_in};
 use crate::{NO_WORDS, clear};
 use refusal::Refusal;
 
-// Whether a forest is accepted, or the first of checks 1 to 10 that fails with its place. Of an accepted forest `ends`
+// Whether a forest is accepted, or the first of checks 1 to 10 and 16 that fails with its place. Of an accepted forest `ends`
 // has for each record the number of the first record after its subtree; its other entries are 0, whatever they held, and
 // all are after a refusal. The words are as after the main call.
 // Rules out: 11 or 13, which are no matter of it; an entry that was there left after 1; work words that keep ids.

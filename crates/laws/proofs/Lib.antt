@@ -34,3 +34,4 @@ pub mod Defining
 pub mod Blocks
 pub mod Building
 pub mod Numbering
+pub mod Opcodes

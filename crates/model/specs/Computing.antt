@@ -12,7 +12,7 @@ use Rattle.model.specs.Shape.{both_ways, one_way, agrees}
 use Rattle.model.specs.Faults.{faults}
 use Rattle.model.specs.Forest.{tree_count, record_count, pairs_at, pairs_of, row_of, rows_at, body_start, rows_in}
 use Rattle.model.specs.Forest.{trees_of}
-use Rattle.model.specs.Forest.{check2, bad_pairs, check3, check4, check5, unclosed, check6, check7}
+use Rattle.model.specs.Forest.{check2, bad_pairs, check3, check4, check5, unclosed, check6, check7, other_shape, check16}
 use Rattle.model.specs.Binding.{kind, id_of, opt_of, args_of, arg_ids, inside, after, check8, check9, check10}
 use Rattle.model.specs.Accept.{checks, accept}
 use Rattle.model.specs.Unfold.{meaning, bind_from, unfold_kind, unfold_item, unfolded, unfold_at}
@@ -39,6 +39,7 @@ use Rattle.model.specs.Text.{text}
 use Rattle.model.specs.Lister.{digits, numeral, hex_digit, hex_byte, tag_of, opcode_shown, yes_no, line, lines_from}
 use Rattle.model.specs.Lister.{symbol_lines, signed, saving_line, saving_lines, rule_text, rule_line, rule_lines, refusal}
 use Rattle.model.specs.Lister.{lines_of, lister}
+use Rattle.model.specs.ArchiveLister.{mixed_opcode, mixed_line, archive_lister}
 use Rattle.model.specs.Sheet.{named, shape_names, class_names, opcode_names, hex_bytes, id_texts, args_text}
 use Rattle.model.specs.Sheet.{id_text, mark_text, const_text, own_text, literal_text, place_text, opcode_text, record_line}
 use Rattle.model.specs.Sheet.{tree_lines, forest_lines, sheet_of, sheet}
@@ -58,7 +59,7 @@ bytes_and-trees = tt
 unfoldable pub acceptance : Unit {0}
 unfolding a_byte a_id a_type a_opt ◌then◌ times a_counted whole bits shapes fits shape_of both_ways one_way agrees tree_count
     record_count pairs_at pairs_of row_of rows_at body_start rows_in trees_of check2 bad_pairs check3 check4 check5 unclosed
-    check6 check7 faults kind id_of opt_of args_of arg_ids inside after check8 check9 check10
+    check6 check7 other_shape check16 faults kind id_of opt_of args_of arg_ids inside after check8 check9 check10
     checks accept
 acceptance = tt
 
@@ -95,7 +96,8 @@ ruling = tt
 
 unfoldable pub listing : Unit {0}
 unfolding text digits numeral hex_digit hex_byte tag_of opcode_shown yes_no line lines_from symbol_lines signed saving_line
-    saving_lines rule_text rule_line rule_lines refusal lines_of lister saving_bytes ruling
+    saving_lines rule_text rule_line rule_lines refusal lines_of lister mixed_opcode mixed_line archive_lister
+    saving_bytes ruling
 listing = tt
 
 unfoldable pub showing : Unit {0}

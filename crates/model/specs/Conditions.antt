@@ -2,8 +2,9 @@
 -- conditions are said each for itself: none speaks of another number or of the order in which the call tests them, but
 -- that 11 and 12 "come as interning meets them". They are said by something else than the functions that test them, as
 -- far as that is to be had. So what demand 3 says of a number is a fact:
--- - 1 to 3 and 5 to 10: the check is right. The conditions are the paper's sentences on bytes, on pairs (OpcodeRules), on
---   child counts (6), on ancestors (7), on where a definition stands (8) and on ids in force (9 and 10; Nesting).
+-- - 1 to 3, 5 to 10 and 16: the check is right. The conditions are the paper's sentences on bytes, on pairs (OpcodeRules), on
+--   child counts (6), on ancestors (7), on where a definition stands (8), on ids in force (9 and 10; Nesting) and on two
+--   records by number (16).
 -- - 4: the check reads literals rightly. What a shape has can only be the table itself: it stands a second time in
 --   ShapeRules, as the paper lists it, with literals put together of parts.
 -- - 11 and 12: the limits, 2,048 and 512, and where they are passed. What is a reading, and when a symbol is made, only
@@ -19,7 +20,7 @@ use Rattle.model.specs.Tree.{size, depth}
 use Rattle.model.specs.Forest.{tree_count, record_count, pairs_of, rows_in, trees_of}
 use Rattle.model.specs.Intern.{State}
 use Rattle.model.specs.Call.{Call, tree_of, bytes_of}
-use Rattle.model.specs.Places.{First, children}
+use Rattle.model.specs.Places.{First, record_at, children}
 use Rattle.model.specs.ShapeRules.{ShapeOffends}
 use Rattle.model.specs.OpcodeRules.{OpcodeOffends}
 use Rattle.model.specs.Nesting.{Deeper, OutOfPlace, Rebinds, Unbound}
@@ -76,6 +77,19 @@ TreesOffend forest p =
     ((p < record_count forest) × First (Closed forest) p) ⊎
     ((p ≡ record_count forest) × ((q : ℕ) → q ≤ record_count forest → Closed forest q → ⊥))
 
+-- ---- 16: two records of one opcode
+
+-- record q has the opcode of record p, and another shape
+abbrev pub ShapesDiffer : List ℕ → ℕ → ℕ → Type 0
+ShapesDiffer forest q p =
+    ((record_at forest q).rec.opcode ≡ (record_at forest p).rec.opcode) ×
+    ((record_at forest q).rec.shape ≢ (record_at forest p).rec.shape)
+
+-- "whose opcode, other than 00, had another shape earlier"
+abbrev pub HadOtherShape : List ℕ → ℕ → Type 0
+HadOtherShape forest p =
+    (p < record_count forest) × ((record_at forest p).rec.opcode ≢ 0) × ((q : ℕ) × (q < p) × ShapesDiffer forest q p)
+
 -- ---- 13: the tree that is made of the symbols
 
 -- "a written tree over 256 records, over 65,535 bytes or longer than the output"
@@ -99,6 +113,8 @@ pub data Applies (c : Call) : ℕ → ℕ → Type 0 where
   at_6 : (p : ℕ) → TreesOffend c.forest p → Applies c 6 p
   -- "deeper than 64 (a root has depth 1)"
   at_7 : (p : ℕ) → First (Deeper (trees_of c.forest) 64) p → Applies c 7 p
+  -- "the first record whose opcode, other than 00, had another shape earlier"
+  at_16 : (p : ℕ) → First (HadOtherShape c.forest) p → Applies c 16 p
   -- "a definition out of place"
   at_8 : (p : ℕ) → First (OutOfPlace (trees_of c.forest)) p → Applies c 8 p
   -- "an id bound while in force or twice in one lambda"
@@ -116,9 +132,10 @@ pub data Applies (c : Call) : ℕ → ℕ → Type 0 where
 
 -- ---- the order of the checks
 
--- "A forest is accepted when none of 2 to 10 applies": their checks, "each over the whole forest before the next"
+-- "Accepted now means none of 2 to 10, nor 16": their checks, "each over the whole forest before the next", 16 "after 7 and
+-- before 8"
 abbrev pub acceptance : List ℕ
-acceptance = 2 ∷ 3 ∷ 4 ∷ 5 ∷ 6 ∷ 7 ∷ 8 ∷ 9 ∷ 10 ∷ []
+acceptance = 2 ∷ 3 ∷ 4 ∷ 5 ∷ 6 ∷ 7 ∷ 16 ∷ 8 ∷ 9 ∷ 10 ∷ []
 
 -- all of them, in the order in which the call makes them
 abbrev pub order : List ℕ

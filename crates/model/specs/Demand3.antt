@@ -1,5 +1,6 @@
 -- Demand 3: "the main call gives 0 exactly when none of its refusals applies, and then the written tree is the one
--- document 01 defines, its unfolding equals that of the forest's root, and, as input, it meets none of refusals 2 to 10".
+-- document 01 defines, its unfolding equals that of the forest's root, and, as input, it meets none of refusals 2 to 10", nor
+-- 16 (request A.9).
 -- Conditions says what each refusal is. `theory` proves `Demand3` of every call, and the main call's contract has it.
 -- In order: uses of an id; what is written; the statement.
 -- Assumes nothing.
@@ -43,7 +44,7 @@ pub record Writes (c : Call) (out : List ℕ) (ns : Numbers) (out' : List ℕ) :
     readings = interned.1.readings;
   }
   pub fits_in : length (bytes_of interned) ≤ c.room
-  -- "as input, it meets none of refusals 2 to 10"
+  -- "as input, it meets none of refusals 2 to 10", nor 16
   pub accepted : Accepted (bytes_of interned)
   -- read, the bytes are a forest of one tree, the one that document 01 defines
   pub reads_back : trees_of (bytes_of interned) ≡ cons (tree_of interned) nil

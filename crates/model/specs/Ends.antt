@@ -30,7 +30,7 @@ entries_of a = ends_of a ++ replicate (256 - length (ends_of a)) 0
 abbrev pub entries : List ℕ → List ℕ
 entries forest = entries_of (accept forest)
 
--- ---- the check as a call: it refuses with 1 to 10
+-- ---- the check as a call: it refuses with 1 to 10 and 16
 
 -- of a forest, with so many work words
 unfoldable pub checking : ℕ → List ℕ → Answer Trees

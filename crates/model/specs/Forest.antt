@@ -1,13 +1,13 @@
--- From bytes to trees, and checks 2 to 7: each gives the place where it fails, or none.
+-- From bytes to trees, and checks 2 to 7 and 16: each gives the place where it fails, or none.
 -- A check is said of any bytes; what it says counts only where the checks before it found nothing.
 -- Assumes nothing.
 use Rattle.std.specs.Prelude.{ℕ, zero, suc, ◌+◌, ◌*◌, Bool, true, false, not, ◌&&◌, ◌||◌, List, [], ◌∷◌, map, eqb, leb, ltb, length, get_or, drop, take, Option, None, Some}
 use Rattle.model.specs.Lists.{first}
 use Rattle.model.specs.Bytes.{u16}
 use Rattle.model.specs.Answer.{at0}
-use Rattle.model.specs.Tree.{rec, Row, Tree, Trees, grow}
+use Rattle.model.specs.Tree.{Rec, rec, Row, Tree, Trees, grow}
 use Rattle.model.specs.Faults.{Check, faults, faults_in}
-use Rattle.model.specs.Shape.{Pairs, fits, agrees}
+use Rattle.model.specs.Shape.{Pairs, shape_of, fits, agrees}
 
 -- ---- reading
 
@@ -115,3 +115,19 @@ deeps = faults_in depth_check
 
 unfoldable pub check7 : List ℕ → Option ℕ
 check7 bs = first (deeps (trees_of bs) 1)
+
+-- ---- 16: an opcode, other than 00, that had another shape earlier
+
+-- the opcodes of records, with their shapes
+abbrev pub opcode_shapes : List Row → Pairs
+opcode_shapes rs = map (λ r. (r.rec.opcode, r.rec.shape)) rs
+
+-- the first of these records with the opcode of r, other than 00, has another shape than r
+unfoldable pub other_shape : List Row → Rec → Bool
+other_shape rs r =
+    not (eqb r.opcode 0) &&
+    elim (shape_of (opcode_shapes rs) r.opcode) [ None ↦ false | Some s ↦ not (eqb s r.shape) ]
+
+-- over the whole forest, environment trees included
+unfoldable pub check16 : List ℕ → Option ℕ
+check16 bs = first (map (λ r. other_shape (rows_in bs) r.rec) (rows_in bs))

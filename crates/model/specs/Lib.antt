@@ -32,6 +32,7 @@ pub mod Labels
 pub mod Rules
 pub mod Text
 pub mod Lister
+pub mod ArchiveLister
 pub mod TemplateLine
 pub mod Sheet
 pub mod Computing
@@ -42,3 +43,4 @@ pub mod FailingExamples
 pub mod EndsExamples
 pub mod SavingsExamples
 pub mod RulesExamples
+pub mod OneShapeExamples

@@ -135,7 +135,7 @@ unfoldable mutual
 unfoldable pub forest_lines : Trees → List ℕ
 forest_lines ts = trees_lines 0 1 ts
 
--- the lines of a forest's records, or, where a check from 2 to 10 refuses it, the one line of that refusal
+-- the lines of a forest's records, or, where a check from 2 to 10, or 16, refuses it, the one line of that refusal
 unfoldable pub sheet_of : Answer Trees → List ℕ
 sheet_of (refused n p) = refusal n p
 sheet_of (good ts) = forest_lines ts

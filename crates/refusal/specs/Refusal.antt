@@ -2,10 +2,10 @@
 use Rattle.std.specs.Prelude.{ℕ, Option, Some, None}
 use Rattle.std.specs.Prelude.{Result, Ok, Err}
 use Rattle.refusal.specs.declared.Check.{Check}
-use Rattle.refusal.specs.declared.Check.TheVariants.{Words, Header, Directory, Shapes, Opcodes, Closing, Depth, Definitions, Bindings, Uses, Readings, Symbols, Room, Nesting}
+use Rattle.refusal.specs.declared.Check.TheVariants.{Words, Header, Directory, Shapes, Opcodes, Closing, Depth, OneShape, Definitions, Bindings, Uses, Readings, Symbols, Room, Nesting}
 use Rattle.refusal.specs.declared.Refusal.{Refusal}
 
--- the number that document 01 gives a check
+-- the number that the papers give a check
 abbrev pub number_of : Check → ℕ
 number_of Words = 1
 number_of Header = 2
@@ -14,6 +14,7 @@ number_of Shapes = 4
 number_of Opcodes = 5
 number_of Closing = 6
 number_of Depth = 7
+number_of OneShape = 16
 number_of Definitions = 8
 number_of Bindings = 9
 number_of Uses = 10

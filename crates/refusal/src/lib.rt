@@ -5,42 +5,44 @@
 ghost use Rattle.std.specs.Prelude.{◌≡◌, ◌<◌, ◌^◌, IfSome};
 ghost use Rattle.refusal.specs.Refusal.{number_of, refused_at};
 
-// The checks of a call, in their order. Counted from 1 on, they are the numbers that a refusal is told by.
+// The checks of a call, in their order, with the numbers that a refusal is told by.
 #[derive(Clone, Copy, Debug, PartialEq, Eq)]
 pub enum Check {
     // the work words suffice
-    Words,
+    Words = 1,
     // the forest's length and the header's counts
-    Header,
-    Directory,
-    Shapes,
-    Opcodes,
+    Header = 2,
+    Directory = 3,
+    Shapes = 4,
+    Opcodes = 5,
     // the trees close
-    Closing,
-    Depth,
+    Closing = 6,
+    Depth = 7,
+    // an opcode has one shape
+    OneShape = 16,
     // definitions stand in blocks, before the result
-    Definitions,
+    Definitions = 8,
     // an id is bound once
-    Bindings,
+    Bindings = 9,
     // an id that is used is bound
-    Uses,
+    Uses = 10,
     // readings of records suffice
-    Readings,
+    Readings = 11,
     // symbols suffice
-    Symbols,
+    Symbols = 12,
     // the written tree fits the output and the format
-    Room,
+    Room = 13,
     // the written tree's depth
-    Nesting,
+    Nesting = 14,
 }
 
 impl Check {
     // Its number outside: a method, and no `From`, so that a reader sees at the edge which number is meant. Rules out:
-    // numbers from 0 on; one number for two checks.
+    // 8 for the check after 7; one number for two checks.
     pub fn number(self) -> u32
         ensures { result ≡ number_of self }
     {
-        self as u32 + 1
+        self as u32
     }
 }
 

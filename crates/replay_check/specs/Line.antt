@@ -1,5 +1,5 @@
--- What the program prints. In order: a forest's line, which is what checks 2 to 10 say of it and where its subtrees end; a
--- row of the list; the lines of its rows.
+-- What the program prints. In order: a forest's line, which is what checks 2 to 10 and 16 say of it and where its subtrees
+-- end; a row of the list; the lines of its rows.
 -- Assumes nothing.
 use Rattle.std.specs.Prelude.{◌≡◌, ℕ, zero, suc, ◌+◌, Bool, true, false, ◌&&◌, List, [], ◌∷◌, ◌++◌, leb, length, take, drop, Option, None, Some}
 use Rattle.std.specs.Io.KnownBytes.{Appends}

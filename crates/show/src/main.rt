@@ -1,5 +1,5 @@
 // Shows the forest on standard input as a sheet, a line a record (model's `Sheet` says what it is), or, where a check
-// from 2 to 10 refuses it, as the one line `refused N at P`. At most 65,536 bytes are read: one more than a forest may
+// from 2 to 10, or 16, refuses it, as the one line `refused N at P`. At most 65,536 bytes are read: one more than a forest may
 // have. A read or a write that fails ends the program with its error.
 #![tactic(auto)]
 

@@ -3,4 +3,5 @@ pub mod Checked
 pub mod Records
 pub mod Each
 pub mod Accept
+pub mod OneShape
 pub mod Bytes

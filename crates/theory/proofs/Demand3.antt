@@ -1,8 +1,8 @@
 -- Demand 3 holds of every call, over the definitions: `demand_3`. What it says stands in model, specs/Demand3 and
 -- Conditions: read them first. The rest of the crate proves it: the files below, that each check fails exactly where its
--- condition holds (Places for 2 to 6, with ShapeRules and OpcodeRules; Depths for 7, Placed for 8, Ids for 9 and 10;
--- Counted for 11 and 12), and so that the call's number is that of the first refusal that applies (Order, Exactly); the
--- folders, that the written tree keeps the meaning and is accepted.
+-- condition holds (Places for 2 to 6, with ShapeRules and OpcodeRules; Depths for 7, OneShape for 16, Placed for 8, Ids
+-- for 9 and 10; Counted for 11 and 12), and so that the call's number is that of the first refusal that applies (Order,
+-- Exactly); the folders, that the written tree keeps the meaning and is accepted.
 -- Assumes nothing.
 pub mod Literals
 pub mod ShapeRules
@@ -11,6 +11,7 @@ pub mod Nesting
 pub mod Faulty
 pub mod Places
 pub mod Depths
+pub mod OneShape
 pub mod Placed
 pub mod Extents
 pub mod Arguments

@@ -1,5 +1,5 @@
--- Interning keeps the meaning: the root's symbol stands for the root. Reread is for code: what opens no scope gives the
--- same when it is read again. Assumes nothing.
+-- Interning keeps the meaning: the root's symbol stands for the root. Records is of symbols' records alone: what each of them
+-- has. Reread is for code: what opens no scope gives the same when it is read again. Assumes nothing.
 pub mod Good
 pub mod Inv
 pub mod Push
@@ -13,4 +13,5 @@ pub mod Body
 pub mod Operands
 pub mod Walk
 pub mod Interned
+pub mod Records
 pub mod Reread

@@ -83,7 +83,7 @@ module _ (bs : List ℕ) (pass : Passes (checks bs)) where
   pub checked-trees : CheckedIn (trees_of bs) false []
   unfolding checks check8 check9 check10
   checked-trees =
-      let bound = pass.1.1.1.1.1.1 in
+      let bound = pass.1.1.1.1.1.1.1 in
       record {
         fine = fine_trees;
         placed = first_clear (misplaced_in (trees_of bs) false) bound.0;

@@ -1,5 +1,5 @@
--- A written tree's bytes read back as the tree: none of 2 to 10 applies to the bytes of a checked tree that is not too
--- large.
+-- A written tree's bytes read back as the tree: none of 2 to 10, nor 16, applies to the bytes of a checked tree that is not
+-- too large and has no opcode, other than 00, with two shapes.
 -- In order: one record's bytes; the directory and the records, read; where parts of the bytes lie; checks 2 and 3 of any
 -- rows; each check of a tree; the theorem `accept_serialised`, which the promise uses. A filled forest's bytes use the
 -- parts on rows.
@@ -21,7 +21,7 @@ use Rattle.model.specs.Tree.{row_bytes, row_len, directory, bodies, forest_of, s
 use Rattle.model.specs.Shape.{Pairs}
 use Rattle.model.specs.Faults.{faults}
 use Rattle.model.specs.Forest.{tree_count, record_count, pairs_at, pairs_of, row_of, rows_at, body_start, rows_in, trees_of}
-use Rattle.model.specs.Forest.{check2, bad_pairs, check3, check4, check5, unclosed, check6, deep, deeps, check7}
+use Rattle.model.specs.Forest.{check2, bad_pairs, check3, check4, check5, unclosed, check6, deep, deeps, check7, check16}
 use Rattle.model.specs.Binding.{check8, check9, check10}
 use Rattle.model.specs.Accept.{checks, accept}
 use Rattle.laws.specs.Clear.{Clear}
@@ -35,6 +35,7 @@ use Rattle.laws.proofs.Lengths.{row_length, directory-length, forest_length}
 use Rattle.theory.specs.Checked.{Checked, CheckedIn}
 use Rattle.theory.proofs.Acceptance.Checked.{checked_join, nil-checked}
 use Rattle.theory.proofs.Acceptance.Accept.{AllFine, fines_rows}
+use Rattle.theory.proofs.Acceptance.OneShape.{OneShape}
 
 -- ---- records
 
@@ -183,7 +184,7 @@ module _ (k : ℕ) (rs : List Row) (trees : (1 ≤ k) × (k ≤ 16)) (records : 
 -- ---- one checked tree
 
 module _ (t : Tree) (c : Checked t false []) (few : size t ≤ 256) (short : length (serialise (cons t nil)) ≤ 65535)
-    (flat : depth t ≤ 64) where
+    (flat : depth t ≤ 64) (one_shape : OneShape (rows_of (cons t nil))) where
   abbrev rs : List Row
   rs = rows_of (cons t nil)
 
@@ -234,12 +235,12 @@ module _ (t : Tree) (c : Checked t false []) (few : size t ≤ 256) (short : len
   passes_7 = rw trees_are (clear_first _ (trees_shallow (cons t nil) 1 (omega arith)))
 
   passes : Passes (checks bs)
-  unfolding checks check4 check5 check8 check9 check10
+  unfolding checks check4 check5 check16 check8 check9 check10
   passes =
       rw (trees_are, rows_are)
       (passes_2 also passes_3 also clear_first _ all_fine.0 also clear_first _ all_fine.1
       also
-      passes_6 also passes_7 also
+      passes_6 also passes_7 also one_shape also
       clear_first _ one-checked.placed also clear_first _ one-checked.fresh also clear_first _
       one-checked.known also tt)
 

@@ -1,8 +1,9 @@
--- What holds of each record of a forest holds of each record of its trees: `forest_each`. Assumes nothing.
-use mathlib.Core.List.{List, [], ◌∷◌}
+-- What holds of each record of a forest holds of each record of its trees: `forest_each`. What holds of each record of trees
+-- holds of each of their rows: `trees_rows`. Assumes nothing.
+use mathlib.Core.List.{List, [], ◌∷◌, ◌++◌}
 use Prim.Native.Nat.{ℕ, zero, suc}
 use lib.ListN.{get_or}
-use Rattle.model.specs.Tree.{Rec, Row, Tree, Trees, node, nil, cons, take_t, drop_t, grow}
+use Rattle.model.specs.Tree.{Rec, Row, Tree, Trees, node, nil, cons, take_t, drop_t, grow, rows, rows_of}
 use Rattle.model.specs.Forest.{rows_in, trees_of}
 use Rattle.model.specs.Places.{no_record, record_at}
 
@@ -38,3 +39,22 @@ module _ (P : Rec → Type 0) where
   pub forest_each : (forest : List ℕ) → ((p : ℕ) → P (record_at forest p).rec) → EachIn (trees_of forest)
   unfolding trees_of
   forest_each forest h = grow-each (rows_in forest) h
+
+  -- P holds of the record of each row
+  abbrev pub EachRow : List Row → Type 0
+  EachRow [] = Unit {0}
+  EachRow (r ∷ rs) = P r.rec × EachRow rs
+
+  join-each : (rs qs : List Row) → EachRow rs → EachRow qs → EachRow (rs ++ qs)
+  join-each [] qs h k = k
+  join-each (r ∷ rs) qs h k = (h.0, join-each rs qs h.1 k)
+
+  mutual
+    unfolding rows
+
+    tree-rows : (t : Tree) → Each t → EachRow (rows t)
+    tree-rows (node r ts) h = (h.0, trees_rows ts h.1)
+
+    pub trees_rows : (ts : Trees) → EachIn ts → EachRow (rows_of ts)
+    trees_rows nil h = tt
+    trees_rows (cons t ts) h = join-each (rows t) (rows_of ts) (tree-rows t h.0) (trees_rows ts h.1)

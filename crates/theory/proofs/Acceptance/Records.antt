@@ -132,23 +132,33 @@ shape_opcode (p ∷ ps) o s e = go (eqb p.0 o) refl (eqb p.1 s) refl (shape_opco
 abbrev bound : ℕ → Bool
 bound s = is_in s (map (λ p. p.1) both_ways)
 
-bound_opcode : (r : Rec) (s : ℕ) → r.shape ≡ s → bound s ≡ true → agrees r ≡ true →
-    In r.opcode (opcodes_of both_ways s)
-unfolding agrees
-bound_opcode r s e i h = go found refl (and_both first (middle found) (and_both (first && middle found) _ h).0).1
-  where
-    found : Option ℕ
-    found = shape_of both_ways r.opcode
+module _ (r : Rec) where
+  -- what the table gives the record's opcode, and the part of check 5 that looks at it
+  found : Option ℕ
+  found = shape_of both_ways r.opcode
 
-    first : Bool
-    first = beq (eqb r.opcode 0) (leb r.shape 1)
+  middle : Option ℕ → Bool
+  middle o = elim o [ None ↦ not (bound r.shape) | Some s ↦ eqb s r.shape ]
 
-    middle : Option ℕ → Bool
-    middle o = elim o [ None ↦ not (bound r.shape) | Some s ↦ eqb s r.shape ]
+  agreed : agrees r ≡ true → middle found ≡ true
+  unfolding agrees found middle
+  agreed h = (and_both first (middle found) (and_both (first && middle found) _ h).0).1
+    where
+      first : Bool
+      first = beq (eqb r.opcode 0) (leb r.shape 1)
 
-    go : (o : Option ℕ) → found ≡ o → middle o ≡ true → In r.opcode (opcodes_of both_ways s)
-    go None f g = false_true (sym (ap (λ (z : ℕ). not (bound z)) e ∙ ap not i) ∙ g)
-    go (Some t) f g = shape_opcode both_ways r.opcode s (f ∙ ap (λ (z : ℕ). Some z) (eqb-true t r.shape g ∙ e))
+  bound_opcode : (s : ℕ) → r.shape ≡ s → bound s ≡ true → agrees r ≡ true → In r.opcode (opcodes_of both_ways s)
+  unfolding found middle
+  bound_opcode s e i h = go found refl (agreed h)
+    where
+      go : (o : Option ℕ) → found ≡ o → middle o ≡ true → In r.opcode (opcodes_of both_ways s)
+      go None f g = false_true (sym (ap (λ (z : ℕ). not (bound z)) e ∙ ap not i) ∙ g)
+      go (Some t) f g = shape_opcode both_ways r.opcode s (f ∙ ap (λ (z : ℕ). Some z) (eqb-true t r.shape g ∙ e))
+
+  -- a shape that the table gives the opcode is the record's
+  pub shape_bound : (s : ℕ) → agrees r ≡ true → shape_of both_ways r.opcode ≡ Some s → s ≡ r.shape
+  unfolding found middle
+  shape_bound s h e = eqb-true s r.shape (rw e at (agreed h))
 
 pub op_field : (r : Rec) → r.shape ≡ 17 → agrees r ≡ true → r.opcode ≡ 0x8C
 unfolding both_ways is_in opcodes_of

@@ -1,8 +1,9 @@
 -- What a check finds that has a test for each record: the first faulty place; what the walk of checks 7 to 10 says.
--- In order: the first faulty place; no place found; what the walk says of each record.
+-- In order: the first faulty place; two conditions with one first place; no place found; what the walk says of each
+-- record.
 -- Assumes nothing.
 use mathlib.Core.Path.{◌≡◌, refl, ap, sym, ◌∙◌, subst}
-use mathlib.Core.Logic.{◌↔◌}
+use mathlib.Core.Logic.{◌⊎◌, inl, inr, ◌↔◌}
 use mathlib.Core.Bool.{Bool, true, false}
 use Rattle.std.specs.Prelude.{Option, None, Some}
 use Rattle.std.proofs.lemmas.Option.{same_Some}
@@ -63,6 +64,24 @@ first_of P bs same p = (
   λ e. let h = first_some bs p e in ((same p).0 h.0, λ q l m. h.1 q l ((same q).1 m)),
   λ h. some_first bs p ((same p).1 h.0, λ q l m. h.1 q l ((same q).0 m)),
 )
+
+-- ---- two conditions with one first place
+
+-- where P holds, Q does; where Q holds, P does there or before
+pub first_same : (P Q : ℕ → Type 0) → ((p : ℕ) → P p → Q p) →
+    ((p : ℕ) → Q p → P p ⊎ ((q : ℕ) × (q < p) × P q)) → (p : ℕ) → First P p ↔ First Q p
+first_same P Q to back p = (
+  λ h. (to p h.0, λ q l m. lower h q l (back q m)),
+  λ h. (here h (back p h.0), λ q l d. h.1 q l (to q d)),
+)
+  where
+    lower : First P p → (q : ℕ) → q < p → P q ⊎ ((i : ℕ) × (i < q) × P i) → ⊥
+    lower h q l (inl d) = h.1 q l d
+    lower h q l (inr (i, k, d)) = h.1 i (omega arith) d
+
+    here : First Q p → P p ⊎ ((q : ℕ) × (q < p) × P q) → P p
+    here h (inl d) = d
+    here h (inr (q, l, d)) = absurd (h.1 q l (to q d))
 
 -- ---- no place found
 

@@ -26,9 +26,9 @@ use Rattle.model.specs.ShapeRules.{ShapeOffends}
 use Rattle.model.specs.OpcodeRules.{OpcodeOffends}
 use Rattle.model.specs.Trace.{TooManyReadings, TooManySymbols, Interned}
 use Rattle.model.specs.Nesting.{Deeper, OutOfPlace, Rebinds, Unbound}
-use Rattle.model.specs.Conditions.{HeaderOffends, DirectoryOffends}
+use Rattle.model.specs.Conditions.{HeaderOffends, DirectoryOffends, HadOtherShape}
 use Rattle.model.specs.Conditions.{TreesOffend, TooLarge, Applies, at_1, at_2, at_3, at_4, at_5}
-use Rattle.model.specs.Conditions.{at_6, at_7, at_8, at_9, at_10, at_11, at_12, at_13, at_14, acceptance, order}
+use Rattle.model.specs.Conditions.{at_6, at_7, at_16, at_8, at_9, at_10, at_11, at_12, at_13, at_14, acceptance, order}
 use Rattle.model.specs.Conditions.{Accepted}
 use Rattle.laws.proofs.Apart.{none_some, refused_good, good_inj, refused_parts}
 use Rattle.laws.specs.Members.{In}
@@ -42,6 +42,7 @@ use Rattle.theory.proofs.Demand3.Counted.{reading_exactly, symbol_exactly, inter
 use Rattle.theory.proofs.Demand3.Places.{or-true, less, at_0, check_2, check_3, check_4, check_5}
 use Rattle.theory.proofs.Demand3.Places.{check_6}
 use Rattle.theory.proofs.Demand3.Depths.{check_7}
+use Rattle.theory.proofs.Demand3.OneShape.{check_16}
 use Rattle.theory.proofs.Demand3.Placed.{check_8}
 use Rattle.theory.proofs.Demand3.Ids.{check_9, check_10}
 
@@ -155,6 +156,9 @@ module _ (c : Call) where
   only_7 : (p : ℕ) → Applies c 7 p → First (Deeper (trees_of forest) 64) p
   only_7 p (at_7 q h) = h
 
+  only_16 : (p : ℕ) → Applies c 16 p → First (HadOtherShape forest) p
+  only_16 p (at_16 q h) = h
+
   only_8 : (p : ℕ) → Applies c 8 p → First (OutOfPlace (trees_of forest)) p
   only_8 p (at_8 q h) = h
 
@@ -186,6 +190,7 @@ module _ (c : Call) where
   listed n p (at_5 q h) = refl
   listed n p (at_6 q h) = refl
   listed n p (at_7 q h) = refl
+  listed n p (at_16 q h) = refl
   listed n p (at_8 q h) = refl
   listed n p (at_9 q h) = refl
   listed n p (at_10 q h) = refl
@@ -227,7 +232,8 @@ module _ (c : Call) where
             (λ p. case 5 p (check_5 forest p) (at_5 p) (only_5 p)) next (
               λ p. case 6 p (check_6 forest p) (at_6 p) (only_6 p),
               λ six.
-                  (λ p. case 7 p (check_7 forest p) (at_7 p) (only_7 p)) next (
+                  (λ p. case 7 p (check_7 forest p) (at_7 p) (only_7 p)) next
+                  (λ p. case 16 p (check_16 forest p) (at_16 p) (only_16 p)) next (
                     λ p. case 8 p (check_8 ts p) (at_8 p) (only_8 p),
                     λ eight.
                         (λ p. case 9 p (check_9 forest four six eight p) (at_9 p) (only_9 p)) next

@@ -31,6 +31,7 @@ use Rattle.theory.proofs.Building.Given.{Built, none_given}
 use Rattle.theory.proofs.Building.Built.{root_built}
 use Rattle.model.specs.Demand3.{NoUse}
 use Rattle.theory.proofs.Promise.Uses.{use_absent}
+use Rattle.theory.proofs.Promise.OneShape.{written_one_shape}
 
 -- ---- the tree of an interned forest
 
@@ -90,6 +91,7 @@ module _ (forest : List ℕ) (pass : Passes (checks forest)) (o : ℕ × State)
   unfolding bytes_of
   bytes_accepted few short flat =
       accept_serialised (tree_of o) (tree_checked o (root (trees_of forest)) root_ready few) few short flat
+      (written_one_shape forest pass o is)
 
   pub argument_never_met : size (tree_of o) ≤ 256 → NoUse 0 (tree_of o)
   argument_never_met = no_zero_use o (root (trees_of forest)) root_ready

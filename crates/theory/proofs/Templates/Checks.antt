@@ -1,6 +1,6 @@
 -- A filled forest is accepted where the forest is, if it is not too long: `filled_accepted`. No check looks at the literal
 -- of a constant, but that 4 asks for one byte.
--- In order: rows and trees, filled; 2 and 3; 4 and 5; 6; 7 to 10, which are one walk; all of them.
+-- In order: rows and trees, filled; 2 and 3; 4 and 5; 6; 16; 7 to 10, which are one walk; all of them.
 -- Assumes nothing.
 use mathlib.Core.Path.{◌≡◌, refl, ap, ap₂, sym, ◌∙◌, subst}
 use mathlib.Core.Bool.{Bool, true, false, not, ◌&&◌, ◌||◌}
@@ -18,7 +18,7 @@ use Rattle.model.specs.Opcodes.{ValUse, ValDef}
 use Rattle.model.specs.Shape.{shapes, fits, agrees}
 use Rattle.model.specs.Faults.{Check, faults, faults_in}
 use Rattle.model.specs.Forest.{tree_count, record_count, rows_in, trees_of, check4, check5, unclosed, check6}
-use Rattle.model.specs.Forest.{depth_check, check7}
+use Rattle.model.specs.Forest.{depth_check, check7, opcode_shapes, other_shape, check16}
 use Rattle.model.specs.Binding.{kind, inside, defined, after}
 use Rattle.model.specs.Binding.{place_check, ids_check, rebound_at, unbound_at, check8, check9, check10}
 use Rattle.model.specs.Accept.{checks, accept}
@@ -147,6 +147,18 @@ module _ (f : Filling) where
   closes_kept zero at (r ∷ rs) = refl
   closes_kept (suc n) at (r ∷ rs) = closes_kept (n + r.kids) (suc at) rs
 
+  -- ---- 16
+
+  shapes_kept : (rs : List Row) → opcode_shapes (map (fill_row f) rs) ≡ opcode_shapes rs
+  shapes_kept [] = refl
+  shapes_kept (r ∷ rs) = ap (◌∷◌ (r.rec.opcode, r.rec.shape)) (shapes_kept rs)
+
+  others_kept : (qs rs : List Row) →
+      map (λ r. other_shape (map (fill_row f) qs) r.rec) (map (fill_row f) rs) ≡ map (λ r. other_shape qs r.rec) rs
+  unfolding other_shape
+  others_kept qs [] = refl
+  others_kept qs (r ∷ rs) = rw (shapes_kept qs) (ap (◌∷◌ (other_shape qs r.rec)) (others_kept qs rs))
+
   -- ---- 7 to 10
 
   -- a check that does not tell a record or a tree from a filled one
@@ -243,7 +255,7 @@ module _ (f : Filling) where
     rs = rows_in bs
 
     passes_filled : Passes (checks (fill_forest f bs))
-    unfolding checks check4 check5 check6 check7 check8 check9 check10
+    unfolding checks check4 check5 check6 check7 check16 check8 check9 check10
     passes_filled =
         let h = header_of bs pass.0 in
         let count : length (map (fill_row f) rs) ≡ record_count bs = length-map rs (fill_row f) ∙ row_count bs in
@@ -256,11 +268,12 @@ module _ (f : Filling) where
         also pass.1.1.1.0
         also pass.1.1.1.1.0
         also ap first (faults_in_kept depth_check depth_blind (trees_of bs) 1) ∙ pass.1.1.1.1.1.0
-        also ap first (faults_in_kept place_check place_blind (trees_of bs) false) ∙ pass.1.1.1.1.1.1.0
+        also ap first (others_kept rs rs) ∙ pass.1.1.1.1.1.1.0
+        also ap first (faults_in_kept place_check place_blind (trees_of bs) false) ∙ pass.1.1.1.1.1.1.1.0
         also ap first (faults_in_kept (ids_check rebound_at) (ids_blind rebound_at rebound_kept) (trees_of bs) [])
-        ∙ pass.1.1.1.1.1.1.1.0
-        also ap first (faults_in_kept (ids_check unbound_at) (ids_blind unbound_at unbound_kept) (trees_of bs) [])
         ∙ pass.1.1.1.1.1.1.1.1.0
+        also ap first (faults_in_kept (ids_check unbound_at) (ids_blind unbound_at unbound_kept) (trees_of bs) [])
+        ∙ pass.1.1.1.1.1.1.1.1.1.0
         also tt)
 
     pub filled_accepted : accept (fill_forest f bs) ≡ good (fill_trees f (trees_of bs))

@@ -8,9 +8,8 @@ use Rattle.std.specs.Prelude.{Option, None, Some}
 use mathlib.Core.List.{List, map}
 use Prim.Native.Nat.{ℕ, ◌<◌, ◌≤◌}
 use native.Mathlib.Omega.{arith}
-use lib.Dec.{eqb}
 use lib.ListN.{length, get_or, get_or-map}
-use borrow.Author.Tests.{eqb-true, eqb-false, eq-eqb, not-true}
+use borrow.Author.Tests.{eq-eqb, not-true}
 use Rattle.model.specs.Lists.{same}
 use Rattle.model.specs.Tree.{Rec, Row, root, rows}
 use Rattle.model.specs.Forest.{rows_in, trees_of}
@@ -23,7 +22,7 @@ use Rattle.model.specs.Template.{is_parameter, StandsFor, Filling, fill_forest, 
 use Rattle.model.specs.TemplateLine.{is_of, value_of, HadAnother, has_another, two_values, LineSays}
 use Rattle.laws.proofs.Apart.{good_inj}
 use Rattle.laws.proofs.Members.{clash, and_both, both_and, same_refl, same_true}
-use Rattle.theory.proofs.Demand3.Faulty.{Faulty, first_of, none_faulty}
+use Rattle.theory.proofs.Demand3.Faulty.{Faulty, first_of, first_same, none_faulty}
 use Rattle.theory.proofs.Demand3.Order.{call_passes, passes_accepted}
 use Rattle.theory.proofs.Demand3.Exactly.{zero_passes}
 use Rattle.theory.proofs.Promise.Main.{meaning_kept}
@@ -80,15 +79,8 @@ module _ (forest : List ℕ) where
       let other : (record_at forest f.at).rec.lit ≢ r.lit =
       λ e. clash (same r.lit (value_of r.aux rs))
       (ap (same r.lit) (f.value ∙ e) ∙ same_refl r.lit) (not-true _ w.1) in
-      let before : f.at < p = earlier f.at f.early other in
-      (r.aux, f.at, before, is_stands forest f.at r.aux f.is, is_stands forest p r.aux mine, other)
-    where
-      earlier : (q : ℕ) → q ≤ p → (record_at forest q).rec.lit ≢ (record_at forest p).rec.lit → q < p
-      earlier q l n = go (eqb q p) refl
-        where
-          go : (b : Bool) → eqb q p ≡ b → q < p
-          go true e = absurd (n (ap (λ (i : ℕ). (record_at forest i).rec.lit) (eqb-true q p e)))
-          go false e = omega (arith, l, eqb-false q p e)
+      let apart : f.at ≢ p = λ z. other (ap (λ (i : ℕ). (record_at forest i).rec.lit) z) in
+      (r.aux, f.at, omega (arith, f.early, apart), is_stands forest f.at r.aux f.is, is_stands forest p r.aux mine, other)
 
   -- and what had another earlier differs, or that earlier one does
   had_differs : (p : ℕ) → HadAnother forest p → Differs p ⊎ ((q : ℕ) × (q < p) × Differs q)
@@ -100,28 +92,13 @@ module _ (forest : List ℕ) where
       go (inr e) (inl d) = inr (q, l, d)
       go (inr e) (inr d) = absurd (n (d ∙ sym e))
 
-  first-same : (p : ℕ) → First Differs p ↔ First (HadAnother forest) p
-  first-same p = (λ h. (differs_had p h.0, λ q l m. lower q l (had_differs q m) h.1), back)
-    where
-      lower : (q : ℕ) → q < p → Differs q ⊎ ((i : ℕ) × (i < q) × Differs i) →
-          ((i : ℕ) → i < p → Differs i → ⊥) → ⊥
-      lower q l (inl d) h = h q l d
-      lower q l (inr (i, k, d)) h = h i (omega arith) d
-
-      back : First (HadAnother forest) p → First Differs p
-      back h = (go (had_differs p h.0), λ q l d. h.1 q l (differs_had q d))
-        where
-          go : Differs p ⊎ ((q : ℕ) × (q < p) × Differs q) → Differs p
-          go (inl d) = d
-          go (inr (q, l, d)) = absurd (h.1 q l (differs_had q d))
-
   -- ---- a template
 
   two_exactly : (p : ℕ) → (two_values forest ≡ Some p) ↔ First (HadAnother forest) p
   unfolding two_values
   two_exactly p =
       let w = first_of Differs tests faulty_differs p in
-      let v = first-same p in
+      let v = first_same Differs (HadAnother forest) differs_had had_differs p in
       (λ e. v.0 (w.0 e), λ h. w.1 (v.1 h))
 
   none_template : Accepted forest → two_values forest ≡ None → Template forest
