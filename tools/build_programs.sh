@@ -22,7 +22,7 @@ build() {
   fi
 }
 
-[ $# -gt 0 ] || set -- cse tree lister show template replay replay_check
+[ $# -gt 0 ] || set -- cse tree lister archive_lister show template replay replay_check
 status=0
 for name in "$@"; do
   if [ "$name" = cse ]; then

@@ -4,12 +4,13 @@
 Usage: check_definitions.py ROWS.tsv [--least N] [--jobs N] [--batch N]
 
 A row is tab separated: forest, output length, work words, number, place, written length, symbols, readings, tree; or, for the
-lister, forest and text; or, for the sheet, the word `sheet`, forest and text; or, for the line of a template, the word `template`, forest and
-line; or, for a filling, the word `fill`, forest, values and filled forest, the values as aux=literal,aux=literal; or, for values, the
-word `value`, forest, a meaning's number, the root's value and the written tree's, '-' for none; or, for where subtrees end, the word
-`ends`, forest and the ends of its records with commas, '-' for none. Byte strings are in hex, '-' for none.
-`cse-reference rows`, `list-rows`, `template-rows`, `value-rows` and `ends-rows` write rows of all kinds but the sheet's; those of
-tests/definitions are written by hand.
+lister, forest and text; or, for the sheet, the word `sheet`, forest and text; or, for the archive lister, the word `archive`, forest
+and text; or, for the line of a template, the word `template`, forest and line; or, for a filling, the word `fill`, forest, values and
+filled forest, the values as aux=literal,aux=literal; or, for values, the word `value`, forest, a meaning's number, the root's value
+and the written tree's, '-' for none; or, for where subtrees end, the word `ends`, forest and the ends of its records with commas, '-'
+for none. Byte strings are in hex, '-' for none.
+`cse-reference rows`, `list-rows`, `archive-rows`, `template-rows`, `value-rows` and `ends-rows` write rows of all kinds but the
+sheet's; those of tests/definitions are written by hand.
 
 Each row becomes one declaration, proved by `refl`, in a module beside a copy of the definitions, and one that is wrong follows them, which
 the checker must refuse. A row that it refuses is printed with its line number; a row over the checker's step limit says nothing either way and
@@ -37,6 +38,7 @@ use {SPECS}.Tree.{{Rec, root}}
 use {SPECS}.Forest.{{trees_of}}
 use {SPECS}.Call.{{Written, Numbers, ample, run, numbers_of}}
 use {SPECS}.Lister.{{lister}}
+use {SPECS}.ArchiveLister.{{archive_lister}}
 use {SPECS}.Sheet.{{sheet}}
 use {SPECS}.Template.{{Filling, fill_forest}}
 use {SPECS}.TemplateLine.{{template_line}}
@@ -133,7 +135,7 @@ unfolding padded bytes computing ending
 r{i} = refl
 """
 # the definition that makes a row's text, by the row's first word
-TEXTS = {"sheet": "sheet", "template": "template_line"}
+TEXTS = {"sheet": "sheet", "archive": "archive_lister", "template": "template_line"}
 WRONG = """
 wrong : eqb 0 1 ≡ true
 wrong = refl
@@ -197,7 +199,7 @@ def declaration(i, line, fields):
     if len(fields) != 9:
         bad(
             line,
-            f"{len(fields)} fields, not 9, 2, 3 with the first `sheet`, `template` or `ends`, 4 with the first `fill`, or 5 with the first `value`",
+            f"{len(fields)} fields, not 9, 2, 3 with the first `sheet`, `archive`, `template` or `ends`, 4 with the first `fill`, or 5 with the first `value`",
         )
     names = ("room", "words", "number", "place", "len", "symbols", "readings")
     for name, value in zip(names, fields[1:8]):

@@ -13,9 +13,9 @@ that differ, but at a fact that no longer holds. For each edit, in a temporary c
   is false there, however it were proved. (The same forests, under the definitions as they are, are written, accepted and unfold
   equally, or get the number that they should: the first thing that is checked.)
 - crate theory is refused. The first refused declaration is printed, with the beginning of what the checker says; it has to be
-  the one below. (Folder Bounds, the laws of building that only code cites, and what is said of labels, whose definitions repeat
-  the edited words, are passed over: no theorem needs them; so are the folders of the two theorems that have one of their own,
-  Templates and Failing, unless the edit is for that theorem.)
+  the one below. (Folder Bounds, the laws of building that only code cites, and most of what is said of labels are passed over: no
+  theorem needs them; so are the folders of the two theorems that have one of their own, Templates and Failing, unless the edit is
+  for that theorem.)
 
 edit       the fact that fails, and why it is the theorem's: the written tree
 hoist      member_is: a definition's symbol is of the scope that is written. Only then are the arguments that it depends on in
@@ -27,6 +27,8 @@ marks      same_rec_true: records that are the same are equal, marks and all. El
 children   is_key_true: a symbol found by its key has the children that were sought. Else other children are written for it.
 next-id    ids_def: each id given is in force after its definition. Else a use is written of an id that nothing binds.
 placement  climb_stays: a symbol stays inside each lambda on whose arguments it depends. Else it is written outside of it.
+use-shape  written_shaped: a use, a definition, a block and a lambda have opcodes that check 5 binds to their shapes. Else one stands in
+           the written tree beside a record of the forest that has its opcode with another shape, and check 16 refuses the tree.
 
 edit       the fact that fails: a number is given exactly where its condition holds
 readings   cut_read, of the log of an interning without limits: the reading that interning refuses is the 2,049th.
@@ -78,7 +80,7 @@ import tempfile
 from concurrent.futures import ThreadPoolExecutor
 
 TOP = os.path.dirname(os.path.dirname(os.path.abspath(__file__)))
-CRATES = ("model", "laws", "theory")
+CRATES = ("model", "laws", "labels", "theory")
 
 COUNTER = """-- What becomes of a small forest: is the written tree accepted, and does it unfold to what the root unfolds to?
 use Rattle.std.specs.Prelude.{ℕ, zero, suc, ◌+◌, ◌*◌, ◌≡◌, refl, Bool, true, false, ◌&&◌, List, [], ◌∷◌, ◌++◌, eqb, Option, None, Some}
@@ -214,6 +216,10 @@ p a b = node (rec 4 0x9A 0 []) (cons a (cons b nil))
 e : Tree → Tree → Tree
 e a b = node (rec 4 0xED 0 []) (cons a (cons b nil))
 
+-- a Two under the opcode of a use
+q : Tree → Tree → Tree
+q a b = node (rec 4 0x72 0 []) (cons a (cons b nil))
+
 -- a use
 u : ℕ → Tree
 u i = node (rec 7 0x72 0 (put32 i)) nil
@@ -242,12 +248,12 @@ deep (suc d) = n (deep d)
 """
 FATE = """
 {name} : fate ({tree}) ≡ {fate}
-unfolding fate called after_call read_back equal equal_recs equal_opts z h k m n p u L L2 i deep computing
+unfolding fate called after_call read_back equal equal_recs equal_opts z h k m n p q u L L2 i deep computing
 {name} = refl
 """
 WRITTEN = """
 {name}_tree : is (called ({tree})) ({written}) ≡ true
-unfolding is called z h k m n p e u L L2 B i deep computing
+unfolding is called z h k m n p q e u L L2 B i deep computing
 {name}_tree = refl
 """
 FILLED = """
@@ -270,6 +276,8 @@ DEFINING = "laws/proofs/Defining"
 INTERN = "model/specs/Intern"
 SCOPES = "theory/proofs/Building/Scopes"
 GIVEN = "theory/proofs/Building/Given"
+LABELS = "model/specs/Labels"
+ERASED, LABELLED = "labels/proofs/Erased", "labels/proofs/Records"
 NUMBERED = "theory/proofs/Building/Numbered"
 FINISH = "theory/proofs/Interning/Finish"
 INV = "theory/proofs/Interning/Inv"
@@ -315,7 +323,8 @@ EDITS = [
          "numbered_once", "L2 7 8 (p (u 7) (u 8))", "not_accepted 9 0", "L2 1 1 (p (u 1) (u 1))"),
     Edit("body-from", "a lambda's body is numbered from before its arguments",
          [(MEMBER, "(suc (last + length xs))", "last")],
-         [(GIVEN, "last_in last xs = suc (last + length xs)", "last_in last xs = last")],
+         [(GIVEN, "last_in last xs = suc (last + length xs)", "last_in last xs = last")]
+         + [(f, "(suc (last + length xs))", "last") for f in (LABELS, ERASED, LABELLED)],
          "env_args", "L 7 (p (n (u 7)) (n (u 7)))", "not_accepted 9 2", "L 1 (B 1 (n (u 1)) (p (u 1) (u 1)))"),
     Edit("literals", "keys are equal without their literals",
          [(INTERN, "same_rec (sym_at ss i).rec r &&", "same_rec " + SAME_REC.format("(sym_at ss i).rec") + " &&")],
@@ -334,7 +343,7 @@ EDITS = [
          "is_key_true", "p (n z) (n h)", "unfolds false", "B 1 (n z) (p (u 1) (u 1))"),
     Edit("next-id", "a definition's use is written with the next number",
          [(MEMBER, "((s, suc last) ∷ env)", f"((s, {NEXT}) ∷ env)")],
-         [(f, "(s, suc last) ∷ env", f"(s, {NEXT}) ∷ env") for f in (DEFINING, SCOPES, GIVEN)] +
+         [(f, "(s, suc last) ∷ env", f"(s, {NEXT}) ∷ env") for f in (DEFINING, SCOPES, GIVEN, LABELS, ERASED, LABELLED)] +
          [(GIVEN, "given_cases s (suc last)", f"given_cases s ({NEXT})"),
           (GIVEN, "has_more s (suc last)", f"has_more s ({NEXT})"),
           (GIVEN, "(s ≡ t) × (suc last ≡ i)", f"(s ≡ t) × ({NEXT} ≡ i)"),
@@ -345,16 +354,23 @@ EDITS = [
          [(INTERN, "elim (any_in xs deps)", "elim (any_in xs [])")],
          [(INV, "elim (any_in xs deps)", "elim (any_in xs [])"), (INV, "any_in xs deps ≡ t", "any_in xs [] ≡ t")],
          "climb_stays", "L 7 (p (n (u 7)) (n (u 7)))", "not_accepted 10 3", "B 1 (n (u 0)) (L 2 (p (u 1) (u 1)))"),
+    Edit("use-shape", "72 is not bound to ValUse, so a record of another shape may have it",
+         [("model/specs/Shape", "(ValUseOp, ValUse) ∷ ", ""), (RULES, "  pub val_use : (o ≡ 0x72) ↔ (s ≡ 7)\n", "")],
+         [(TOGETHER, "  val_use = (x.0, y.0);\n", ""), (TOGETHER, "t.val_use.0 also ", ""), (TOGETHER, "t.val_use.1 also ", "")]
+         + [(TOGETHER, f"{name} = (x.1{rest}.0, y.1{rest}.0)", f"{name} = (x{rest}.0, y{rest}.0)") for name, rest in
+            (("val_def", ""), ("block_value", ".1"), ("func_value", ".1.1"), ("select_field", ".1.1.1"), ("tuple", ".1.1.1.1"))],
+         "written_shaped", "q z z", "not_accepted 16 4", "B 1 z (q (u 1) (u 1))", "call_refuses 5 0"),
     Edit("readings", "interning refuses over 1,000 readings",
          [(INTERN, "ltb st.readings 2048", "ltb st.readings 1000")],
          [(f"theory/proofs/{f}", "2048", "1000") for f in
-          ("Promise/Refusals", "Interning/Walk", "Interning/Reread", "Interning/Reread/Walk", "Interning/Reread/Later", "Failing/Walk")]
+          ("Promise/Refusals", "Interning/Walk", "Interning/Records", "Interning/Reread", "Interning/Reread/Walk", "Interning/Reread/Later",
+           "Failing/Walk")]
          + [(TRACE, "2048", "1000"), (COUNTED, "lt-ltb r 2048", "lt-ltb r 1000"), (COUNTED, "le-ltb r 2048", "le-ltb r 1000")],
          "cut_read"),
     Edit("symbols", "interning refuses over 100 symbols",
          [(INTERN, "ltb (length st.syms) 512", "ltb (length st.syms) 100")],
          [(f"theory/proofs/{f}", "512", "100") for f in
-          ("Promise/Refusals", "Interning/Fresh", "Interning/Finish")]
+          ("Promise/Refusals", "Interning/Fresh", "Interning/Finish", "Interning/Records")]
          + [(TRACE, "512", "100"), (COUNTED, "lt-ltb s 512", "lt-ltb s 100"), (COUNTED, "le-ltb s 512", "le-ltb s 100")],
          "cut_read"),
     Edit("inputs", "A4 is not in the table of opcodes",
@@ -469,13 +485,14 @@ def checked(edit, fates, crates):
         for name in CRATES:
             shutil.copytree(os.path.join(TOP, "crates", name), os.path.join(room, "crates", name), ignore=shutil.ignore_patterns("out", "must-fail"))
         with open(os.path.join(room, "crates.txt"), "w") as f:
-            f.write("model:\nlaws: model\ntheory: model laws\n")
+            f.write("model:\nlaws: model\nlabels: model laws\ntheory: model laws labels\n")
         model = os.path.join(room, "crates", "model")
         # the tables of examples, and laws that code cites and the theorem does not, would be refused before anything else
         specs = os.path.join(model, "specs")
         leave_out(specs, [name.removesuffix(".antt") for name in os.listdir(specs) if name.endswith("Examples.antt")])
         leave_out(os.path.join(room, "crates", "laws", "proofs"), ["Blocks", "Building", "Numbering"])
-        # and what is said of labels, whose definitions repeat those that are edited
+        # and what is said of labels, but that the labelled tree is the written one, and what each of its records has
+        leave_out(os.path.join(room, "crates", "labels", "proofs"), ["Blocks", "Counted", "Rules", "Steps"])
         leave_out(os.path.join(room, "crates", "theory", "proofs", "Promise"), ["Definitions"], "../Promise.antt")
         os.mkdir(os.path.join(model, "proofs"))
         with open(os.path.join(model, "proofs", "Lib.antt"), "w") as f:

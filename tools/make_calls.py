@@ -7,7 +7,7 @@ Writes crates/replay/stdin and stdout. A row is eight 32-bit little-endian numbe
 five numbers of the answer; then the forest, then the written tree. The forests:
   - of each kind listed below, some that `cse-reference generate` makes, with the longest output and 16,384 work words; of those that are written, some
     once more with an output exactly as long as the tree, a byte shorter, and none, and with 16,390 words;
-  - damaged in a known way, some for each of refusals 2 to 10;
+  - damaged in a known way, some for each of refusals 2 to 10 and 16;
   - the trees that document 01 lists for comparison, in its notation, and a few with marks;
   - each of the first with 16,383 words.
 Numbers, places and trees are those of `cse-reference answer`: the unchanged original with the limits and refusals of document 01 around it.
@@ -22,7 +22,7 @@ LONGEST, WORDS, MOST = 65535, 16384, 65536
 # kind, how many, of at most so many bytes: large forests would make the list long
 KINDS = [("small", 200, 400), ("medium", 150, 1200), ("large", 40, 3000), ("deep", 60, 2500), ("wide", 60, 2500), ("thunks", 120, 1500),
          ("lambdas", 120, 1500), ("projections", 120, 1500), ("blocks", 120, 1500), ("near-limit", 50, 6000), ("readings", 60, 4000),
-         ("symbols", 50, 6000), ("marked-small", 100, 400), ("marked-medium", 80, 1200)]
+         ("symbols", 50, 6000), ("marked-small", 100, 400), ("marked-medium", 80, 1200), ("one-shape", 60, 1500)]
 TREES = """h
 p(h,h)
 p(k,k)
@@ -59,7 +59,7 @@ def forests():
     for kind, wanted, longest in KINDS:
         made = reference("generate", kind, str(4 * wanted), "--seed", "1")
         drawn += [line for line in made if len(line) <= 2 * longest][:wanted]
-    # `damage` draws a number from 2 to 10 for each seed
+    # `damage` draws one of these numbers for each seed
     damaged = [line.split("\t")[0] for line in reference("damage", "420", "--seed", "1")]
     long = [line for line in damaged if len(line) > 6000]
     damaged = [line for line in damaged if len(line) <= 6000] + long[:6]

@@ -1,7 +1,7 @@
 #!/usr/bin/env bash
 # Runs the built programs on further inputs: target/bin/PROGRAM on each tests/PROGRAM/NAME.in. Standard output must be
 # NAME.out and standard error NAME.err, byte for byte; where there is no NAME.err, nothing may stand on standard error.
-# Usage: run_programs.sh [PROGRAM..], tree, lister, show and template if none is named, once tools/build_programs.sh has built them.
+# Usage: run_programs.sh [PROGRAM..], tree, lister, archive_lister, show and template if none is named, once tools/build_programs.sh has built them.
 # A program without inputs fails.
 # Closes with one line 'N passed, M failed'. Exit status 0 only if something passed and nothing failed.
 set -u
@@ -20,7 +20,7 @@ agrees() {
   if [ -e "$expected.err" ]; then cmp "$wrote/err" "$expected.err"; else cmp "$wrote/err" /dev/null; fi
 }
 
-[ $# -gt 0 ] || set -- tree lister show template
+[ $# -gt 0 ] || set -- tree lister archive_lister show template
 for program in "$@"; do
   inputs=("tests/$program"/*.in)
   if [ ${#inputs[@]} -eq 0 ]; then

@@ -42,6 +42,12 @@ static const uint8_t bound_twice[] = {
     1, 0, 3, 0, 16, 0, 10, 0, 26, 0, 10, 0, 36, 0, 9, 0,
     12, 0xD9, 1, 0, 1, 1, 0, 0, 0, 0, 12, 0xD9, 1, 0, 1, 1, 0, 0, 0, 0, 7, 0x72, 0, 0, 0, 1, 0, 0, 0};
 
+/* tuple(a(z,z), b(z,z)), a being Two under 9A and b ByIndex under 9A: b is record 4. */
+static const uint8_t two_shapes[] = {
+    1, 0, 7, 0, 32, 0, 5, 0, 37, 0, 5, 0, 42, 0, 5, 0, 47, 0, 5, 0, 52, 0, 5, 0, 57, 0, 5, 0, 62, 0, 5, 0,
+    16, 0x86, 2, 0, 0, 4, 0x9A, 2, 0, 0, 2, 0xFE, 0, 0, 0, 2, 0xFE, 0, 0, 0,
+    24, 0x9A, 2, 0, 0, 2, 0xFE, 0, 0, 0, 2, 0xFE, 0, 0, 0};
+
 /* A tuple of 255 z: as many records as there may be. Its written tree, {1=z; tuple(1,1..)}, has more. */
 static uint8_t widest[4 + 9 * ENTRIES];
 static uint16_t widest_ends[ENTRIES];
@@ -84,6 +90,7 @@ static const struct expected calls[] = {
     {"p(z,z), a word too few", sum, sizeof sum, MOST, USED - 1, 1, 0, NULL, 0, 0, 0},
     {"no bytes", sum, 0, MOST, USED, 2, 0, NULL, 0, 0, 0},
     {"L1.L1.1", bound_twice, sizeof bound_twice, MOST, USED, 9, 1, NULL, 0, 0, 0},
+    {"one opcode in two shapes", two_shapes, sizeof two_shapes, MOST, USED, 16, 4, NULL, 0, 0, 0},
     {"a tuple of 255 z", widest, sizeof widest, MOST, USED, 13, 0, NULL, 0, 0, 0},
 };
 
@@ -152,6 +159,7 @@ static const struct checked checks[] = {
     {"no bytes", sum, 0, USED, 2, 0, 0, NULL},
     {"L1.L1.1", bound_twice, sizeof bound_twice, USED, 9, 1, 0, NULL},
     {"p(z,1)", unbound, sizeof unbound, USED, 10, 2, 0, NULL},
+    {"one opcode in two shapes", two_shapes, sizeof two_shapes, USED, 16, 4, 0, NULL},
 };
 
 /* The entries of a check, and others on both sides. */

@@ -5,9 +5,9 @@ use std::time::{Duration, Instant};
 
 use cse_library::{call, Numbers, MAX_WRITTEN, WORK_WORDS};
 use cse_reference::forest::Forest;
-use cse_reference::generate::{Family, Kind};
+use cse_reference::generate::{near_misses, Family, Kind};
+use cse_reference::hex;
 use cse_reference::oracle::{answer_deep, entries, tells_marks, Answer, NoAnswer, Skipped, Work};
-use cse_reference::{damage, hex};
 
 use crate::asked::Asked;
 use crate::halves::in_two;
@@ -29,7 +29,9 @@ pub struct Tally {
     /// The most scopes inside one another in these.
     nesting: usize,
     /// Those of them that tell what they have to.
-    telling: u64,
+    pub telling: u64,
+    /// Compared forests where an opcode has two shapes, by how it came to them.
+    pub ways: BTreeMap<&'static str, u64>,
     /// The longest of the main calls, by the quickest of three, and its seed.
     pub slowest: (Duration, u64),
     /// Calls by number and who made the tree.
@@ -46,6 +48,9 @@ impl Tally {
         }
         self.nesting = self.nesting.max(other.nesting);
         self.telling += other.telling;
+        for (way, count) in other.ways {
+            *self.ways.entry(way).or_default() += count;
+        }
         self.slowest = self.slowest.max(other.slowest);
         for (key, count) in other.calls {
             *self.calls.entry(key).or_default() += count;
@@ -58,17 +63,20 @@ impl Tally {
 
     /// Prints it all; whether nothing differed, no call took too long, at least so many forests were compared and, if it
     /// is asked, so many tell what they have to.
-    fn print(&self, name: &str, least: u64, telling: Option<(Told, u64)>) -> bool {
+    pub fn print(&self, name: &str, least: u64, telling: Option<(&str, u64)>) -> bool {
         for ((number, maker), count) in &self.calls {
             println!("{name}: {count} calls with answer {number} ({maker})");
+        }
+        for (way, count) in &self.ways {
+            println!("{name}: {count} forests with two shapes of an opcode: {way}");
         }
         for (reason, count) in &self.skipped {
             println!("{name}: {count} forests passed over: {reason}");
         }
         print_differences(name, &self.differences);
         let compared: u64 = self.compared.values().sum();
-        let told = telling.map_or(String::new(), |(told, telling)| {
-            let (count, words) = (self.telling, told.words());
+        let told = telling.map_or(String::new(), |(words, telling)| {
+            let count = self.telling;
             format!(" {count} that {words}, at least {telling} asked for;")
         });
         let (time, slowest) = self.slowest;
@@ -109,6 +117,8 @@ pub enum Told {
     Marks,
     /// The main call can't store all of its free lists.
     Entries,
+    /// It has what would be refused if 00 had one shape, or child counts were part of shapes.
+    NearMisses,
 }
 
 impl Told {
@@ -117,6 +127,7 @@ impl Told {
         match family.kind {
             _ if family.marked => Some(Told::Marks),
             Kind::Flat => Some(Told::Entries),
+            Kind::OneShape => Some(Told::NearMisses),
             _ => None,
         }
     }
@@ -125,6 +136,7 @@ impl Told {
         match self {
             Told::Marks => "tell marks apart",
             Told::Entries => "have over 4,096 entries of free lists",
+            Told::NearMisses => "have what comes near 16",
         }
     }
 
@@ -133,6 +145,7 @@ impl Told {
         match self {
             Told::Marks => tells_marks(bytes, given),
             Told::Entries => entries(forest) > STORED,
+            Told::NearMisses => near_misses(forest),
         }
     }
 }
@@ -167,20 +180,12 @@ pub fn accepted(family: Family, asked: Asked) -> bool {
     .print(
         &family.name(),
         asked.least,
-        told.map(|told| (told, asked.telling)),
+        told.map(|told| (told.words(), asked.telling)),
     )
 }
 
-pub fn damaged(asked: Asked) -> bool {
-    tallied(asked, |seed, lent, tally| {
-        let damaged = damage::damaged(seed);
-        compare(&damaged.bytes, seed, lent, tally);
-    })
-    .print("damaged", asked.least, None)
-}
-
 /// What came of all seeds.
-fn tallied(asked: Asked, each: impl Fn(u64, &mut Lent, &mut Tally) + Sync) -> Tally {
+pub fn tallied(asked: Asked, each: impl Fn(u64, &mut Lent, &mut Tally) + Sync) -> Tally {
     let [(_, mut tally), (_, other)] = in_two(asked, |seed, (lent, tally)| each(seed, lent, tally));
     tally.join(other);
     tally
@@ -188,7 +193,7 @@ fn tallied(asked: Asked, each: impl Fn(u64, &mut Lent, &mut Tally) + Sync) -> Ta
 
 /// One forest: lent plenty, then an output exactly long enough and one a byte shorter, and at times too few words. The
 /// answer that it has to give where plenty is lent, or none if it was not compared.
-fn compare(forest: &[u8], seed: u64, lent: &mut Lent, tally: &mut Tally) -> Option<Answer> {
+pub fn compare(forest: &[u8], seed: u64, lent: &mut Lent, tally: &mut Tally) -> Option<Answer> {
     let first = compare_call(forest, MAX_WRITTEN, WORK_WORDS, seed, lent, tally)?;
     *tally.compared.entry(first.number).or_default() += 1;
     let mut one = |out_length: usize, words: usize| {
@@ -271,7 +276,6 @@ fn reason(skipped: &Skipped) -> &'static str {
     match skipped {
         Skipped::Nesting(_) => "nested too deep",
         Skipped::TooLarge => "a written tree over 20,000 records",
-        Skipped::TwoShapes { .. } => "one opcode in two shapes",
     }
 }
 
@@ -335,7 +339,7 @@ fn difference(
     }
     let again = call(&expected.tree, &mut out[..], &mut work[..]).number;
     match again {
-        2..=10 => Err(format!("the written tree is refused with {again}")),
+        2..=10 | 16 => Err(format!("the written tree is refused with {again}")),
         _ => Ok(time),
     }
 }
@@ -353,8 +357,8 @@ mod tests {
         };
         assert!(tally.print("forests", 5, None));
         assert!(!tally.print("forests", 6, None));
-        assert!(tally.print("forests", 5, Some((Told::Marks, 3))));
-        assert!(!tally.print("forests", 5, Some((Told::Marks, 4))));
+        assert!(tally.print("forests", 5, Some((Told::Marks.words(), 3))));
+        assert!(!tally.print("forests", 5, Some((Told::Marks.words(), 4))));
     }
 
     #[test]

@@ -5,14 +5,13 @@ use std::collections::BTreeMap;
 
 use cse_library::{check, Checked, ENTRIES, WORK_WORDS};
 use cse_reference::check::accept;
-use cse_reference::damage::damaged;
 use cse_reference::ends::{entries, telling};
-use cse_reference::generate::Family;
 use cse_reference::hex;
 
 use crate::asked::Asked;
 use crate::compare::{by_answer, print_differences};
 use crate::halves::in_two;
+use crate::source::Source;
 
 /// Words past those that the check uses.
 const SPARE: usize = 16;
@@ -56,19 +55,13 @@ impl Tally {
     }
 }
 
-/// Forests of a family, or damaged ones where there is none. Whether nothing differed, and as many as is asked for were
-/// compared and tell ends from shorter rules.
-pub fn compared(family: Option<Family>, asked: Asked) -> bool {
-    let bytes = move |seed| match family {
-        Some(family) => family.forest(seed).to_bytes(),
-        None => damaged(seed).bytes,
-    };
+/// Forests of a source. Whether nothing differed, and as many as is asked for were compared and tell ends from shorter rules.
+pub fn compared(source: Source, asked: Asked) -> bool {
     let [mut tally, other] = in_two(asked, |seed, tally: &mut Tally| {
-        compare(&bytes(seed), seed, tally);
+        compare(&source.forest(seed), seed, tally);
     });
     tally.join(other);
-    let name = family.map_or("damaged".to_string(), Family::name);
-    tally.print(&name, asked)
+    tally.print(&source.name(), asked)
 }
 
 /// One forest: lent plenty, at times more, and at times a word too few.
@@ -132,7 +125,7 @@ fn hold(
 #[cfg(test)]
 mod tests {
     use super::*;
-    use cse_reference::generate::Kind;
+    use cse_reference::generate::{Family, Kind};
 
     /// What is asked for, of a run with four accepted forests and one refused.
     fn prints(least: u64, telling: u64, differences: &[&str]) -> bool {
@@ -188,8 +181,11 @@ mod tests {
             least: 32,
             telling,
         };
-        assert!(compared(Some(Family::from(Kind::Medium)), asked(16)));
-        assert!(compared(None, asked(0)));
-        assert!(!compared(None, asked(1)));
+        let medium = Source::Family(Family::from(Kind::Medium));
+        assert!(compared(medium, asked(16)));
+        for refused in [Source::Damaged, Source::TwoShapes] {
+            assert!(compared(refused, asked(0)));
+            assert!(!compared(refused, asked(1)));
+        }
     }
 }

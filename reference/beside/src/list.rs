@@ -2,7 +2,6 @@
 
 use std::cmp::Ordering::{self, Equal, Greater, Less};
 
-use cse_reference::damage::damaged;
 use cse_reference::generate::{Family, Kind};
 use cse_reference::hex;
 use cse_reference::lister::{listing, tells_marks, Listing};
@@ -13,6 +12,7 @@ use crate::asked::Asked;
 use crate::compare::print_differences;
 use crate::halves::in_two;
 use crate::program::difference;
+use crate::source::Source;
 
 /// What came of a run, in forests.
 #[derive(Default)]
@@ -109,9 +109,9 @@ enum Told {
 }
 
 impl Told {
-    /// What the forests of a family are asked for, and that in words.
-    fn of(family: Option<Family>) -> (Told, &'static str) {
-        match family {
+    /// What the forests of a source are asked for, and that in words.
+    fn of(source: Source) -> (Told, &'static str) {
+        match source.family() {
             Some(Family { marked: true, .. }) => (Told::Marks, "tell marks apart"),
             Some(Family {
                 kind: Kind::Savings,
@@ -135,23 +135,19 @@ impl Told {
     }
 }
 
-/// Forests of a family, or damaged ones where there is none. Whether no text differed, and as many as is asked for were
+/// Forests of a source. Whether no text differed, and as many as is asked for were
 /// compared and tell what is counted or, with marks, tell these apart; of savings what is saved; of rules each rule.
-pub fn listed(family: Option<Family>, asked: Asked) -> bool {
+pub fn listed(source: Source, asked: Asked) -> bool {
     let Asked { least, telling, .. } = asked;
-    let bytes = move |seed| match family {
-        Some(family) => family.forest(seed).to_bytes(),
-        None => damaged(seed).bytes,
-    };
-    let (told, words) = Told::of(family);
+    let (told, words) = Told::of(source);
     let [mut tally, other] = in_two(asked, |seed, tally: &mut Tally| {
-        compare(&bytes(seed), told, tally);
+        compare(&source.forest(seed), told, tally);
     });
     tally.join(other);
     if let Told::Rules = told {
         tally.telling = tally.rarest();
     }
-    let name = family.map_or("damaged".to_string(), Family::name);
+    let name = source.name();
     print_differences(&name, &tally.differences);
     let [below, zero, above] = tally.saving;
     println!(

@@ -1,7 +1,6 @@
 //! Forests through the program template, its line beside that of the reading.
 
-use cse_reference::damage::damaged;
-use cse_reference::generate::{accepted, Family};
+use cse_reference::generate::accepted;
 use cse_reference::hex;
 use cse_reference::oracle::NoAnswer;
 use cse_reference::template::line;
@@ -10,6 +9,7 @@ use crate::asked::Asked;
 use crate::compare::print_differences;
 use crate::halves::in_two;
 use crate::program::difference;
+use crate::source::Source;
 
 /// What came of a run, in forests.
 #[derive(Default)]
@@ -53,21 +53,19 @@ impl Tally {
     }
 }
 
-/// Forests of a family, or damaged ones where there is none. Whether no line differed, and as many as is asked for were
-/// compared and of either line.
-pub fn compared(family: Option<Family>, asked: Asked) -> bool {
+/// Forests of a source. Whether no line differed, and as many as is asked for were compared and of either line.
+pub fn compared(source: Source, asked: Asked) -> bool {
     let [mut tally, other] = in_two(asked, |seed, tally: &mut Tally| {
-        compare(&forest(family, seed), tally);
+        compare(&forest(source, seed), tally);
     });
     tally.join(other);
-    let name = family.map_or("damaged".to_string(), Family::name);
-    tally.print(&name, asked)
+    tally.print(&source.name(), asked)
 }
 
 /// In turn templates and forests with two values of a mark, with some among them that have no marks.
-fn forest(family: Option<Family>, seed: u64) -> Vec<u8> {
-    let Some(family) = family else {
-        return damaged(seed).bytes;
+fn forest(source: Source, seed: u64) -> Vec<u8> {
+    let Some(family) = source.family() else {
+        return source.forest(seed);
     };
     let forest = match seed % 9 {
         0 => accepted(seed, family.kind),
@@ -137,14 +135,16 @@ mod tests {
 
     #[test]
     fn forests_are_of_every_line() {
-        let family = Family::from(Kind::Small);
+        let small = Source::Family(Kind::Small.into());
         let lines: Vec<String> = (0..90)
-            .map(|seed| line(&forest(Some(family), seed)).expect("it has an answer"))
+            .map(|seed| line(&forest(small, seed)).expect("it has an answer"))
             .collect();
         let of = |start: &str| lines.iter().filter(|line| line.starts_with(start)).count();
         assert_eq!((of("template: "), of("two values of mark ")), (50, 40));
         assert!(lines.iter().any(|line| line.ends_with(" 0 parameters\n")));
-        let refused = line(&forest(None, 1)).expect("it has an answer");
-        assert!(refused.starts_with("refused "), "{refused}");
+        for source in [Source::Damaged, Source::TwoShapes] {
+            let refused = line(&forest(source, 1)).expect("it has an answer");
+            assert!(refused.starts_with("refused "), "{refused}");
+        }
     }
 }

@@ -1,9 +1,9 @@
-//! Checks 2 to 10 of document 01, each over the whole forest before the next. Written from the
-//! paper alone, so that it can be set beside other readings of it.
+//! Checks 2 to 7, 16 and 8 to 10 of document 01 and request A.9, each over the whole forest before the next.
+//! Written from the papers alone, so that it can be set beside other readings of them.
 
 use crate::forest::{Forest, Record, Tree, CLASSES, MARKS};
 
-/// Why a call gives no tree: the number of document 01 and its place.
+/// Why a call gives no tree: the number of the papers and its place.
 #[derive(Clone, Copy, PartialEq, Eq, Debug)]
 pub struct Refusal {
     pub number: u32,
@@ -35,7 +35,7 @@ struct Row {
     children: usize,
 }
 
-/// The forest that the bytes hold, or the first of refusals 2 to 10 that applies.
+/// The forest that the bytes hold, or the first of refusals 2 to 10 and 16 that applies.
 pub fn accept(bytes: &[u8]) -> Result<Forest, Refusal> {
     let (trees, records) = header(bytes)?;
     let pairs = directory(bytes, records)?;
@@ -45,8 +45,10 @@ pub fn accept(bytes: &[u8]) -> Result<Forest, Refusal> {
         opcode_fits(row.record.opcode, row.record.shape)
     })?;
     closes(trees, &rows)?;
+    let other = other_shape(&rows);
     let forest = grow(trees, rows);
     refuse_at(7, too_deep(&forest))?;
+    refuse_at(16, other)?;
     refuse_at(8, definition_out_of_place(&forest))?;
     let mut scan = Scan::default();
     for tree in &forest.trees {
@@ -237,6 +239,15 @@ fn closes(trees: usize, rows: &[Row]) -> Result<(), Refusal> {
         0 => Ok(()),
         _ => Err(refuse(6, rows.len())),
     }
+}
+
+/// Check 16: "the first record whose opcode, other than 00, had another shape earlier", in whatever tree.
+fn other_shape(rows: &[Row]) -> Option<usize> {
+    (0..rows.len()).find(|&place| {
+        let Record { shape, opcode, .. } = rows[place].record;
+        let other = |row: &Row| row.record.opcode == opcode && row.record.shape != shape;
+        opcode != 0x00 && rows[..place].iter().any(other)
+    })
 }
 
 /// The trees of rows that close. A stack of unfinished records, as they may nest 256 deep.

@@ -1,4 +1,4 @@
-//! Forests with a known fault, for each of refusals 2 to 10 of document 01. The number and the place
+//! Forests with a known fault, for each of refusals 2 to 10 of document 01 and 16 of request A.9. The number and the place
 //! follow from how the fault is made, not from looking for it, so they can be set beside a check.
 //!
 //! Checks go over the whole forest one after the other. So a fault that a later check would find may
@@ -7,6 +7,7 @@
 mod binding;
 mod framing;
 mod literal;
+mod mixed;
 mod nodes;
 mod record;
 mod structure;
@@ -26,13 +27,16 @@ pub struct Damaged {
     pub place: u32,
 }
 
-/// A fault of some number from 2 to 10.
+/// The refusals of the checks, in their order.
+pub const NUMBERS: [u32; 10] = [2, 3, 4, 5, 6, 7, 16, 8, 9, 10];
+
+/// A fault of some number.
 pub fn damaged(seed: u64) -> Damaged {
-    let number = Rng::new(seed).range(2, 10) as u32;
+    let number = Rng::new(seed).pick(&NUMBERS);
     each(number, seed)
 }
 
-/// A fault of the given number, which is 2 to 10.
+/// A fault of the given number, one of [`NUMBERS`].
 pub fn each(number: u32, seed: u64) -> Damaged {
     described(number, seed).0
 }
@@ -51,6 +55,7 @@ pub fn described(number: u32, seed: u64) -> (Damaged, &'static str) {
         8 => structure::misplaced_definition,
         9 => binding::bound_again,
         10 => binding::not_in_force,
+        16 => mixed::refused,
         _ => panic!("no damage for refusal {number}"),
     };
     // A way may not suit the forest that was drawn; then both are drawn again.
@@ -66,6 +71,23 @@ pub fn described(number: u32, seed: u64) -> (Damaged, &'static str) {
         place: fault.place as u32,
     };
     (damaged, fault.way)
+}
+
+/// A forest where an opcode has two shapes, and how: it is refused with 16, or with a number that is checked before.
+pub fn two_shapes(seed: u64) -> (Damaged, &'static str) {
+    let mut rng = Rng::new(seed ^ 0x2500_9A9A);
+    let (number, fault) = mixed::any(&mut rng);
+    let damaged = Damaged {
+        bytes: fault.bytes,
+        number,
+        place: fault.place as u32,
+    };
+    (damaged, fault.way)
+}
+
+/// The ways of [`two_shapes`].
+pub fn ways_of_two_shapes() -> Vec<&'static str> {
+    mixed::WAYS.iter().map(|way| way.name).collect()
 }
 
 /// What a way of damaging gives.
@@ -128,6 +150,25 @@ impl File {
         File {
             trees: forest.trees.len(),
             records,
+        }
+    }
+
+    /// The records of bytes with a right directory.
+    fn read(bytes: &[u8]) -> File {
+        let at = |place| usize::from(u16::from_le_bytes([bytes[place], bytes[place + 1]]));
+        let raw = |index| {
+            let (start, length) = (at(4 + 4 * index), at(6 + 4 * index));
+            Raw {
+                shape: bytes[start],
+                opcode: bytes[start + 1],
+                count: at(start + 2),
+                aux: bytes[start + 4],
+                literal: bytes[start + 5..start + length].to_vec(),
+            }
+        };
+        File {
+            trees: at(0),
+            records: (0..at(2)).map(raw).collect(),
         }
     }
 

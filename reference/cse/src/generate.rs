@@ -1,5 +1,5 @@
-//! Seeded forests that are accepted: none of refusals 2 to 10 of document 01 applies to them, by
-//! the way they are made. Refusals 11 to 14 may.
+//! Seeded forests that are accepted: none of refusals 2 to 10 and 16 applies to them, by the way
+//! they are made. Refusals 11 to 14 may.
 
 mod builder;
 mod counted;
@@ -8,6 +8,7 @@ mod limits;
 mod literals;
 mod many_scopes;
 mod marks;
+mod one_shape;
 mod plants;
 mod profile;
 pub mod records;
@@ -17,6 +18,7 @@ mod rules;
 mod savings;
 mod templates;
 
+pub use one_shape::near_misses;
 pub use rng::Rng;
 pub use templates::Way;
 
@@ -68,10 +70,12 @@ pub enum Kind {
     /// Written trees of up to 256 records, full of scopes: lambdas with next to nothing in them, most of them written anew at
     /// each use, and thunks that each have a definition.
     ManyScopes,
+    /// Any opcode under any shape that it may have, and what comes near refusal 16: request A.9.
+    OneShape,
 }
 
 impl Kind {
-    pub const ALL: [Kind; 19] = [
+    pub const ALL: [Kind; 20] = [
         Kind::Small,
         Kind::Medium,
         Kind::Large,
@@ -91,6 +95,7 @@ impl Kind {
         Kind::Savings,
         Kind::Rules,
         Kind::ManyScopes,
+        Kind::OneShape,
     ];
 
     pub fn name(self) -> &'static str {
@@ -114,6 +119,7 @@ impl Kind {
             Kind::Savings => "savings",
             Kind::Rules => "rules",
             Kind::ManyScopes => "many-scopes",
+            Kind::OneShape => "one-shape",
         }
     }
 
@@ -197,6 +203,7 @@ pub fn accepted(seed: u64, kind: Kind) -> Forest {
         Kind::Savings => savings::forest(&mut rng),
         Kind::Rules => rules::forest(&mut rng),
         Kind::ManyScopes => many_scopes::forest(&mut rng),
+        Kind::OneShape => one_shape::forest(&mut rng),
         Kind::Scopes if rng.chance(40) => limits::nested(&mut rng),
         _ => builder::forest(rng, kind),
     }

@@ -1,7 +1,8 @@
 //! The original cse pass, unchanged, run on forests, and an independent reading of document 01 (the
 //! paper with the rules) for what the original does not do: checks, limits, unfolding, templates,
-//! values, where subtrees end, what definitions save, and the rule beside each symbol.
+//! values, where subtrees end, what definitions save, the rule beside each symbol, and the archive lister.
 
+pub mod archive;
 pub mod check;
 pub mod convert;
 pub mod cost;

@@ -3,6 +3,7 @@
 use std::io::{self, BufRead, BufWriter, ErrorKind, Read, Write};
 use std::process::ExitCode;
 
+use cse_reference::archive::archive_lister;
 use cse_reference::check::accept;
 use cse_reference::damage::damaged;
 use cse_reference::ends::ends;
@@ -18,13 +19,16 @@ const USAGE: &str = "\
 usage: cse-reference COMMAND
   answer [--out N] [--words N]     forests in: number, place, written length, symbols, readings, tree
   list                             forests in: the lister's text
-  check                            forests in: what checks 2 to 10 say, accepted and where subtrees end, or refused,
-                                   number and place
+  archive                          forests in: the archive lister's text
+  check                            forests in: what checks 2 to 10 and 16 say, accepted and where subtrees end, or
+                                   refused, number and place
   generate KIND COUNT [--seed S]   accepted forests
   damage COUNT [--seed S]          forests that are refused: forest, number, place
   rows COUNT [--seed S] [--max-records N]
                                    forest, output length, work words, and what answer gives
   list-rows COUNT [--seed S]       forest, the lister's text in hex
+  archive-rows COUNT [--seed S] [--max-records N]
+                                   archive, forest, the archive lister's text in hex
   template-rows COUNT [--seed S] [--max-records N]
                                    template, forest, the template's line in hex; and
                                    fill, forest, its values as aux=hex,aux=hex, the filled forest
@@ -105,6 +109,10 @@ fn run(arguments: &[String], out: &mut impl Write) -> Result<(), Failure> {
                 or_skipped(text.map(|text| String::from_utf8(text).expect("the text is ASCII")))
             })
         }
+        "archive" => {
+            parsed(&[], &[])?;
+            each_line(out, |line| or_skipped(archive_lister(&hex::parse(line)?)))
+        }
         "check" => {
             parsed(&[], &[])?;
             each_line(out, |line| Ok(format!("{}\n", verdict(&hex::parse(line)?))))
@@ -146,6 +154,17 @@ fn run(arguments: &[String], out: &mut impl Write) -> Result<(), Failure> {
             for seed in arguments.seeds(0)? {
                 let (forest, text) = rows::list_row(seed).map_err(|why| Failure::Row(seed, why))?;
                 writeln!(out, "{}\t{}", hex::print(&forest), hex::print(&text))?;
+            }
+            Ok(())
+        }
+        "archive-rows" => {
+            let arguments = parsed(&["COUNT"], &["--seed", "--max-records"])?;
+            let most = arguments.option("--max-records", u64::MAX);
+            for seed in arguments.seeds(0)? {
+                let row = rows::archive_row(seed, most);
+                let (forest, text) = row.map_err(|why| Failure::Row(seed, why))?;
+                let (forest, text) = (hex::print(&forest), hex::print(text.as_bytes()));
+                writeln!(out, "archive\t{forest}\t{text}")?;
             }
             Ok(())
         }
@@ -261,7 +280,7 @@ fn values(filling: &Filling) -> String {
     values.collect::<Vec<String>>().join(",")
 }
 
-/// What checks 2 to 10 say of a forest: a line of the program replay_check.
+/// What the checks of a forest say of it: a line of the program replay_check.
 fn verdict(bytes: &[u8]) -> String {
     match accept(bytes) {
         Ok(forest) => format!("accepted {}", joined(&forest, " ")),

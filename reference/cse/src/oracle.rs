@@ -52,8 +52,6 @@ pub enum Skipped {
     Nesting(usize),
     /// Over [`MAX_MADE`] records in the written tree.
     TooLarge,
-    /// The original's keys leave out the shape, so document 01 keeps such forests from it.
-    TwoShapes { opcode: u8 },
 }
 
 impl fmt::Display for NoAnswer {
@@ -64,9 +62,6 @@ impl fmt::Display for NoAnswer {
             }
             NoAnswer::Skipped(Skipped::TooLarge) => {
                 write!(f, "over {MAX_MADE} written records")
-            }
-            NoAnswer::Skipped(Skipped::TwoShapes { opcode }) => {
-                write!(f, "opcode {opcode:02X} has two shapes")
             }
             NoAnswer::SymbolCount { paper, original } => {
                 write!(
@@ -210,7 +205,6 @@ fn refused(refusal: Refusal) -> Answer {
 /// What both copies of the pass make of an accepted forest within the limits, the original where it ends in time; none if
 /// it was given up as too large.
 fn written_tree(forest: &Forest, counts: Counts) -> Result<(Option<Tree>, Work), NoAnswer> {
-    one_shape_each(forest).map_err(NoAnswer::Skipped)?;
     on_large_stack(|| {
         let (interner, _) = interned(forest);
         let original = interner.syms.len() as u32;
@@ -267,27 +261,6 @@ pub fn original(root: Expr, env: &[Expr]) -> Expr {
     cse(root, env)
 }
 
-fn one_shape_each(forest: &Forest) -> Result<(), Skipped> {
-    let mut shapes = [None; 256];
-    let second = |tree| second_shape(tree, &mut shapes);
-    match forest.trees.iter().find_map(second) {
-        Some(opcode) => Err(Skipped::TwoShapes { opcode }),
-        None => Ok(()),
-    }
-}
-
-/// The first opcode that had another shape before. Constants and unparsed trees share 00, which
-/// is no opcode.
-fn second_shape(tree: &Tree, shapes: &mut [Option<u8>; 256]) -> Option<u8> {
-    let (opcode, shape) = (tree.record.opcode, tree.record.shape);
-    if opcode != 0 && *shapes[usize::from(opcode)].get_or_insert(shape) != shape {
-        return Some(opcode);
-    }
-    tree.children
-        .iter()
-        .find_map(|child| second_shape(child, shapes))
-}
-
 /// The first half of `cse`: the environment trees, then the root.
 pub(crate) fn interned(forest: &Forest) -> (Interner, SymId) {
     let mut interner = Interner::new();
@@ -316,12 +289,17 @@ mod tests {
     use super::*;
     use crate::trees::{alone, block, node, p, tuple, val_use, z};
 
-    /// docs/DIFFERENCES.md: the original takes Two and ByIndex under one opcode for one symbol.
+    /// docs/DIFFERENCES.md: the original takes Two and ByIndex under one opcode for one symbol. Check 16 refuses the forest at
+    /// ByIndex, record 4: tuple, Two and its two operands are 0 to 3.
     #[test]
     fn the_original_merges_two_shapes_of_one_opcode() {
         let by_index = |a, b| node(24, 0x9A, 0, &[], vec![a, b]);
         let forest = alone(tuple(vec![p(z(), z()), by_index(z(), z())]));
-        assert!(accept(&forest.to_bytes()).is_ok());
+        let mixed = Refusal {
+            number: 16,
+            place: 4,
+        };
+        assert_eq!(accept(&forest.to_bytes()), Err(mixed));
         assert_eq!(count(&forest).expect("within the limits").symbols, 4);
         assert_eq!(interned(&forest).0.syms.len(), 3);
         let written = to_tree(&cse(to_expr(&forest.trees[0]), &[]));

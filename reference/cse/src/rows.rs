@@ -1,8 +1,9 @@
-//! Rows for a comparison: a call of the main call, or of the lister, with its answer; the line of a template; a filling; values
-//! of a root and of its written tree; forests for where subtrees end, and for the checks.
+//! Rows for a comparison: a call of the main call, or of the lister, with its answer; the archive lister's text; the line of a
+//! template; a filling; values of a root and of its written tree; forests for where subtrees end, and for the checks.
 
+use crate::archive::archive_lister;
 use crate::check::accept;
-use crate::damage::{damaged, each};
+use crate::damage::{damaged, each, two_shapes, NUMBERS};
 use crate::evaluate::{defines, strict_value, value, Numbered};
 use crate::forest::Forest;
 use crate::generate::{at_times_marked, Family, Kind, Rng, Way};
@@ -67,6 +68,24 @@ pub fn list_row(seed: u64) -> Result<(Vec<u8>, Vec<u8>), NoAnswer> {
     };
     let text = lister(&row.forest)?;
     Ok((row.forest, text))
+}
+
+/// The forest of a seed, of at most so many records, and the archive lister's text for it: every fourth is accepted and comes
+/// near refusal 16, and an opcode of the others has two shapes.
+pub fn archive_row(seed: u64, max_records: u64) -> Result<(Vec<u8>, String), NoAnswer> {
+    let mut rng = Rng::new(seed);
+    let draw = || {
+        let forest = match seed % 4 {
+            0 => at_times_marked(rng.bits(), Kind::OneShape).to_bytes(),
+            _ => two_shapes(rng.bits()).0.bytes,
+        };
+        let small = records(&forest) <= max_records;
+        small.then(|| archive_lister(&forest).map(|text| (forest, text)))
+    };
+    match first(draw, |_| true)? {
+        Some(row) => Ok(row),
+        None => archive_lister(&[]).map(|text| (Vec::new(), text)),
+    }
 }
 
 /// The forest of a seed, of at most so many records, and the line that is printed of it: in turn templates and forests with
@@ -178,7 +197,7 @@ pub fn ends_row(seed: u64, max_records: u64) -> Vec<u8> {
     draws.next().unwrap_or_else(|| alone(h())).to_bytes()
 }
 
-/// The forest of a seed, for the checks alone: in turn one damaged for each of refusals 2 to 10, and
+/// The forest of a seed, for the checks alone: in turn one damaged for each of their refusals, and
 /// five to accept, a third of them with marks.
 pub fn check_row(seed: u64) -> Vec<u8> {
     const ACCEPTED: [Kind; 10] = [
@@ -193,9 +212,9 @@ pub fn check_row(seed: u64) -> Vec<u8> {
         Kind::Large,
         Kind::Readings,
     ];
-    match seed % 14 {
-        turn @ 0..9 => each(turn as u32 + 2, seed).bytes,
-        _ => at_times_marked(seed, ACCEPTED[(seed / 14 % 10) as usize]).to_bytes(),
+    match NUMBERS.get((seed % 15) as usize) {
+        Some(&number) => each(number, seed).bytes,
+        None => at_times_marked(seed, ACCEPTED[(seed / 15 % 10) as usize]).to_bytes(),
     }
 }
 
@@ -276,14 +295,18 @@ fn refused(rng: &mut Rng, max_records: u64) -> Result<Row, NoAnswer> {
     }
 }
 
-/// A damaged forest, unless it is too large; its header says how many records it has, if it is long enough to say so.
+/// A damaged forest, unless it is too large.
 fn damaged_of(rng: &mut Rng, max_records: u64) -> Option<Vec<u8>> {
     let bytes = damaged(rng.bits()).bytes;
-    let records = match bytes.get(2..4) {
+    (records(&bytes) <= max_records).then_some(bytes)
+}
+
+/// How many records a forest has, as its header says if it is long enough to say so.
+fn records(bytes: &[u8]) -> u64 {
+    match bytes.get(2..4) {
         Some(count) => u64::from(u16::from_le_bytes([count[0], count[1]])),
         None => 0,
-    };
-    (records <= max_records).then_some(bytes)
+    }
 }
 
 /// An output exactly long enough or a byte short, too few work words, or one of refusals 11 to 14

@@ -4,6 +4,7 @@ use std::io::Write;
 use std::process::{Command, Stdio};
 
 use cse_reference::check::accept;
+use cse_reference::damage::NUMBERS;
 use cse_reference::ends::{ends, telling};
 use cse_reference::evaluate::{is_simple, value, Numbered};
 use cse_reference::hex;
@@ -131,9 +132,12 @@ fn rows_are_calls_with_their_answers() {
         assert_eq!(fields.len(), 9, "{line}");
         numbers.insert(fields[3].parse::<u32>().unwrap());
     }
-    // Refusals 2 to 10 are common; those at the limits are among 20 rows.
-    assert!(numbers.is_superset(&(2..=10).collect()), "{numbers:?}");
-    assert!(numbers.iter().any(|&number| number > 10), "{numbers:?}");
+    // Refusals of the checks are common; those at the limits are among 20 rows.
+    assert!(numbers.is_superset(&NUMBERS.into()), "{numbers:?}");
+    assert!(
+        numbers.iter().any(|number| (11..=14).contains(number)),
+        "{numbers:?}"
+    );
     for line in prints(&["rows", "30", "--max-records", "6"], "").lines() {
         let fields: Vec<&str> = line.split('\t').collect();
         let given = prints(
@@ -151,6 +155,46 @@ fn list_rows_are_forests_with_their_text() {
         let text = hex::parse(text).unwrap();
         assert_eq!(prints(&["list"], forest).into_bytes(), text);
     }
+}
+
+#[test]
+fn archive_says_mixed_where_16_is() {
+    // tuple(a(z,z), b(z,z)): 9A as Two and as ByIndex.
+    let mixed = "0100070020000500250005002a0005002f00050034000500390005003e0005001086020000\
+                 049a02000002fe00000002fe000000189a02000002fe00000002fe000000";
+    assert_eq!(prints(&["archive"], mixed), "mixed 9A\n");
+    assert_eq!(prints(&["list"], mixed), "refused 16 at 4\n");
+    assert_eq!(prints(&["check"], mixed), "refused 16 at 4\n");
+    let input = format!("{HEIGHT}\n-\n");
+    assert_eq!(prints(&["archive"], &input), prints(&["list"], &input));
+}
+
+#[test]
+fn archive_rows_are_forests_with_their_text() {
+    let (mut mixed, mut refused, mut listed) = (0, 0, 0);
+    for row in prints(&["archive-rows", "200", "--max-records", "24"], "").lines() {
+        let fields: Vec<&str> = row.split('\t').collect();
+        let ["archive", forest, text] = fields[..] else {
+            panic!("{row}");
+        };
+        let text = String::from_utf8(hex::parse(text).unwrap()).unwrap();
+        assert_eq!(prints(&["archive"], forest), text);
+        let listed_text = prints(&["list"], forest);
+        match text.strip_prefix("mixed ") {
+            Some(opcode) => {
+                assert!(listed_text.starts_with("refused 16 at "), "{row}");
+                assert_eq!((opcode.len(), opcode.to_uppercase().as_str()), (3, opcode));
+                mixed += 1;
+            }
+            None => {
+                assert_eq!(listed_text, text);
+                refused += u32::from(text.starts_with("refused "));
+                listed += u32::from(text.starts_with("symbols "));
+            }
+        }
+    }
+    assert_eq!(listed, 50);
+    assert!(mixed >= 100 && refused >= 20, "{mixed} {refused}");
 }
 
 /// The values of a row, by aux.
@@ -328,7 +372,7 @@ fn wrong_command_lines() {
         ),
         (
             &["generate", "marked", "1"],
-            "many-scopes, and these with marked- before them",
+            "one-shape, and these with marked- before them",
         ),
         (&["generate", "small", "many"], "COUNT is to be a number"),
         (&["damage"], "damage: wants COUNT"),
@@ -354,7 +398,7 @@ fn wrong_command_lines() {
 #[test]
 fn wrong_lines() {
     let good = format!("{}\n", HEIGHT);
-    for command in ["answer", "list", "check", "to-notation"] {
+    for command in ["answer", "list", "archive", "check", "to-notation"] {
         let before = prints(&[command], &good);
         let cases: [(&[u8], &str); 6] = [
             (b"0", "line 2: an odd number of hex digits, 1"),

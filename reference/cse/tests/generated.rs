@@ -4,7 +4,7 @@
 use std::collections::BTreeMap;
 
 use cse_reference::check::{accept, Refusal};
-use cse_reference::damage::damaged;
+use cse_reference::damage::{damaged, two_shapes, NUMBERS};
 use cse_reference::generate::{Family, Kind};
 use cse_reference::oracle::{answer, NoAnswer};
 use cse_reference::savings::savings;
@@ -84,8 +84,20 @@ fn damaged_forests_get_their_refusal() {
         );
         *found.entry(number).or_insert(0) += 1;
     }
-    assert_eq!(
-        found.into_keys().collect::<Vec<_>>(),
-        (2..=10).collect::<Vec<_>>()
-    );
+    let mut numbers = NUMBERS;
+    numbers.sort();
+    assert!(found.into_keys().eq(numbers));
+}
+
+#[test]
+fn forests_with_two_shapes_get_their_refusal() {
+    for seed in 0..4_000 {
+        let (case, way) = two_shapes(seed);
+        let (number, place) = (case.number, case.place);
+        assert_eq!(
+            accept(&case.bytes),
+            Err(Refusal { number, place }),
+            "{seed}: {way}"
+        );
+    }
 }

@@ -211,6 +211,12 @@ fn nested_scopes_are_capped() {
     refuses(&alone(nested(64)), 7, 128 - 1);
 }
 
+/// Constants and unparsed trees share 00.
+#[test]
+fn an_opcode_with_two_shapes_is_run_where_it_is_00() {
+    passes(&alone(p(k(), node(1, 0x00, 0, &[], vec![]))));
+}
+
 /// Each level uses the one below in a projection first met in a thunk, which is written inline at
 /// both uses.
 fn doubling(levels: u32) -> Forest {
@@ -240,12 +246,4 @@ fn inline_copies_of_projections_of_projections() {
     let deep = |levels| (0..levels).fold(z(), |tree, _| s1(tree));
     let eager = p(and(z(), deep(3)), deep(3));
     passes(&alone(and(eager, deep(2))));
-}
-
-#[test]
-fn an_opcode_with_two_shapes_is_not_run() {
-    let tree = p(node(24, 0x9A, 0, &[], vec![z(), z()]), z());
-    assert_eq!(skipped(&alone(tree)), Skipped::TwoShapes { opcode: 0x9A });
-    // Constants and unparsed trees share 00.
-    passes(&alone(p(k(), node(1, 0x00, 0, &[], vec![]))));
 }

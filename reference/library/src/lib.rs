@@ -1,6 +1,7 @@
 //! The proved main call and check, for Rust: safe functions over the static library's `cse_call` and `cse_check`.
 
-/// The five numbers of a call; number 0 is success. A refusal has zeros for the last three.
+/// The five numbers of a call; number 0 is success, and a refusal has 1 to 14 or 16, as README.md lists them, and zeros for
+/// the last three.
 #[derive(Clone, Copy, PartialEq, Eq, Debug, Default)]
 pub struct Numbers {
     pub number: u32,
@@ -10,7 +11,7 @@ pub struct Numbers {
     pub readings: u32,
 }
 
-/// What a check says of a forest; number 0 is an accepted one, with place 0.
+/// What a check says of a forest; number 0 is an accepted one, with place 0, and a refusal has 1 to 10 or 16.
 #[derive(Clone, Copy, PartialEq, Eq, Debug, Default)]
 pub struct Checked {
     pub number: u32,

@@ -88,6 +88,26 @@ fn no_end_of_a_refused_forest() {
 }
 
 #[test]
+fn no_end_where_an_opcode_has_two_shapes() {
+    // ByIndex under 9A.
+    const B: (u8, u8, u8) = (24, 0x9A, 2);
+    let mixed = forest(1, &[tuple(2), P, Z, Z, B, Z, Z]);
+    gives(&mixed, 16, 4, &[]);
+    assert_eq!(tree(&mixed), Err((16, 4)));
+    // In two trees.
+    gives(&forest(2, &[B, Z, Z, N, P, Z, Z]), 16, 4, &[]);
+    // With two and with three children it has one shape.
+    let three = (24, 0x9A, 3);
+    let ends = [8, 4, 3, 4, 8, 6, 7, 8];
+    gives(
+        &forest(1, &[tuple(2), B, Z, Z, three, Z, Z, Z]),
+        0,
+        0,
+        &ends,
+    );
+}
+
+#[test]
 fn no_end_where_an_id_is_at_fault() {
     // A lambda with argument 1, of no type, and a use of 1.
     const LAMBDA: &[u8] = &[12, 0xD9, 1, 0, 1, 1, 0, 0, 0, 0];

@@ -220,7 +220,8 @@ impl Profile {
             | Kind::Flat
             | Kind::Savings
             | Kind::Rules
-            | Kind::ManyScopes => mixed,
+            | Kind::ManyScopes
+            | Kind::OneShape => mixed,
         }
     }
 

@@ -1,13 +1,13 @@
 //! Records by shape: the opcodes that the generator uses, and trees made from them.
 
+use super::Rng;
 use crate::forest::{Record, Tree};
 
 /// How many shapes there are.
 pub const SHAPES: u8 = 27;
 
-/// The opcodes used for each shape. No opcode but 00 stands in two rows: the original's keys leave
-/// the shape out, so it can be run only where an opcode has one shape. They are few, so that equal
-/// subtrees occur often.
+/// The opcodes used for each shape. No opcode but 00 stands in two rows, since check 16 lets each have one shape. They are few,
+/// so that equal subtrees occur often.
 const OPCODES: [&[u8]; SHAPES as usize] = [
     &[0x00],                                     // Const
     &[0x00],                                     // Unparsed
@@ -75,6 +75,44 @@ pub(crate) const IF: u8 = 0x95;
 pub(crate) const BIN_AND: u8 = 0xED;
 pub(crate) const BIN_OR: u8 = 0xEC;
 pub(crate) const HEIGHT: u8 = 0xA3;
+
+/// The opcodes that check 5 binds to shapes.
+const BOUND: [u8; 15] = [
+    0x00, 0x72, 0x86, 0x8C, 0x95, 0xA3, 0xA4, 0xA5, 0xA7, 0xD6, 0xD8, 0xD9, 0xDD, 0xEC, 0xED,
+];
+
+/// Whether check 5 leaves the opcode to any shape without an opcode of its own.
+pub fn is_free(opcode: u8) -> bool {
+    !BOUND.contains(&opcode)
+}
+
+/// Whether check 5 leaves the shape any opcode that is free.
+pub fn takes_free(shape: u8) -> bool {
+    let own = [
+        CONST,
+        UNPARSED,
+        VAL_USE,
+        VAL_DEF,
+        BLOCK_VALUE,
+        FUNC_VALUE,
+        TUPLE,
+        SELECT_FIELD,
+    ];
+    shape < SHAPES && !own.contains(&shape)
+}
+
+/// For each opcode another, the bound ones for themselves: records that get them have one shape each as before, and keep all that
+/// the checks look at.
+pub(crate) fn shuffled_opcodes(rng: &mut Rng) -> Vec<u8> {
+    let free: Vec<u8> = (0..=255).filter(|&opcode| is_free(opcode)).collect();
+    let mut shuffled = free.clone();
+    rng.shuffle(&mut shuffled);
+    let mut all: Vec<u8> = (0..=255).collect();
+    for (opcode, other) in free.into_iter().zip(shuffled) {
+        all[usize::from(opcode)] = other;
+    }
+    all
+}
 
 /// A type in a literal: its length, then its bytes. `None` is a missing type.
 pub(crate) type Opt = Option<Vec<u8>>;

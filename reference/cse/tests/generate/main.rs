@@ -3,6 +3,7 @@
 mod forms;
 mod many_scopes;
 mod marks;
+mod one_shape;
 mod rules;
 mod savings;
 mod simple;
@@ -10,9 +11,9 @@ mod templates;
 
 use std::collections::{BTreeMap, BTreeSet};
 
-use cse_reference::damage::{damaged, described, each};
+use cse_reference::damage::{damaged, described, each, NUMBERS};
 use cse_reference::forest::{Forest, Record, Tree};
-use cse_reference::generate::records::{nested_scopes, opcodes, SHAPES};
+use cse_reference::generate::records::{is_free, nested_scopes, opcodes, takes_free, SHAPES};
 use cse_reference::generate::{accepted, Family, Kind};
 use cse_reference::oracle::{answer, entries, MAX_OUTPUT, MIN_WORK_WORDS};
 
@@ -108,7 +109,8 @@ fn assert_record(tree: &Tree) {
         12 => aux <= 15,
         _ => aux == 0,
     });
-    assert!(opcodes(shape).contains(&opcode));
+    let free = takes_free(shape) && is_free(opcode);
+    assert!(free || opcodes(shape).contains(&opcode));
 }
 
 fn assert_in_place(tree: &Tree, as_item: bool, in_force: &mut Vec<u32>) {
@@ -270,7 +272,7 @@ fn written_depth(bytes: &[u8]) -> usize {
 
 #[test]
 fn damage_is_of_the_number_asked_for() {
-    for number in 2..=10 {
+    for number in NUMBERS {
         for seed in 0..200 {
             let fault = each(number, seed);
             assert_eq!(fault.number, number);
@@ -279,7 +281,7 @@ fn damage_is_of_the_number_asked_for() {
         }
     }
     let numbers: BTreeSet<u32> = (0..500).map(|seed| damaged(seed).number).collect();
-    assert!(numbers.into_iter().eq(2..=10));
+    assert_eq!(numbers, NUMBERS.into());
 }
 
 #[test]
@@ -294,6 +296,7 @@ fn each_number_has_many_ways() {
         (8, 8),
         (9, 11),
         (10, 11),
+        (16, 12),
     ] {
         let ways: BTreeSet<&str> = (0..2_000).map(|seed| described(number, seed).1).collect();
         assert_eq!(ways.len(), count, "{number}: {ways:?}");

@@ -1,6 +1,7 @@
 //! Both sides of every refusal: here what the tests have in common.
 
 mod directory;
+mod one_shape;
 mod records;
 mod trees;
 
