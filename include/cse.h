@@ -31,7 +31,7 @@ void cse_call(
  * over all trees, in file order: entry i of `ends` receives the number of the first record after the subtree of record i,
  * which for the last record is the record count, up to 256. So below record i stand the records i + 1 to ends[i] - 1. Entries
  * past the last record are 0. After a refusal all are 0, after 1 too: every call writes all 256.
- * `number` and `place` receive 0, or the number of the refusal, 1 to 10, and its place, as cse_call gives them. 11 to 14
+ * `number` and `place` receive 0, or the number of the refusal, 1 to 10 or 16, and its place, as cse_call gives them. 11 to 14
  * are no matter of the check: a forest that cse_call refuses with one of these is accepted here.
  * Fewer than 16,384 work words are refused with 1, and left as they are; after any other answer the first 16,384 are 0 and
  * later ones as they were.
