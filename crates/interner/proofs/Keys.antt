@@ -5,7 +5,7 @@ use Prim.Native.Nat.{ℕ, zero, suc, ◌+◌, ◌-◌, ◌<◌, ◌≤◌}
 use mathlib.Core.Path.{◌≡◌, refl, sym, ap, ◌∙◌}
 use mathlib.Core.Logic.{inl, inr}
 use mathlib.Core.Bool.{Bool, true, false}
-use Rattle.std.specs.Prelude.{Option, None, Some}
+use Rattle.std.specs.Prelude.{Option, None, Some, Ok}
 use mathlib.Core.List.{List, [], ◌∷◌}
 use native.Mathlib.Omega.{arith}
 use lib.ListN.{length, get_or}
@@ -28,8 +28,8 @@ use Rattle.tables.specs.Tables.{entries, tables, tables_of, Open, EntriesBelow}
 use Rattle.interner.specs.declared.State.{State}
 use Rattle.interner.specs.declared.Step.{Step}
 use Rattle.interner.specs.State.{abs_of, Rep}
-use Rattle.interner.specs.Step.{given, Answers, alloc_of, finish_of, new_deps, Keyed, Ready}
-use Rattle.interner.proofs.Sharing.{answers_as, given_answers}
+use Rattle.interner.specs.Step.{given, state_after, Answers, alloc_of, finish_of, new_deps, Keyed, Ready}
+use Rattle.interner.proofs.Sharing.{answers_as, given_answers, old_state}
 
 -- ---- what is found is below what all entries are
 
@@ -107,6 +107,9 @@ module _ {bs ws : List ℕ} {t : Tables} {st : State} {cur : ℕ} {node : Node} 
       answers_as (given_answers rep (found_low s f) refl)
       (sym (finish_some (parts_of node).source cur (rec_of bs node) (pending_from ws held count) (own_of bs node)
       (model_node bs node) (abs_of bs ws t st) s (sym f)))
+
+  pub found_state : (s : ℕ) → Some s ≡ sought → st ≡ state_after st count (Ok s)
+  found_state s f = old_state st count s (found_low s f)
 
   -- the deps of a node that has a key
   key_deps : (nd : Node) → Keyed bs ws st.scopes cur nd →

@@ -6,7 +6,7 @@ use mathlib.Core.Path.{◌≡◌, refl, sym, ap, ◌∙◌, subst}
 use mathlib.Core.Bool.{true}
 use mathlib.Core.List.{List}
 use native.Mathlib.Omega.{arith}
-use borrow.Author.Tests.{lt-ltb, le-ltb}
+use borrow.Author.Tests.{lt-ltb, le-ltb, eq-eqb, ne_eqb}
 use Rattle.std.specs.Prelude.{Ok, Err}
 use Rattle.std.proofs.lemmas.Result.{IfOk-at_ok}
 use Rattle.refusal.specs.declared.Refusal.{Refusal}
@@ -33,7 +33,7 @@ use Rattle.free_lists.proofs.Laws.{lists_agree}
 use Rattle.interner.specs.declared.State.{State}
 use Rattle.interner.specs.declared.Step.{Step}
 use Rattle.interner.specs.State.{abs_of, Rep}
-use Rattle.interner.specs.Step.{refusal_of, out_of, given, over_full, entered, Leaves, new_deps}
+use Rattle.interner.specs.Step.{refusal_of, out_of, given, over_full, with_symbol, entered, state_after, Leaves, new_deps}
 use Rattle.interner.specs.Step.{Fresh, Pushed, alloc_of, Answers}
 use Rattle.interner.proofs.Same.{used_sound, Same, abs_same, rep_same, rep_with}
 use Rattle.interner.proofs.Pushing.{pushed_entries, pushed_symbols}
@@ -97,6 +97,14 @@ module _ {bs ws : List ℕ} {t : Tables} {st : State} where
       Answers bs ws t st (good (s, abs_of bs ws t st)) ws r
   given_answers {s} rep low e =
       rw e (record { rep = rep; leaves = leaves_none ws st; low = low; is = out-given bs ws t st s })
+
+-- a symbol that is found leaves the state, and a new one is counted
+pub old_state : (st : State) (count s : ℕ) → s < st.symbols → st ≡ state_after st count (Ok s)
+old_state st count s lt = rw (ne_eqb s st.symbols (λ e. omega (arith, e)), state_after) refl
+
+pub new_state : (st : State) (count : ℕ) {st₁ : State} → st₁ ≡ with_symbol st count →
+    entered st₁ ≡ state_after st count (Ok st.symbols)
+new_state st count e = rw (e, eq-eqb st.symbols st.symbols refl, state_after) refl
 
 module _ {bs ws : List ℕ} {st : State} {cur : ℕ} {node : Node} {held count : ℕ} (t : Tables) (rep : Rep bs ws st)
     (fresh : Fresh bs ws st cur node held count) where

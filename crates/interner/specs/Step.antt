@@ -1,7 +1,7 @@
 -- What the functions ask and answer. In order: answers; a new symbol; the symbol of a key; a lambda's arguments;
 -- projections.
 -- Assumes nothing.
-use Rattle.std.specs.Prelude.{ℕ, suc, ◌+◌, ◌<◌, ◌≤◌, ◌≡◌, Bool, false, not, ◌&&◌, List, [], ◌∷◌, eqb, length, get_or}
+use Rattle.std.specs.Prelude.{ℕ, suc, ◌+◌, ◌<◌, ◌≤◌, ◌≡◌, Bool, true, false, not, ◌&&◌, List, [], ◌∷◌, eqb, length, get_or}
 use Rattle.std.specs.Prelude.{Some, Result, Ok, Err, IfOk}
 use Rattle.regions.specs.Regions.{SYMBOLS, SLOTS, SCOPES, PENDING, end}
 use Rattle.model.specs.Answer.{Answer, refused, good}
@@ -68,6 +68,11 @@ with_symbol st count = record st { symbols = st.symbols + 1; slots = st.slots + 
 -- one entry more
 abbrev pub entered : State → State
 entered st = record st { entries = st.entries + 1 }
+
+-- the state after a step to a symbol, or a refusal, for a node over `count` children: only a new symbol changes it
+abbrev pub state_after : State → ℕ → Result ℕ Refusal → State
+state_after st count (Ok s) = elim (eqb s st.symbols) [ true ↦ entered (with_symbol st count) | false ↦ st ]
+state_after st count (Err e) = st
 
 -- what a step from words ws and state st to words ws' leaves: pending symbols and bindings, and all words after them;
 -- scopes and readings; entries are only added

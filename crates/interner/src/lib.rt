@@ -19,7 +19,7 @@ ghost use Rattle.key.specs.Key.{parts_of};
 ghost use Rattle.interner.specs.State.{abs_of, Rep, Started};
 ghost use Rattle.interner.specs.Step.{Fresh, Levels, Pushed, Answers, Ready, Binds, Bindings};
 ghost use Rattle.interner.specs.Step.{Projects};
-ghost use Rattle.interner.specs.Step.{new_deps, no_room, step_of, alloc_of, key_levels, finish_of};
+ghost use Rattle.interner.specs.Step.{new_deps, no_room, step_of, state_after, alloc_of, key_levels, finish_of};
 ghost use Rattle.interner.specs.Levels.{any_has};
 
 use key::{Leaf, Node, Symbol};
@@ -112,8 +112,8 @@ fn no_room(node: Node) -> Refusal
     }
 }
 
-// A new symbol that can be found again, or a refusal where there is no room for one. Rules out: one that is in no
-// table, or in the oldest; a 513th symbol.
+// A new symbol that can be found again, or a refusal where there is no room for one, which leaves the state as it was.
+// Rules out: one that is in no table, or in the oldest; a 513th symbol.
 fn alloc(
     forest: &Forest,
     work: &mut [u32],
@@ -127,8 +127,9 @@ fn alloc(
     requires rep { Rep forest.now work.old st.old }
     requires fresh { Fresh forest.now work.old st.old cur node held count }
     requires levels { Levels work.old st.old cur (new_deps forest.now work.old st.old node held count) levels }
-    ensures { (t : Tables) → Open t st.old.entries → Answers forest.now work.old t st.old
+    ensures answers { (t : Tables) → Open t st.old.entries → Answers forest.now work.old t st.old
         (alloc_of forest.now work.old t st.old cur node held count true) work.new (step_of st.new result) }
+    ensures state { st.new ≡ state_after st.old count result }
 {
     let n = st.symbols;
     if n >= 512 {
@@ -174,7 +175,8 @@ fn key_levels(work: &[u32], node: Node, held: usize, count: usize) -> u64
 
 // The symbol of a node over the pending children from `held` on: the one that has its key, or a new one; or a refusal,
 // where there is no room for a new one. Rules out: a second symbol for a key that an open table has; a symbol placed
-// inside a lambda that it does not depend on; a refusal where the key is found and there are 512 symbols.
+// inside a lambda that it does not depend on; a refusal where the key is found and there are 512 symbols; a state that
+// a symbol that is found, or a refusal, changes.
 pub fn finish(
     forest: &Forest,
     work: &mut [u32],
@@ -188,8 +190,9 @@ pub fn finish(
     requires rep { Rep forest.now work.old st.old }
     requires fact { Open t st.old.entries }
     requires ready { Ready forest.now work.old st.old cur node held count }
-    ensures { Answers forest.now work.old t st.old
+    ensures answers { Answers forest.now work.old t st.old
         (finish_of forest.now work.old t st.old cur node held count) work.new (step_of st.new result) }
+    ensures state { st.new ≡ state_after st.old count result }
 {
     let p = key::parts_of(node);
     let top = st.entries as usize;

@@ -1,11 +1,13 @@
--- Laws of `over`. In order: from the start on; its length; a store; a copy; one part after another.
+-- Laws of `over`. In order: from the start on; its length; a store; a copy; one part after another; a copy one by one.
 -- Assumes nothing.
-use Prim.Native.Nat.{ℕ, ◌+◌, ◌≤◌}
-use mathlib.Core.Path.{◌≡◌, sym, ap, ap₂, ◌∙◌}
+use Prim.Native.Nat.{ℕ, suc, ◌+◌, ◌<◌, ◌≤◌}
+use mathlib.Core.Path.{◌≡◌, sym, ap, ap₂, ◌∙◌, subst}
 use mathlib.Core.List.{List, [], ◌∷◌, ◌++◌, append_assoc, append-nil}
 use native.Mathlib.Omega.{arith}
-use lib.ListN.{length, take, drop, set, length-append, take-append-drop, length-drop}
-use lib.Seq.{length-take-le, sets-eq, take-length, paste, take_at, drop_at, drop-drop}
+use native.Mathlib.Numerals.{add-one}
+use lib.ListN.{length, take, drop, set, get_or, length-append, take-append-drop, length-drop}
+use lib.Seq.{length-take-le, sets-eq, take-length, paste, paste-suc, take_at, drop_at, drop-drop}
+use Rattle.std.proofs.lemmas.List.{drop_all}
 use Rattle.output.specs.Output.{over}
 
 -- from the start on: the bytes, and what stood past them
@@ -65,6 +67,21 @@ module _ (out : List ℕ) (at : ℕ) where
 
       lengths : at + length a + length b ≡ at + length (a ++ b)
       lengths = omega (arith, length-append a b)
+
+-- ---- a copy, one by one, over as many as there are
+
+pub copied_one : (d s : List ℕ) (k : ℕ) (p : List ℕ) → k < length d → k < length s → p ≡ paste d 0 s k →
+    set p k (get_or s k 0) ≡ paste d 0 s (k + 1)
+copied_one d s k p h l e =
+    let z : 0 + k ≡ k = omega arith in
+    ap (λ (o : List ℕ). set o k (get_or s k 0)) e
+    ∙ subst (λ (n : ℕ). set (paste d 0 s k) n (get_or s k 0) ≡ paste d 0 s (suc k)) z (paste-suc d 0 s k 0 (omega arith) l)
+    ∙ ap (paste d 0 s) (sym (add-one k))
+
+pub copied_all : (d s : List ℕ) (k : ℕ) (p : List ℕ) → length d ≡ length s → k ≡ length s → p ≡ paste d 0 s k → p ≡ s
+copied_all d s k p long all e =
+    e ∙ ap (paste d 0 s) all ∙ paste_over d 0 s ∙ over_front d s
+    ∙ ap (λ (l : List ℕ). s ++ l) (drop_all (length s) d (omega arith)) ∙ append-nil s
 
 -- the second of two parts goes where the first ends
 pub over_then : (o₀ o₁ o₂ : List ℕ) (at at₁ : ℕ) (a b : List ℕ) → o₁ ≡ over o₀ at a → o₂ ≡ over o₁ at₁ b

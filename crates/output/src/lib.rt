@@ -59,7 +59,11 @@ impl<'a> Output<'a> {
         ensures { Put self.old bytes.now self.new }
     {
         let next = self.at + bytes.len();
-        self.bytes[self.at..next].copy_from_slice(bytes);
+        let place = &mut self.bytes[self.at..next];
+        // one by one: for `copy_from_slice` the archive for C would want `memmove` from outside
+        for (k, &b) in bytes.iter().enumerate() {
+            place[k] = b;
+        }
         self.at = next;
     }
 }

@@ -1,4 +1,4 @@
--- Texts put into an output as far as there is room. In order: nothing; the same text; over a buffer's start; one text
+-- Texts put into an output as far as there is room. In order: nothing; the same text; over a buffer's start; a text that fits; one text
 -- after another; a text from a buffer of its own; spaces; bytes in hex.
 -- Assumes nothing.
 use Prim.Native.Nat.{ℕ, ◌+◌, ◌-◌, ◌<◌, ◌≤◌}
@@ -18,7 +18,7 @@ use Rattle.std.proofs.lemmas.Slice.{put_mid-paste}
 use Rattle.model.specs.Lister.{hex_byte}
 use Rattle.model.specs.Sheet.{hex_bytes}
 use Rattle.output.specs.declared.Output.{Output}
-use Rattle.output.specs.Output.{over, Wrote}
+use Rattle.output.specs.Output.{over, Wrote, Put}
 use Rattle.output.proofs.Over.{over_front, paste_over}
 use Rattle.output.proofs.Put.{put_none, put_part, put_as, put_then, put_wrote}
 use Rattle.output.proofs.Wrote.{wrote_as}
@@ -37,6 +37,10 @@ module _ {o o' : Output} {s : List ℕ} (v : PutClipped o s o') where
   clipped_over {out} e z =
       let n : length o.bytes.now - o.at ≡ length out - 0 = omega (arith, ap length e) in
       record { is = wrote_as (ap (λ (k : ℕ). take k s) n) (put_wrote e z v.is) }
+
+-- a text that fits
+pub clipped_whole : {o o' : Output} {s : List ℕ} → Put o s o' → length s ≤ length o.bytes.now - o.at → PutClipped o s o'
+clipped_whole {o} {o'} {s} v le = record { is = put_as (sym (take_all (length o.bytes.now - o.at) s le)) v }
 
 -- ---- one text after another
 

@@ -47,6 +47,10 @@ pub fn put_number(out: &mut Output, n: u64)
 pub fn put_hex(out: &mut Output, b: u8)
     ensures { PutClipped out.old (hex_byte b) out.new }
 {
+    // digits that fit need no buffer of their own, from which as many bytes as fit are copied by a call
+    if 2 <= out.bytes.len() - out.at {
+        return text::put_hex(out, b);
+    }
     let mut buffer = [0u8; 2];
     let mut digits = Output::new(&mut buffer);
     text::put_hex(&mut digits, b);

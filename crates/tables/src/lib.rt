@@ -5,7 +5,7 @@
 // stack to a count of entries, which grows.
 #![tactic(auto)]
 
-ghost use Rattle.std.specs.Prelude.{◌≡◌, ℕ, ◌+◌, ◌*◌, ◌<◌, ◌≤◌, length, get_or, set};
+ghost use Rattle.std.specs.Prelude.{◌≡◌, ℕ, ◌+◌, ◌*◌, ◌<◌, ◌≤◌, length, get_or, set, take};
 ghost use Rattle.model.specs.Lists.{same};
 ghost use Rattle.model.specs.Forest.{record_count};
 ghost use Rattle.model.specs.Intern.{lookup};
@@ -24,8 +24,8 @@ use std::marker::Model;
 // not; so the starts that are not in use are 0, and the list says what the array holds.
 #[derive(Clone, Copy)]
 pub struct Tables {
-    starts: [u16; 64],
-    depth: usize,
+    pub base: [u16; 64],
+    pub depth: usize,
 }
 
 impl Model for Tables {
@@ -35,18 +35,18 @@ impl Model for Tables {
 
     ghost Value = { List ℕ };
 
-    ghost view = { λ t. take t.depth t.starts };
+    ghost view = { λ t. take t.depth t.base };
 
-    ghost invariant = { λ t. Starts t.starts t.depth };
+    ghost invariant = { λ t. Starts t.base t.depth };
 
-    ghost inverse = { λ ts. record { starts = ts ++ replicate (64 - length ts) 0; depth = length ts } };
+    ghost inverse = { λ ts. record { base = ts ++ replicate (64 - length ts) 0; depth = length ts } };
 
     ghost inverse_ok = { λ t h.
-        let depth_is = length-take-le t.depth t.starts (subst (λ (n : ℕ). t.depth ≤ n) (sym h.long) h.few) in
+        let depth_is = length-take-le t.depth t.base (subst (λ (n : ℕ). t.depth ≤ n) (sym h.long) h.few) in
         let starts_are =
-        ap (λ (n : ℕ). take t.depth t.starts ++ replicate (64 - n) 0) depth_is
-        ∙ (ap (λ (ts : List ℕ). take t.depth t.starts ++ ts) (sym h.free) ∙ take-append-drop t.depth t.starts) in
-        λ i. record { starts = starts_are i; depth = depth_is i } };
+        ap (λ (n : ℕ). take t.depth t.base ++ replicate (64 - n) 0) depth_is
+        ∙ (ap (λ (ts : List ℕ). take t.depth t.base ++ ts) (sym h.free) ∙ take-append-drop t.depth t.base) in
+        λ i. record { base = starts_are i; depth = depth_is i } };
 }
 
 impl Tables {
@@ -55,9 +55,19 @@ impl Tables {
         ensures { result ≡ new_tables }
     {
         Tables {
-            starts: [0; 64],
+            base: [0; 64],
             depth: 1,
         }
+    }
+
+    // The tables that the first `depth` starts of an array give, whatever it holds after these: a stack need not begin at
+    // entry 0. Rules out: the first table at entry 0; one table more.
+    pub fn of(mut base: [u16; 64], depth: usize) -> Tables
+        requires { depth ≤ 64 }
+        ensures { result ≡ take depth base }
+    {
+        base[depth..].fill(0);
+        Tables { base, depth }
     }
 
     // A new table, which starts at entry `top`. Rules out: one that takes over the entries of the newest; one that is
@@ -66,7 +76,7 @@ impl Tables {
         requires { (length self < 64) × (top ≤ 512) }
         ensures { result ≡ opened self top }
     {
-        self.starts[self.depth] = top as u16;
+        self.base[self.depth] = top as u16;
         self.depth += 1;
         self
     }
@@ -152,11 +162,11 @@ pub fn find(
     let hint = hint_of(forest, work, i, held, count);
     let first = 512 * hint;
     // the starts alone: they are copied without a call
-    let starts = t.starts;
+    let base = t.base;
     let mut end = top;
     'tables: {
         for d in (0..t.depth).rev() {
-            let start = usize::from(starts[d]);
+            let start = usize::from(base[d]);
             // by index, as the loop around: between two ends that move from table to table
             for k in (start..end).rev() {
                 // under the hint of the key what is left is the symbol, else 512 or more: one comparison an entry

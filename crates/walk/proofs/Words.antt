@@ -4,11 +4,12 @@
 use Prim.Native.Nat.{ℕ, zero, suc, ◌+◌, ◌-◌, ◌<◌, ◌≤◌}
 use mathlib.Core.Path.{◌≡◌, refl, sym, ap, ap₂, ◌∙◌}
 use mathlib.Core.Bool.{Bool, true, false, ◌||◌}
-use mathlib.Core.List.{List, ◌∷◌, ◌++◌, append_assoc, []}
+use mathlib.Core.List.{List, ◌∷◌, ◌++◌, append_assoc, [], reverse}
 use native.Mathlib.Omega.{arith}
 use Rattle.std.specs.List.{list_any, range_with_len}
 use Rattle.std.proofs.lemmas.Bool.Decides.{nat_tests}
 use Rattle.std.proofs.lemmas.List.Folds.{list_any_more}
+use Rattle.std.proofs.lemmas.List.Sorted.{list_any-IsPermutation, IsPermutation-reverse}
 use Rattle.std.proofs.Math.Bool.{or_comm}
 use lib.Dec.{eqb}
 use lib.ListN.{length, get_or, set, take}
@@ -36,6 +37,13 @@ ids_found id ws (suc k) l =
     ∙ list_any_more (λ y. eqb y id) ws k 0 (omega arith)
     ∙ or_comm (list_any (λ y. eqb y id) (take k ws)) (eqb (get_or ws k 0) id)
     ∙ ap₂ ◌||◌ (turned (get_or ws k 0) id) (ids_found id ws k (omega arith))
+
+-- the search from the newest on
+pub ids_found_back : (id : ℕ) (ws : List ℕ) (k : ℕ) → k ≤ length ws →
+    list_any (λ y. eqb y id) (reverse (take k ws)) ≡ is_in id (ids_of ws k)
+ids_found_back id ws k l =
+    sym (list_any-IsPermutation (λ y. eqb y id) (take k ws) (reverse (take k ws)) (IsPermutation-reverse (take k ws)))
+    ∙ ids_found id ws k l
 
 -- ---- a search for a clash
 

@@ -60,8 +60,9 @@ fn in_force(work: &[u32], top: usize, id: u32) -> bool
     requires { top ≤ length work.now }
     ensures { result ≡ is_in id (ids_of work.now top) }
 {
-    // `any`, and not `contains`: the checks then take 3 to 6 % fewer instructions
-    work[..top].iter().any(|&x| x == id)
+    // the newest first, since most uses are of an id that is near; `any`, and not `contains`: the checks then take 3 to 6 %
+    // fewer instructions
+    work[..top].iter().rev().any(|&x| x == id)
 }
 
 // Whether one of the ids from top to end stands before itself.

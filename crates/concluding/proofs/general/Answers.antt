@@ -11,4 +11,4 @@ pub returns : goal.returns
 returns c =
     let a = c.args in
     general_answers a.forest.now.laid a.work.now a.t a.st.now a.i a.cur a.held a.count a.b
-    c.node_for-node.ensures c.finish.ensures
+    c.node_for-node.ensures c.finish.ensures.answers

@@ -11,4 +11,4 @@ finish-requires c =
 pub returns : goal.returns
 unfolding key_rec
 returns c =
-    c.finish.ensures
+    c.finish.ensures.answers

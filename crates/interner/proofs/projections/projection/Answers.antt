@@ -9,4 +9,4 @@ finish-requires-clause-ready c =
 pub returns : goal.returns
 returns c =
     let q = c.requires in
-    field_answers q.projects c.args.field q.field_nonzero.0 c.finish.ensures
+    field_answers q.projects c.args.field q.field_nonzero.0 c.finish.ensures.answers
